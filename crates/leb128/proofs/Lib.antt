@@ -1,0 +1,4 @@
+pub mod Cuts
+pub mod Groups
+pub mod Puts
+pub mod Readings

@@ -1,0 +1,4 @@
+pub mod Joining
+pub mod Numbers
+pub mod Reading
+pub mod Writing

@@ -1,0 +1,103 @@
+-- What every answer of `read_slip` keeps, whatever the bytes and the room: a slip written reads back, given room, as the same numbers; a slip accepted is the
+-- only writing of its numbers; bytes are refused 17 exactly if they are the writing of no numbers that keep document 01's rules. The idea: `slip-read` and
+-- `slip-only` decide what the bytes are, and an answer is decided by its numbers.
+-- Assumes nothing.
+use mathlib.Core.Path.{_≡_, refl, ap, sym, subst, _∙_}
+use mathlib.Core.Bool.{Bool, true, false}
+use mathlib.Core.List.{List, _++_}
+use Prim.Native.Nat.{ℕ, _<_, _≤_, _^_}
+use native.Mathlib.Omega.{arith}
+use lib.ListN.{length, take, drop}
+use lib.Seq.{take-at}
+use lib.Dec.{ltb}
+use borrow.Author.Tests.{lt-ltb, le-ltb, ltb-true, ltb-false}
+use Rattle.slip.specs.Slip.{headNumbers, slipBytes, Outcome, accepted, malformed, slipIn, Rules, IsSlip, numbersOf, numbersFor, roomFor, Reads}
+use Rattle.slip.specs.declared.Head.{Head}
+use Rattle.slip.specs.declared.read.SlipRead.{SlipRead}
+use Rattle.slip.specs.declared.read.SlipRead.the-variants.{Accepted, Malformed, NoRoom}
+use Rattle.slip.proofs.Slips.{slip-read, slip-only}
+use Rattle.leb128.proofs.Puts.{Put}
+use Rattle.slip.proofs.Writes.{put-slip}
+
+-- no two answers have the same numbers
+pub numbers-only : (r s : SlipRead) → numbersOf r ≡ numbersOf s → r ≡ s
+unfolding numbersOf
+numbers-only (Accepted h) (Accepted g) e =
+    let i : h .id ≡ g .id = cc in
+    let s : h .scale ≡ g .scale = cc in
+    let a : h .a ≡ g .a = cc in
+    let b : h .b ≡ g .b = cc in
+    let p : h .pairs ≡ g .pairs = cc in
+    λ j. Accepted (record { id = i j; scale = s j; a = a j; b = b j; pairs = p j })
+numbers-only (Accepted h) Malformed e = absurd (let z : _≡_ {A = ℕ} 0 17 = cc in omega arith)
+numbers-only (Accepted h) NoRoom e = absurd (let z : _≡_ {A = ℕ} 0 16 = cc in omega arith)
+numbers-only Malformed (Accepted g) e = absurd (let z : _≡_ {A = ℕ} 17 0 = cc in omega arith)
+numbers-only Malformed Malformed e = refl
+numbers-only Malformed NoRoom e = absurd (let z : _≡_ {A = ℕ} 17 16 = cc in omega arith)
+numbers-only NoRoom (Accepted g) e = absurd (let z : _≡_ {A = ℕ} 16 0 = cc in omega arith)
+numbers-only NoRoom Malformed e = absurd (let z : _≡_ {A = ℕ} 16 17 = cc in omega arith)
+numbers-only NoRoom NoRoom e = refl
+
+-- the slip of some numbers is one
+pub one-slip : (bs cs : List ℕ) (h : Head) (pairs : List ℕ) → IsSlip bs h pairs → IsSlip cs h pairs → bs ≡ cs
+one-slip bs cs h pairs s t = s .bytes ∙ sym (t .bytes)
+
+module _ (bs room : List ℕ) (r : SlipRead) (after : List ℕ) (reads : Reads bs room r after) where
+  -- a slip written reads back, given room, as the same numbers
+  pub reads-back : (h : Head) (pairs : List ℕ) → IsSlip bs h pairs → length pairs ≤ length room → (r ≡ Accepted h) × (after ≡ pairs ++ drop (length pairs) room)
+  unfolding numbersOf numbersFor roomFor
+  reads-back h pairs s l =
+      let e = slip-read bs h pairs s in
+      let enough = le-ltb (length room) (length pairs) l in
+      (numbers-only r (Accepted h) (reads .numbers ∙ ap (numbersFor (length room)) e ∙ rw enough), reads .places ∙ ap (roomFor room) e ∙ rw enough)
+
+  -- with less room it is refused 16, and the room stays
+  pub reads-no-room : (h : Head) (pairs : List ℕ) → IsSlip bs h pairs → length room < length pairs → (r ≡ NoRoom) × (after ≡ room)
+  unfolding numbersOf numbersFor roomFor
+  reads-no-room h pairs s l =
+      let e = slip-read bs h pairs s in
+      let short = lt-ltb (length room) (length pairs) l in
+      (numbers-only r NoRoom (reads .numbers ∙ ap (numbersFor (length room)) e ∙ rw short), reads .places ∙ ap (roomFor room) e ∙ rw short)
+
+  -- bytes that are no slip are refused 17, and the room stays
+  pub none-malformed : ((h : Head) (pairs : List ℕ) → IsSlip bs h pairs → ⊥) → (r ≡ Malformed) × (after ≡ room)
+  unfolding numbersOf numbersFor roomFor
+  none-malformed none = go (slipIn bs) refl
+    where
+      go : (o : Outcome) → slipIn bs ≡ o → (r ≡ Malformed) × (after ≡ room)
+      go (accepted h pairs) e = absurd (none h pairs (slip-only bs h pairs e))
+      go malformed e = (numbers-only r Malformed (reads .numbers ∙ ap (numbersFor (length room)) e), reads .places ∙ ap (roomFor room) e)
+
+  -- and only those are
+  pub malformed-none : r ≡ Malformed → (h : Head) (pairs : List ℕ) → IsSlip bs h pairs → ⊥
+  malformed-none e h pairs s = go (ltb (length room) (length pairs)) refl
+    where
+      go : (f : Bool) → ltb (length room) (length pairs) ≡ f → ⊥
+      go true f = let q = reads-no-room h pairs s (ltb-true (length room) (length pairs) f) .0 in let z : _≡_ {A = ℕ} 0 1 = cc in omega arith
+      go false f = let q = reads-back h pairs s (ltb-false (length room) (length pairs) f) .0 in let z : _≡_ {A = ℕ} 0 1 = cc in omega arith
+
+  -- a slip accepted is the only writing of its numbers, and the room has its pairs
+  pub accepted-only : (h : Head) → r ≡ Accepted h → (pairs : List ℕ) × IsSlip bs h pairs × (after ≡ pairs ++ drop (length pairs) room)
+  accepted-only h e = go (slipIn bs) refl
+    where
+      Only : Head → Type 0
+      Only g = (pairs : List ℕ) × IsSlip bs g pairs × (after ≡ pairs ++ drop (length pairs) room)
+
+      test : (g : Head) (pairs : List ℕ) → IsSlip bs g pairs → (f : Bool) → ltb (length room) (length pairs) ≡ f → Only h
+      test g pairs s true f = absurd (let q = reads-no-room g pairs s (ltb-true (length room) (length pairs) f) .0 in let z : _≡_ {A = ℕ} 0 1 = cc in omega arith)
+      test g pairs s false f =
+          let b = reads-back g pairs s (ltb-false (length room) (length pairs) f) in
+          let q : g ≡ h = cc in
+          subst Only q (pairs, s, b .1)
+
+      go : (o : Outcome) → slipIn bs ≡ o → Only h
+      go (accepted g pairs) f = test g pairs (slip-only bs g pairs f) (ltb (length room) (length pairs)) refl
+      go malformed f = absurd (let q = none-malformed (λ g pairs s. (let w = slip-read bs g pairs s in let z : _≡_ {A = ℕ} 0 1 = cc in omega arith)) .0 in let z : _≡_ {A = ℕ} 0 1 = cc in omega arith)
+
+-- a slip that was put number by number into lent bytes reads back from them
+pub put-reads-back : (out₀ : List ℕ) (h : Head) (pairs : List ℕ) (at : ℕ) (out : List ℕ) → length (slipBytes h pairs) ≤ length out₀ → Put out₀ (headNumbers h pairs) at out → Rules (2 ^ 32) h pairs
+    → (room : List ℕ) (r : SlipRead) (after : List ℕ) → length pairs ≤ length room → Reads (take at out) room r after → (r ≡ Accepted h) × (after ≡ pairs ++ drop (length pairs) room)
+put-reads-back out₀ h pairs at out fits put rules room r after l reads = reads-back (take at out) room r after reads h pairs (record { bytes = whole; rules = rules }) l
+  where
+    whole : take at out ≡ slipBytes h pairs
+    whole = let p = put-slip out₀ h pairs at out fits put in ap (take at) (p .1) ∙ take-at (slipBytes h pairs) (drop (length (slipBytes h pairs)) out₀) at (sym (p .0))

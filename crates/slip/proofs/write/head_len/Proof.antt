@@ -1,0 +1,77 @@
+-- `slip::write::head_len` meets its contract: the length of the numbers is the sum of theirs, each at most ten.
+-- Assumes nothing.
+use borrow.Author.Needs.{needs}
+use native.Mathlib.Omega.{arith}
+use Rattle.leb128.proofs.Groups.{groups-count}
+use Rattle.slip.proofs.Writes.{head-length}
+use Rattle.slip.proofs.write.head_len.Statement.{statement}
+use Rattle.slip.proofs.write.head_len.Tie as tie
+
+cast-number-len : tie.Need-cast-number-len
+cast-number-len c = search needs
+
+number-len-requires : tie.Need-number-len-requires
+number-len-requires c κs = search needs
+
+add-first : tie.Need-add-first
+add-first c = let h = c .before .before .args .head in omega (arith, groups-count (h .id), groups-count (h .scale), groups-count (h .a), groups-count (h .b), groups-count (h .pairs))
+
+cast-number-len-2 : tie.Need-cast-number-len-2
+cast-number-len-2 c = search needs
+
+number-len-requires-2 : tie.Need-number-len-requires-2
+number-len-requires-2 c κs = search needs
+
+add-first-2 : tie.Need-add-first-2
+add-first-2 c = let h = c .before .before .before .before .args .head in omega (arith, groups-count (h .id), groups-count (h .scale), groups-count (h .a), groups-count (h .b), groups-count (h .pairs))
+
+cast-number-len-3 : tie.Need-cast-number-len-3
+cast-number-len-3 c = search needs
+
+number-len-requires-3 : tie.Need-number-len-requires-3
+number-len-requires-3 c κs = search needs
+
+add-result : tie.Need-add-result
+add-result c = let h = c .before .before .before .before .before .before .args .head in omega (arith, groups-count (h .id), groups-count (h .scale), groups-count (h .a), groups-count (h .b), groups-count (h .pairs))
+
+cast-number-len-4 : tie.Need-cast-number-len-4
+cast-number-len-4 c = search needs
+
+number-len-requires-4 : tie.Need-number-len-requires-4
+number-len-requires-4 c κs = search needs
+
+add-result-2 : tie.Need-add-result-2
+add-result-2 c = let h = c .before .before .before .before .before .before .before .before .args .head in omega (arith, groups-count (h .id), groups-count (h .scale), groups-count (h .a), groups-count (h .b), groups-count (h .pairs))
+
+cast-number-len-5 : tie.Need-cast-number-len-5
+cast-number-len-5 c = search needs
+
+number-len-requires-5 : tie.Need-number-len-requires-5
+number-len-requires-5 c κs = search needs
+
+add-result-3 : tie.Need-add-result-3
+add-result-3 c = let h = c .before .before .before .before .before .before .before .before .before .before .args .head in omega (arith, groups-count (h .id), groups-count (h .scale), groups-count (h .a), groups-count (h .b), groups-count (h .pairs))
+
+returns : tie.Need-returns
+returns c = let h = c .before .before .before .before .before .before .before .before .before .before .args .head in omega (arith, head-length h)
+
+pub head-len-spec : {M : Type 1} → statement M
+head-len-spec =
+    tie.close
+    (tie.spec
+    cast-number-len
+    number-len-requires
+    add-first
+    cast-number-len-2
+    number-len-requires-2
+    add-first-2
+    cast-number-len-3
+    number-len-requires-3
+    add-result
+    cast-number-len-4
+    number-len-requires-4
+    add-result-2
+    cast-number-len-5
+    number-len-requires-5
+    add-result-3
+    returns)

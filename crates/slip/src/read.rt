@@ -1,0 +1,198 @@
+// Reading a slip: one pass over its numbers to check them, one to fill the lent room.
+use super::Head;
+use leb128::Cursor;
+use leb128::NumberRead;
+use leb128::next_number;
+use leb128::number_at;
+ghost use mathlib.Core.Path.{_≡_};
+ghost use mathlib.Core.List.{_++_};
+ghost use Prim.Native.Nat.{_≤_, _<_};
+ghost use lib.ListN.{length, drop};
+ghost use Rattle.slip.specs.Slip.{Reads};
+ghost use Rattle.slip.specs.Steps.{allowed, run, checkedOf, valueOf, nextOf, valuesFrom, restIn, foundIn};
+
+// Whether the number that i numbers stand before, the form among them, may be n after the number prev.
+fn rule_allows(i: usize, prev: u64, n: u64) -> bool
+    ensures { λ r. ⌜ r ≡ allowed i prev n ⌝ }
+{
+    if 6 <= i {
+        return true;
+    }
+    if i < 3 {
+        return 0 < n;
+    }
+    if i == 4 {
+        return prev < n;
+    }
+    if i == 5 {
+        if n == 0 {
+            return false;
+        }
+        return n <= 1048576;
+    }
+    true
+}
+
+// Whether numbers were all there: the place past them, or the place of the first fault.
+enum Checked {
+    All(usize),
+    Stopped(usize),
+}
+
+// Checks c numbers from a cursor. Its count says which numbers of the slip they are.
+fn check_numbers(bytes: &[u8], c: usize, from: Cursor) -> Checked
+    requires { ⌜ from .count ≤ from .at ⌝ }
+    ensures { λ r. ⌜ r ≡ checkedOf (run 4 16 (now (bytes .entry)) c (from .count) 0 (from .at)) ⌝ }
+{
+    let mut rest = c;
+    let mut prev: u64 = 0;
+    let mut p = from;
+    while 0 < rest {
+        let s = next_number(bytes, p);
+        let read = s.read;
+        match read {
+            NumberRead::Good(n, _) => {
+                let k = p.count;
+                if !rule_allows(k, prev, n) {
+                    let at = p.at;
+                    return Checked::Stopped(at);
+                }
+                prev = n;
+                let next = s.cursor;
+                p = next;
+            }
+            NumberRead::Broken(q) => {
+                return Checked::Stopped(q);
+            }
+            NumberRead::Short(q) => {
+                return Checked::Stopped(q);
+            }
+        }
+        rest -= 1;
+    }
+    let end = p.at;
+    Checked::All(end)
+}
+
+// The value that was read, or 0.
+fn value_of(r: NumberRead) -> u64
+    ensures { λ v. ⌜ v ≡ valueOf r ⌝ }
+{
+    match r {
+        NumberRead::Good(n, _) => n,
+        NumberRead::Broken(_) => 0,
+        NumberRead::Short(_) => 0,
+    }
+}
+
+// The place past what was read at a place.
+fn next_of(at: usize, r: NumberRead) -> usize
+    ensures { λ p. ⌜ p ≡ nextOf at r ⌝ }
+{
+    match r {
+        NumberRead::Good(_, next) => next,
+        NumberRead::Broken(_) => at,
+        NumberRead::Short(_) => at,
+    }
+}
+
+// Stores the values of n numbers from a place in the first places of the room.
+fn fill_numbers(bytes: &[u8], at: usize, room: &mut [u32], n: usize)
+    requires { ⌜ n ≤ length (now room) ⌝ }
+    ensures { λ _. ⌜ now (room .exit) ≡ valuesFrom 4 16 (now (bytes .entry)) n at ++ drop n (now (room .entry)) ⌝ }
+{
+    let mut j = 0;
+    let mut p = at;
+    while j < n {
+        let r = number_at(bytes, p);
+        room[j] = value_of(r) as u32;
+        p = next_of(p, r);
+        j += 1;
+    }
+}
+
+// A slip's head and the place where its pairs begin; or the place of the first fault.
+enum Found {
+    Slip(Head, usize),
+    Malformed(usize),
+}
+
+// Finds out whether what follows the form, from a place on, is the rest of a slip.
+fn find_rest(bytes: &[u8], from: usize) -> Found
+    requires { ⌜ 0 < from ⌝ }
+    ensures { λ r. ⌜ r ≡ restIn 4 16 (now (bytes .entry)) from ⌝ }
+{
+    match check_numbers(bytes, 5, Cursor { at: from, count: 1 }) {
+        Checked::Stopped(p) => Found::Malformed(p),
+        Checked::All(at) => {
+            let mut head = [0u32; 5];
+            fill_numbers(bytes, from, &mut head, 5);
+            let pairs = head[4];
+            match check_numbers(bytes, 2 * (pairs as usize), Cursor { at, count: 6 }) {
+                Checked::Stopped(p) => Found::Malformed(p),
+                Checked::All(end) => {
+                    if end == bytes.len() {
+                        let id = head[0];
+                        let scale = head[1];
+                        let a = head[2];
+                        let b = head[3];
+                        Found::Slip(
+                            Head {
+                                id,
+                                scale,
+                                a,
+                                b,
+                                pairs,
+                            },
+                            at,
+                        )
+                    } else {
+                        Found::Malformed(end)
+                    }
+                }
+            }
+        }
+    }
+}
+
+// Finds out whether bytes are a slip: the form first, which says how the rest is read.
+fn find_slip(bytes: &[u8]) -> Found
+    ensures { λ r. ⌜ r ≡ foundIn (now (bytes .entry)) ⌝ }
+{
+    let s = next_number(bytes, Cursor { at: 0, count: 0 });
+    let read = s.read;
+    match read {
+        NumberRead::Good(form, next) => {
+            if form == 1 {
+                return find_rest(bytes, next);
+            }
+            Found::Malformed(0)
+        }
+        NumberRead::Broken(p) => Found::Malformed(p),
+        NumberRead::Short(p) => Found::Malformed(p),
+    }
+}
+
+// The answer of `read_slip`: the slip's numbers; or refusal 17, the slip is malformed; or 16, the room is shorter than its pairs.
+pub enum SlipRead {
+    Accepted(Head),
+    Malformed,
+    NoRoom,
+}
+
+// Reads a slip: its numbers, and its pairs in the first places of the room. A refusal leaves the room as it is.
+pub fn read_slip(bytes: &[u8], room: &mut [u32]) -> SlipRead
+    ensures { λ r. ⌜ Reads (now (bytes .entry)) (now (room .entry)) r (now (room .exit)) ⌝ }
+{
+    match find_slip(bytes) {
+        Found::Malformed(_) => SlipRead::Malformed,
+        Found::Slip(head, at) => {
+            let n = 2 * (head.pairs as usize);
+            if room.len() < n {
+                return SlipRead::NoRoom;
+            }
+            fill_numbers(bytes, at, room, n);
+            SlipRead::Accepted(head)
+        }
+    }
+}

@@ -1,0 +1,51 @@
+-- `slip_vectors::show::numbers` is safe and ends. The loop stays within the slice, and its measure is how much of it is left. Assumes nothing.
+use Prim.Native.Nat.{_≤_, _-_}
+use lib.ListN.{length}
+use borrow.Author.Needs.{needs}
+use Rattle.slip_vectors.proofs.show.numbers.Statement.{statement}
+use Rattle.slip_vectors.proofs.show.numbers.Tie as tie
+
+abbrev Inv-loop : tie.InvT-loop
+Inv-loop s i₀ i = i ≤ length s
+
+abbrev μ-loop : tie.MeasureT-loop
+μ-loop s i₀ i = length s - i
+
+loop-holds : tie.Need-loop-holds Inv-loop μ-loop
+loop-holds c = search needs
+
+mul-number-32 : tie.Need-mul-number-32 Inv-loop μ-loop
+mul-number-32 c = search needs
+
+shared-slice-read-number-32 : tie.Need-shared-slice-read-number-32 Inv-loop μ-loop
+shared-slice-read-number-32 c = search needs
+
+number-32-requires : tie.Need-number-32-requires Inv-loop μ-loop
+number-32-requires c κs = search needs
+
+add-i : tie.Need-add-i Inv-loop μ-loop
+add-i c = search needs
+
+loop-less : tie.Need-loop-less Inv-loop μ-loop
+loop-less c = search needs
+
+loop-again : tie.Need-loop-again Inv-loop μ-loop
+loop-again c = search needs
+
+returns : tie.Need-returns Inv-loop μ-loop
+returns c = search needs
+
+pub numbers-spec : {M : Type 1} → statement M
+numbers-spec =
+    tie.close
+    (tie.spec
+    Inv-loop
+    μ-loop
+    loop-holds
+    mul-number-32
+    shared-slice-read-number-32
+    number-32-requires
+    add-i
+    loop-less
+    loop-again
+    returns)

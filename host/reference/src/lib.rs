@@ -1,0 +1,2 @@
+//! The paper's definitions a second time, written from document 01 alone and in the most literal way.
+pub mod slip;
