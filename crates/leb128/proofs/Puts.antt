@@ -1,12 +1,12 @@
 -- Laws of writing. Numbers put one after the other from the beginning of lent bytes leave there the bytes of them all (`Put`, `put-start`, `put-next`),
 -- so that a writer may stream them.
 -- Assumes nothing.
-use mathlib.Core.Path.{_≡_, refl, ap, ap₂, sym, _∙_}
+use mathlib.Core.Path.{_≡_, refl, ap, sym, _∙_}
 use mathlib.Core.List.{List, [], _∷_, _++_, append-assoc, append-nil}
 use Prim.Native.Nat.{ℕ, suc, _+_, _*_, _<_, _≤_}
 use native.Mathlib.Omega.{arith}
 use native.Mathlib.Nat.{add-zero, zero-add, add-suc, suc-add}
-use lib.ListN.{length, take, drop, set, length-append}
+use lib.ListN.{length, set, length-append}
 use lib.Seq.{sets, sets-eq, length-sets}
 use borrow.Author.Tests.{le-leb, lt-leb}
 use Rattle.leb128.specs.Numbers.{groups, writes}

@@ -2,16 +2,16 @@
 -- number is what its first groups count, joined to what is read past them.
 -- Assumes nothing.
 use mathlib.Core.Path.{_≡_, refl, ap, sym, subst, _∙_}
-use mathlib.Core.Bool.{Bool, true, false, cond, _&&_, not}
-use mathlib.Core.List.{List, [], _∷_, _++_}
+use mathlib.Core.Bool.{Bool, true, false, cond}
+use mathlib.Core.List.{List}
 use Prim.Native.Nat.{ℕ, zero, suc, _+_, _-_, _*_, _<_, _≤_, _^_}
 use native.Mathlib.Omega.{arith}
-use native.Mathlib.Nat.{add-assoc, mul-add, mul-assoc, mul-le-mul-left}
-use native.Mathlib.Numerals.{add-one, one-add}
-use lib.Dec.{ltb, eqb}
+use native.Mathlib.Nat.{mul-add, mul-assoc, mul-le-mul-left}
+use native.Mathlib.Numerals.{add-one}
+use lib.Dec.{eqb}
 use lib.ListN.{length, drop, getD, drop-of-length-le, length-drop, length-append}
 use lib.Seq.{drop-cons, getD-drop}
-use borrow.Author.Tests.{ltb-true, ltb-false, eqb-true, eqb-false, lt-ltb, le-ltb, eq-eqb, ne-eqb}
+use borrow.Author.Tests.{eqb-false, lt-ltb, le-ltb, eq-eqb, ne-eqb}
 use Rattle.leb128.specs.Numbers.{groupsIn}
 use Rattle.leb128.specs.Reading.{limit, Reading, good, broken, short, after, number, readOf, readAt, countedUp, movedBy, stepAt}
 use Rattle.leb128.specs.Joining.{joined}

@@ -6,7 +6,6 @@ use Prim.Native.Nat.{ℕ, zero, suc, _+_, _*_}
 use lib.Dec.{ltb, leb, eqb}
 use lib.ListN.{length, getD}
 use Rattle.leb128.specs.Reading.{readAt}
-use Rattle.slip.specs.declared.Head.{Head}
 use Rattle.leb128.specs.declared.number.NumberRead.{NumberRead}
 use Rattle.leb128.specs.declared.number.NumberRead.the-variants.{Good, Broken, Short}
 use Rattle.slip.specs.declared.read.Checked.{Checked}

@@ -15,15 +15,19 @@ ghost use Rattle.slip.specs.Steps.{allowed, run, checkedOf, valueOf, nex
 fn rule_allows(i: usize, prev: u64, n: u64) -> bool
     ensures { λ r. ⌜ r ≡ allowed i prev n ⌝ }
 {
+    // a number of a pair
     if 6 <= i {
         return true;
     }
+    // track ID and scale
     if i < 3 {
         return 0 < n;
     }
+    // b, after a
     if i == 4 {
         return prev < n;
     }
+    // the number of pairs
     if i == 5 {
         if n == 0 {
             return false;

@@ -1,6 +1,6 @@
 -- `leb128::write::number_len` meets its contract: the invariant says that the groups counted and those of what is left are all of the number's.
 -- Assumes nothing.
-use mathlib.Core.Path.{_≡_, refl, ap}
+use mathlib.Core.Path.{_≡_, ap}
 use Prim.Native.Nat.{ℕ, suc, _+_, _<_}
 use native.Mathlib.Omega.{arith}
 use lib.ListN.{length}
