@@ -1,2 +1,4 @@
 //! The paper's definitions a second time, written from document 01 alone and in the most literal way.
+pub mod film;
+pub mod movie;
 pub mod slip;

@@ -1,0 +1,5 @@
+pub mod Pieces
+pub mod Laws
+pub mod Into
+pub mod Levels
+mod Examples

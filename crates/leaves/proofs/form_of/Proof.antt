@@ -1,0 +1,109 @@
+-- `leaves::form_of` meets its contract: in each arm the kind is known.
+-- Assumes nothing.
+use borrow.Author.Tests.{ne-eqb}
+use mathlib.Core.Logic.{inl, inr, ⊎-elim}
+use Rattle.leaves.specs.Leaves.{formOf}
+use Rattle.leaves.proofs.form_of.Statement.{statement}
+use Rattle.leaves.proofs.form_of.Tie as tie
+
+inside-requires : tie.Need-inside-requires
+inside-requires c κs = tt
+
+inside-requires-2 : tie.Need-inside-requires-2
+inside-requires-2 c κs = tt
+
+inside-requires-3 : tie.Need-inside-requires-3
+inside-requires-3 c κs = tt
+
+inside-requires-4 : tie.Need-inside-requires-4
+inside-requires-4 c κs = tt
+
+inside-requires-5 : tie.Need-inside-requires-5
+inside-requires-5 c κs = tt
+
+inside-requires-6 : tie.Need-inside-requires-6
+inside-requires-6 c κs = tt
+
+inside-requires-7 : tie.Need-inside-requires-7
+inside-requires-7 c κs = tt
+
+inside-requires-8 : tie.Need-inside-requires-8
+inside-requires-8 c κs = tt
+
+inside-requires-9 : tie.Need-inside-requires-9
+inside-requires-9 c κs = tt
+
+inside-requires-10 : tie.Need-inside-requires-10
+inside-requires-10 c κs = tt
+
+returns : tie.Need-returns
+unfolding formOf
+returns c = rw (c .before .match .keys1) (c .inside .ensures)
+
+returns-2 : tie.Need-returns-2
+unfolding formOf
+returns-2 c = rw (c .before .match .keys2) (c .inside2 .ensures)
+
+returns-3 : tie.Need-returns-3
+unfolding formOf
+returns-3 c = rw (c .before .match .keys3) (c .inside3 .ensures)
+
+returns-4 : tie.Need-returns-4
+unfolding formOf
+returns-4 c = rw (c .before .match .keys4) (c .inside4 .ensures)
+
+returns-5 : tie.Need-returns-5
+unfolding formOf
+returns-5 c = rw (c .before .match .keys5) (c .inside5 .ensures)
+
+returns-6 : tie.Need-returns-6
+unfolding formOf
+returns-6 c = ⊎-elim (λ e. rw e (c .inside6 .ensures)) (λ e. rw e (c .inside6 .ensures)) (c .before .match .keys6)
+
+returns-7 : tie.Need-returns-7
+unfolding formOf
+returns-7 c = rw (c .before .match .keys7) (c .inside7 .ensures)
+
+returns-8 : tie.Need-returns-8
+unfolding formOf
+returns-8 c = rw (c .before .match .keys8) (c .inside8 .ensures)
+
+returns-9 : tie.Need-returns-9
+unfolding formOf
+returns-9 c = ⊎-elim (λ e. rw e (c .inside9 .ensures)) (λ e. rw e (c .inside9 .ensures)) (c .before .match .keys9)
+
+returns-10 : tie.Need-returns-10
+unfolding formOf
+returns-10 c = rw (c .before .match .keys10) (c .inside10 .ensures)
+
+returns-11 : tie.Need-returns-11
+unfolding formOf
+returns-11 c =
+    let r = c .match .rest in
+    simp (ne-eqb _ _ (r .0 .0 .0 .0 .0 .0 .0 .0 .0 .1), ne-eqb _ _ (r .0 .0 .0 .0 .0 .0 .0 .0 .1), ne-eqb _ _ (r .0 .0 .0 .0 .0 .0 .0 .1), ne-eqb _ _ (r .0 .0 .0 .0 .0 .0 .1), ne-eqb _ _ (r .0 .0 .0 .0 .0 .1), ne-eqb _ _ (λ e. r .0 .0 .0 .0 .1 (inl e)), ne-eqb _ _ (λ e. r .0 .0 .0 .0 .1 (inr e)), ne-eqb _ _ (r .0 .0 .0 .1), ne-eqb _ _ (r .0 .0 .1), ne-eqb _ _ (λ e. r .0 .1 (inl e)), ne-eqb _ _ (λ e. r .0 .1 (inr e)), ne-eqb _ _ (r .1))
+
+pub form-of-spec : {M : Type 1} → statement M
+form-of-spec =
+    tie.close
+    (tie.spec
+    inside-requires
+    inside-requires-2
+    inside-requires-3
+    inside-requires-4
+    inside-requires-5
+    inside-requires-6
+    inside-requires-7
+    inside-requires-8
+    inside-requires-9
+    inside-requires-10
+    returns
+    returns-2
+    returns-3
+    returns-4
+    returns-5
+    returns-6
+    returns-7
+    returns-8
+    returns-9
+    returns-10
+    returns-11)

@@ -1,0 +1,3 @@
+pub mod Present
+pub mod Leaves
+pub mod Rules

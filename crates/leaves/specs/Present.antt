@@ -1,0 +1,38 @@
+-- Which atoms a body must have, and which at most once.
+use Prim.Native.Nat.{ℕ}
+use mathlib.Core.List.{List}
+use mathlib.Core.Bool.{Bool, true, cond, _&&_}
+use lib.Dec.{leb, eqb}
+use Rattle.atoms.specs.Kinds.{file, moov, trak, edts, mdia, minf, stbl, mvhd, tkhd, mdhd, hdlr, stsd, stts, stsc, stsz, stco, elst, ctts, stss}
+use Rattle.atoms.specs.Atoms.{countIn}
+
+-- "Exactly one"
+unfoldable pub one : ℕ → ℕ → List ℕ → Bool
+one p k s = eqb (countIn p k s) 1
+
+-- "At most one"
+unfoldable pub atMostOne : ℕ → ℕ → List ℕ → Bool
+atMostOne p k s = leb (countIn p k s) 1
+
+-- "stsd, stts, stsc, stsz and stco in stbl"; at most one: "ctts and stss in stbl"
+unfoldable pub tables : List ℕ → Bool
+tables s =
+    one stbl stsd s && one stbl stts s && one stbl stsc s && one stbl stsz s && one stbl stco s && atMostOne stbl ctts s && atMostOne stbl stss s
+
+-- whether the body s of the parent p has the atoms that it must have, and none too often
+unfoldable pub present : ℕ → List ℕ → Bool
+present p s =
+    -- "moov in the file"
+    cond (eqb p file) (one file moov s)
+    -- "mvhd in moov"
+    (cond (eqb p moov) (one moov mvhd s)
+    -- "tkhd and mdia in trak"; at most one: "edts in trak"
+    (cond (eqb p trak) (one trak tkhd s && one trak mdia s && atMostOne trak edts s)
+    -- "elst in edts"
+    (cond (eqb p edts) (one edts elst s)
+    -- "mdhd, hdlr and minf in mdia"
+    (cond (eqb p mdia) (one mdia mdhd s && one mdia hdlr s && one mdia minf s)
+    -- "stbl in minf"
+    (cond (eqb p minf) (one minf stbl s)
+    (cond (eqb p stbl) (tables s)
+    true))))))

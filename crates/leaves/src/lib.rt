@@ -1,0 +1,182 @@
+// The read leaves of a movie: which atoms they are, their version and their size.
+pub mod present;
+pub mod walk;
+
+use atoms::kinds;
+use atoms::size_in;
+use bigendian::byte_at;
+use bigendian::u32_at;
+ghost use mathlib.Core.Path.{_≡_};
+ghost use mathlib.Core.Bool.{cond};
+ghost use Prim.Native.Nat.{_≤_};
+ghost use lib.ListN.{length};
+ghost use Rattle.leaves.specs.Leaves.{formOf, skipped, versionOk, holdsEntries, sizeEntry, filledWith, sizedEntries, sizeOk, leafOk, leavesOk};
+
+// How an atom's size is judged: not at all, an atom that is skipped; a number of bytes; 16 bytes and entries of one width;
+// stsz; 16 bytes and entries that state their own size, at least so many bytes each.
+pub enum Form {
+    Skipped,
+    Exactly(usize),
+    AtLeast(usize),
+    Entries(u32),
+    Sizes,
+    Sized(usize),
+}
+
+// What is asked of a read leaf.
+pub enum LeafRule {
+    Version,
+    Size,
+}
+
+fn inside(there: bool, f: Form) -> Form
+    ensures { λ r. ⌜ r ≡ cond there f Form.Skipped ⌝ }
+{
+    if there { f } else { Form::Skipped }
+}
+
+// The form of an atom of that kind in that parent.
+pub fn form_of(parent: u32, kind: u32) -> Form
+    ensures { λ r. ⌜ r ≡ formOf parent kind ⌝ }
+{
+    match kind {
+        kinds::MVHD => inside(parent == kinds::MOOV, Form::Exactly(108)),
+        kinds::TKHD => inside(parent == kinds::TRAK, Form::Exactly(92)),
+        kinds::MDHD => inside(parent == kinds::MDIA, Form::Exactly(32)),
+        kinds::HDLR => inside(parent == kinds::MDIA, Form::AtLeast(32)),
+        kinds::ELST => inside(parent == kinds::EDTS, Form::Entries(12)),
+        kinds::STTS | kinds::CTTS => inside(parent == kinds::STBL, Form::Entries(8)),
+        kinds::STSC => inside(parent == kinds::STBL, Form::Entries(12)),
+        kinds::STSZ => inside(parent == kinds::STBL, Form::Sizes),
+        kinds::STCO | kinds::STSS => inside(parent == kinds::STBL, Form::Entries(4)),
+        kinds::STSD => inside(parent == kinds::STBL, Form::Sized(16)),
+        _ => Form::Skipped,
+    }
+}
+
+fn is_skipped(f: Form) -> bool
+    ensures { λ r. ⌜ r ≡ skipped f ⌝ }
+{
+    match f {
+        Form::Skipped => true,
+        Form::Exactly(_) => false,
+        Form::AtLeast(_) => false,
+        Form::Entries(_) => false,
+        Form::Sizes => false,
+        Form::Sized(_) => false,
+    }
+}
+
+// Whether the first byte of a read leaf's body is 0, or the body is empty.
+fn version_ok(f: Form, atom: &[u8]) -> bool
+    ensures { λ r. ⌜ r ≡ versionOk f (now (atom .entry)) ⌝ }
+{
+    if is_skipped(f) {
+        true
+    } else {
+        byte_at(atom, 8) == 0
+    }
+}
+
+// Whether an atom is a head of that many bytes and n entries of that width. The sum is one of 64 bits, so it cannot wrap.
+pub fn holds_entries(atom: &[u8], head: u32, width: u32, n: u32) -> bool
+    ensures { λ r. ⌜ r ≡ holdsEntries head width n (now (atom .entry)) ⌝ }
+{
+    atom.len() as u64 == head as u64 + width as u64 * n as u64
+}
+
+// The size of the entry that s begins with; 0 where it is below `least` or passes the end.
+fn entry_size(s: &[u8], least: usize) -> usize
+    ensures { λ r. ⌜ r ≡ sizeEntry least (now (s .entry)) ⌝ }
+    ensures { λ r. ⌜ r ≤ length (now (s .entry)) ⌝ }
+{
+    let z = u32_at(s, 0) as usize;
+    if z < least {
+        return 0;
+    }
+    if z <= s.len() { z } else { 0 }
+}
+
+// Whether n entries that state their own size, at least so many bytes each, fill s exactly.
+fn filled_with(s: &[u8], least: usize, n: u32) -> bool
+    ensures { λ r. ⌜ r ≡ filledWith (sizeEntry least) n (now (s .entry)) ⌝ }
+{
+    let mut t = s;
+    let mut more = n;
+    while t.len() > 0 {
+        let z = entry_size(t, least);
+        if z == 0 {
+            return false;
+        }
+        if more == 0 {
+            return false;
+        }
+        more -= 1;
+        t = &t[z..];
+    }
+    more == 0
+}
+
+// Whether the entries that an atom counts, at least so many bytes each, fill it exactly after its first 16 bytes.
+pub fn has_sized_entries(atom: &[u8], least: usize) -> bool
+    ensures { λ r. ⌜ r ≡ sizedEntries least (now (atom .entry)) ⌝ }
+{
+    if atom.len() < 16 {
+        return false;
+    }
+    let n = u32_at(atom, 12);
+    filled_with(&atom[16..], least, n)
+}
+
+// The rule of stsz: the sizes stand there only if the common size is 0.
+fn sizes_ok(atom: &[u8]) -> bool
+    ensures { λ r. ⌜ r ≡ sizeOk Form.Sizes (now (atom .entry)) ⌝ }
+{
+    if u32_at(atom, 12) == 0 {
+        holds_entries(atom, 20, 4, u32_at(atom, 16))
+    } else {
+        atom.len() == 20
+    }
+}
+
+// Whether an atom of that form has its size.
+fn size_ok(f: Form, atom: &[u8]) -> bool
+    ensures { λ r. ⌜ r ≡ sizeOk f (now (atom .entry)) ⌝ }
+{
+    match f {
+        Form::Skipped => true,
+        Form::Exactly(n) => atom.len() == n,
+        Form::AtLeast(n) => n <= atom.len(),
+        Form::Entries(w) => holds_entries(atom, 16, w, u32_at(atom, 12)),
+        Form::Sizes => sizes_ok(atom),
+        Form::Sized(n) => has_sized_entries(atom, n),
+    }
+}
+
+fn leaf_ok(rule: LeafRule, f: Form, atom: &[u8]) -> bool
+    ensures { λ r. ⌜ r ≡ leafOk rule f (now (atom .entry)) ⌝ }
+{
+    match rule {
+        LeafRule::Version => version_ok(f, atom),
+        LeafRule::Size => size_ok(f, atom),
+    }
+}
+
+// Whether the rule holds of each read leaf in the body of that parent.
+pub fn leaves_ok(body: &[u8], parent: u32, rule: LeafRule) -> bool
+    ensures { λ r. ⌜ r ≡ leavesOk rule parent (now (body .entry)) ⌝ }
+{
+    let mut t = body;
+    loop {
+        let n = size_in(t, parent);
+        if n < 8 {
+            return true;
+        }
+        let atom = &t[..n];
+        let f = form_of(parent, u32_at(atom, 4));
+        if !leaf_ok(rule, f, atom) {
+            return false;
+        }
+        t = &t[n..];
+    }
+}

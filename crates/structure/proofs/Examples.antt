@@ -1,0 +1,162 @@
+-- Small films and their refusals, by computation.
+-- Assumes nothing.
+use Prim.Native.Nat.{ℕ, _+_, _*_, _-_, _/_, _%_}
+use mathlib.Core.List.{List, [], _∷_, _++_, map}
+use mathlib.Core.Path.{_≡_, refl}
+use lib.ListN.{length, replicate}
+use Rattle.bigendian.specs.BigEndian.{beAt}
+use Rattle.atoms.specs.Kinds.{container, moov, trak, edts, mdia, minf, stbl, mvhd, tkhd, mdhd, hdlr, elst, stts, stsc, stsz, stco, stss, stsd, prfl, vide}
+use Rattle.atoms.specs.Pieces.{piecesAfter, total, filledBy, fitting}
+use Rattle.atoms.specs.Atoms.{headerOf, bodyOf, sizeInside, sizeTop, sizeIn, ofKind}
+use Rattle.atoms.specs.Tree.{all, everywhere}
+use Rattle.leaves.specs.Present.{one, atMostOne, tables, present}
+use Rattle.leaves.specs.Leaves.{formOf, skipped, versionOk, holdsEntries, sizeEntry, filledWith, sizedEntries, sizeOk, leafOk}
+use Rattle.structure.specs.Profile.{firstBefore, ofVersion0, profileIn, profileOk}
+use Rattle.structure.specs.Track.{mdiaOf, minfOf, stblOf, tableOf, elstOf, subtypeOf, profileOf}
+use Rattle.structure.specs.Movie.{moovOf, movieProfile}
+use Rattle.structure.specs.Limits.{overLimits, tooMany}
+use Rattle.structure.specs.Rows.{some, first, orElse}
+use Rattle.structure.specs.Refusals.{wrongVersion, wrongSize, narrow, wrongTrackSize, fileRows, movieRows, movieRefusal, refusalOf}
+
+-- ---- how the films are made
+
+abbrev word : ℕ → List ℕ
+word n = n / 16777216 % 256 ∷ n / 65536 % 256 ∷ n / 256 % 256 ∷ n % 256 ∷ []
+
+abbrev words : List ℕ → List ℕ
+words [] = []
+words (n ∷ l) = word n ++ words l
+
+abbrev joined : List (List ℕ) → List ℕ
+joined [] = []
+joined (a ∷ l) = a ++ joined l
+
+-- an atom of kind k with the body b; with a 64-bit size; with size 0
+abbrev atom : ℕ → List ℕ → List ℕ
+atom k b = word (8 + length b) ++ (word k ++ b)
+
+abbrev wideAtom : ℕ → List ℕ → List ℕ
+wideAtom k b = words (1 ∷ k ∷ 0 ∷ (16 + length b) ∷ []) ++ b
+
+abbrev lastAtom : ℕ → List ℕ → List ℕ
+lastAtom k b = words (0 ∷ k ∷ []) ++ b
+
+abbrev free : ℕ
+free = 0x66726565
+
+abbrev soun : ℕ
+soun = 0x736f756e
+
+abbrev head : List ℕ
+head = atom mvhd (replicate 100 0)
+
+abbrev film : List ℕ → List ℕ
+film b = atom moov (head ++ b)
+
+-- a description of n bytes, and an stsd that counts c descriptions
+abbrev description : ℕ → List ℕ
+description n = word n ++ replicate (n - 4) 0
+
+abbrev descriptions : ℕ → List ℕ → List ℕ
+descriptions c d = atom stsd (words (0 ∷ c ∷ []) ++ d)
+
+abbrev good : List ℕ
+good = descriptions 1 (description 36)
+
+-- an stsz with that common size and count, and those sizes
+abbrev sizes : ℕ → ℕ → List ℕ → List ℕ
+sizes z n l = atom stsz (words (0 ∷ z ∷ n ∷ l))
+
+abbrev same : List ℕ
+same = sizes 100 4 []
+
+abbrev handler : ℕ → ℕ → List ℕ
+handler n k = atom hdlr (words (0 ∷ 0 ∷ k ∷ []) ++ replicate (n - 20) 0)
+
+-- the body of an stbl, with its stsd, its stsz and what follows
+abbrev inStbl : List ℕ → List ℕ → List ℕ → List ℕ
+inStbl d z more =
+    joined (d ∷ atom stts (words (0 ∷ 1 ∷ 4 ∷ 30 ∷ [])) ∷ atom stsc (words (0 ∷ 1 ∷ 1 ∷ 4 ∷ 1 ∷ [])) ∷ z ∷ atom stco (words (0 ∷ 1 ∷ 1000 ∷ [])) ∷ more ∷ [])
+
+abbrev media : List ℕ → List ℕ → List ℕ
+media h s = atom mdia (joined (atom mdhd (replicate 24 0) ∷ h ∷ atom minf (atom stbl s) ∷ []))
+
+abbrev head92 : List ℕ
+head92 = atom tkhd (replicate 84 0)
+
+-- a track with those tables; with that media and what precedes and follows it
+abbrev trackOf : List ℕ → List ℕ → List ℕ → List ℕ
+trackOf before m more = atom trak (joined (before ∷ head92 ∷ m ∷ more ∷ []))
+
+abbrev track : List ℕ → List ℕ → List ℕ → List ℕ
+track d z more = trackOf [] (media (handler 32 vide) (inStbl d z more)) []
+
+abbrev plain : List ℕ
+plain = media (handler 32 vide) (inStbl good same [])
+
+-- a prfl of n records
+abbrev profile : ℕ → List ℕ
+profile n = atom prfl (words (0 ∷ n ∷ []) ++ replicate (16 * n) 0)
+
+-- ---- films and their refusals
+
+abbrev cases : List (List ℕ × ℕ)
+cases =
+    -- no track; one; a 64-bit moov; a moov to the end; atoms that are skipped, around and in it
+    (film [], 0)
+    ∷ (film (track good same []), 0)
+    ∷ (wideAtom moov (head ++ track good same []), 0)
+    ∷ (lastAtom moov (head ++ track good same []), 0)
+    ∷ (atom free [] ++ (film (atom free (1 ∷ []) ++ track good same (atom free (2 ∷ []))) ++ atom free (3 ∷ [])), 0)
+    -- nothing; no mvhd; three bytes that remain
+    ∷ ([], 3)
+    ∷ (atom moov [], 3)
+    ∷ (film [] ++ (0 ∷ 0 ∷ 0 ∷ []), 2)
+    -- a second moov; a broken child in it comes first
+    ∷ (film [] ++ film [], 3)
+    ∷ (film [] ++ atom moov (head ++ (0 ∷ 0 ∷ 0 ∷ [])), 2)
+    -- a second mvhd; no mdia; an edts with an edit list and without one; an elst outside edts is skipped
+    ∷ (film head, 3)
+    ∷ (film (trackOf [] [] []), 3)
+    ∷ (film (trackOf [] plain (atom edts (atom elst (words (0 ∷ 0 ∷ []))))), 0)
+    ∷ (film (trackOf [] plain (atom edts [])), 3)
+    ∷ (film (trackOf [] plain (atom elst (1 ∷ []))), 0)
+    -- no stsz; a table in the wrong parent is skipped
+    ∷ (film (track good [] []), 3)
+    ∷ (film (trackOf (atom stsz (1 ∷ [])) plain []), 0)
+    -- a version byte; an empty body has none; 4 in the second track comes before 5 in the first
+    ∷ (film (track good same (atom stss (1 ∷ []))), 4)
+    ∷ (film (track good same (atom stss [])), 5)
+    ∷ (film (track good same (atom stss []) ++ track good same (atom stss (1 ∷ []))), 4)
+    -- an hdlr of 31 bytes; an entry more than is counted
+    ∷ (film (trackOf [] (media (handler 31 vide) (inStbl good same [])) []), 5)
+    ∷ (film (track good same (atom stss (words (0 ∷ 1 ∷ 1 ∷ 1 ∷ [])))), 5)
+    -- stsz: sizes only if the common size is 0
+    ∷ (film (track good (sizes 0 2 (7 ∷ 8 ∷ [])) []), 0)
+    ∷ (film (track good (sizes 0 2 []) []), 5)
+    ∷ (film (track good (sizes 100 2 (7 ∷ 8 ∷ [])) []), 5)
+    -- descriptions: none; 36 bytes in a track of pictures and 16 in another; underfull and overfull
+    ∷ (film (track (descriptions 0 []) same []), 0)
+    ∷ (film (track (descriptions 1 (description 35)) same []), 5)
+    ∷ (film (trackOf [] (media (handler 32 soun) (inStbl (descriptions 1 (description 16)) same [])) []), 0)
+    ∷ (film (trackOf [] (media (handler 32 soun) (inStbl (descriptions 1 (description 15)) same [])) []), 5)
+    ∷ (film (track (descriptions 2 (description 36)) same []), 5)
+    ∷ (film (track (descriptions 1 (description 36 ++ description 36)) same []), 5)
+    -- a profile: an empty body; after mvhd; of another version, also before a broken one; too short; 64 and 65 records
+    ∷ (atom moov (atom prfl [] ++ head), 5)
+    ∷ (film (atom prfl []), 0)
+    ∷ (atom moov (atom prfl (1 ∷ []) ++ (atom prfl [] ++ head)), 0)
+    ∷ (atom moov (atom prfl (0 ∷ []) ++ head), 5)
+    ∷ (atom moov (profile 64 ++ head), 0)
+    ∷ (atom moov (profile 65 ++ head), 6)
+    ∷ (film (trackOf (atom prfl []) plain []), 5)
+    ∷ (film (trackOf [] plain (atom prfl [])), 0)
+    -- limits: samples, descriptions; 5 in the second track comes before 6 in the first
+    ∷ (film (track good (sizes 100 1048577 []) []), 6)
+    ∷ (film (trackOf [] (media (handler 32 soun) (inStbl (descriptions 65 (joined (replicate 65 (description 16)))) same [])) []), 6)
+    ∷ (film (track good (sizes 100 1048577 []) [] ++ track (descriptions 1 (description 35)) same []), 5)
+    ∷ []
+
+results : map (λ e. refusalOf (e .0)) cases ≡ map (λ e. e .1) cases
+unfolding beAt container piecesAfter total filledBy fitting headerOf bodyOf sizeInside sizeTop sizeIn ofKind all everywhere one atMostOne tables present formOf skipped versionOk holdsEntries sizeEntry filledWith sizedEntries sizeOk leafOk firstBefore ofVersion0 profileIn profileOk mdiaOf minfOf stblOf tableOf elstOf subtypeOf profileOf moovOf movieProfile overLimits tooMany some first orElse wrongVersion wrongSize narrow wrongTrackSize fileRows movieRows movieRefusal refusalOf
+results = refl

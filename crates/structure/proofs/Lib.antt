@@ -1,0 +1,8 @@
+pub mod Rows
+pub mod Sentence
+pub mod Places
+pub mod Tracks
+pub mod Shaped
+pub mod Callers
+mod Or
+mod Examples

@@ -1,0 +1,37 @@
+-- `structure::is_wrong_track_size` meets its contract, by what the calls ensure.
+-- Assumes nothing.
+use mathlib.Core.Path.{ap, _∙_}
+use mathlib.Core.Bool.{not}
+use Rattle.structure.specs.Profile.{profileOk}
+use Rattle.structure.specs.Refusals.{wrongTrackSize}
+use Rattle.structure.proofs.Or.{either-are}
+use Rattle.structure.proofs.is_wrong_track_size.Statement.{statement}
+use Rattle.structure.proofs.is_wrong_track_size.Tie as tie
+
+is-narrow-requires : tie.Need-is-narrow-requires
+is-narrow-requires c κs = tt
+
+track-profile-requires : tie.Need-track-profile-requires
+track-profile-requires c κs = tt
+
+profile-ok-requires : tie.Need-profile-ok-requires
+profile-ok-requires c κs = tt
+
+either-requires : tie.Need-either-requires
+either-requires c κs = tt
+
+returns : tie.Need-returns
+unfolding wrongTrackSize
+returns c =
+    let b = c .before in
+    either-are (c .either .ensures) (b .before .before .is-narrow .ensures) (ap not (b .profile-ok .ensures ∙ ap profileOk (b .before .track-profile .ensures)))
+
+pub is-wrong-track-size-spec : {M : Type 1} → statement M
+is-wrong-track-size-spec =
+    tie.close
+    (tie.spec
+    is-narrow-requires
+    track-profile-requires
+    profile-ok-requires
+    either-requires
+    returns)

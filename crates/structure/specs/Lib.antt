@@ -1,0 +1,6 @@
+pub mod Profile
+pub mod Track
+pub mod Movie
+pub mod Limits
+pub mod Rows
+pub mod Refusals

@@ -1,0 +1,61 @@
+-- A table of refusals: rows in the order in which they are judged, each with its number, its condition on the whole and its
+-- condition on a track. The whole is a file or the body of a moov, and a track the body of a trak, as lists of bytes.
+use Prim.Native.Nat.{ℕ, min}
+use mathlib.Core.List.{List, [], _∷_}
+use mathlib.Core.Bool.{Bool, true, false, cond, _||_, _&&_}
+use lib.Dec.{eqb, ltb}
+
+pub record Row : Type 0 where
+  pub number : ℕ
+  pub whole : List ℕ → Bool
+  pub track : List ℕ → Bool
+
+abbrev pub row : ℕ → (List ℕ → Bool) → (List ℕ → Bool) → Row
+row n f g = record { number = n; whole = f; track = g }
+
+-- a condition that is only the whole's, or only a track's
+abbrev pub never : List ℕ → Bool
+never s = false
+
+-- whether f holds of one of them
+unfoldable pub some : (List ℕ → Bool) → List (List ℕ) → Bool
+some f [] = false
+some f (t ∷ ts) = f t || some f ts
+
+-- the number of the first row of which f holds; 0 where there is none
+unfoldable pub first : (Row → Bool) → List Row → ℕ
+first f [] = 0
+first f (r ∷ rs) = cond (f r) (r .number) (first f rs)
+
+-- "The answer is the lowest number that applies; each condition is judged on files that pass all lower ones": the number of the
+-- first row whose condition holds of the whole or of one of its tracks
+abbrev pub lowest : List Row → List ℕ → List (List ℕ) → ℕ
+lowest rs m ts = first (λ r. r .whole m || some (r .track) ts) rs
+
+-- a number, or where there is none the one that is judged after it
+unfoldable pub orElse : ℕ → ℕ → ℕ
+orElse a b = cond (eqb a 0) b a
+
+-- whether the numbers rise, from above n
+unfoldable pub rising : ℕ → List Row → Bool
+rising n [] = true
+rising n (r ∷ rs) = ltb n (r .number) && rising (r .number) rs
+
+-- ---- by tracks: the contracts of functions that judge a part. That these parts make up the table's answer is proved
+-- (`by-tracks`, in proofs/Rows)
+
+-- the number of the first row whose condition holds of the whole itself; and of one track
+abbrev pub ofWhole : List Row → List ℕ → ℕ
+ofWhole rs m = first (λ r. r .whole m) rs
+
+abbrev pub ofTrack : List Row → List ℕ → ℕ
+ofTrack rs t = first (λ r. r .track t) rs
+
+-- the lower of two numbers, where 0 is none
+unfoldable pub lowerOf : ℕ → ℕ → ℕ
+lowerOf a b = cond (eqb a 0) b (cond (eqb b 0) a (min a b))
+
+-- the lowest of the tracks' own
+unfoldable pub ofTracks : List Row → List (List ℕ) → ℕ
+ofTracks rs [] = 0
+ofTracks rs (t ∷ ts) = lowerOf (ofTrack rs t) (ofTracks rs ts)

@@ -1,0 +1,56 @@
+-- A track, from the body t of its trak: where its tables stand, and its fields. "Offsets count from the atom's first byte".
+use Prim.Native.Nat.{ℕ}
+use mathlib.Core.List.{List}
+use Rattle.bigendian.specs.BigEndian.{u32At}
+use Rattle.atoms.specs.Kinds.{trak, edts, mdia, minf, stbl, tkhd, mdhd, hdlr, stsd, stsz, stco, elst}
+use Rattle.atoms.specs.Atoms.{childIn, bodyIn}
+use Rattle.structure.specs.Profile.{profileIn}
+
+unfoldable pub mdiaOf : List ℕ → List ℕ
+mdiaOf t = bodyIn trak mdia 0 t
+
+unfoldable pub minfOf : List ℕ → List ℕ
+minfOf t = bodyIn mdia minf 0 (mdiaOf t)
+
+unfoldable pub stblOf : List ℕ → List ℕ
+stblOf t = bodyIn minf stbl 0 (minfOf t)
+
+-- the sample table of kind k; empty where it is absent
+unfoldable pub tableOf : ℕ → List ℕ → List ℕ
+tableOf k t = childIn stbl k 0 (stblOf t)
+
+-- the edit list; empty where it is absent
+unfoldable pub elstOf : List ℕ → List ℕ
+elstOf t = childIn edts elst 0 (bodyIn trak edts 0 t)
+
+-- "track ID 20"
+unfoldable pub idOf : List ℕ → ℕ
+idOf t = u32At (childIn trak tkhd 0 t) 20
+
+-- "time scale 20, duration 24"
+unfoldable pub scaleOf : List ℕ → ℕ
+scaleOf t = u32At (childIn mdia mdhd 0 (mdiaOf t)) 20
+
+unfoldable pub durationOf : List ℕ → ℕ
+durationOf t = u32At (childIn mdia mdhd 0 (mdiaOf t)) 24
+
+-- "component subtype 16"
+unfoldable pub subtypeOf : List ℕ → ℕ
+subtypeOf t = u32At (childIn mdia hdlr 0 (mdiaOf t)) 16
+
+-- the numbers of samples, chunks, edits and descriptions that the tables state; none where a table is absent
+abbrev pub samplesOf : List ℕ → ℕ
+samplesOf t = u32At (tableOf stsz t) 16
+
+abbrev pub chunksOf : List ℕ → ℕ
+chunksOf t = u32At (tableOf stco t) 12
+
+abbrev pub editsOf : List ℕ → ℕ
+editsOf t = u32At (elstOf t) 12
+
+abbrev pub descriptionsOf : List ℕ → ℕ
+descriptionsOf t = u32At (tableOf stsd t) 12
+
+-- its profile; empty where it has none
+unfoldable pub profileOf : List ℕ → List ℕ
+profileOf t = profileIn trak tkhd t
