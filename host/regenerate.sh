@@ -1,5 +1,5 @@
 #!/usr/bin/env bash
-# Rewrites the stored outputs of the test programs, and the films that they read, from the reference, which knows nothing of the library.
+# Rewrites the stored outputs of the test programs, and the films and tables that they read, from the reference, which knows nothing of the library.
 set -euo pipefail
 cd "$(dirname "$0")/.."
 made=$(mktemp -d)
@@ -9,9 +9,10 @@ for name in slip_vectors slip_example; do
     "host/reference/target/debug/$name" > "$made/$name"
     cp "$made/$name" "crates/$name/stdout"
 done
-mkdir "$made/data"
-host/reference/target/debug/films "$made/data" "$made/args" > "$made/structure_vectors"
-rm -rf crates/structure_vectors/data
-cp -r "$made/data" crates/structure_vectors/data
-cp "$made/args" crates/structure_vectors/args
-cp "$made/structure_vectors" crates/structure_vectors/stdout
+for pair in films:structure_vectors tables:tables_vectors; do
+    name=${pair#*:}
+    mkdir -p "$made/files/$name/data"
+    "host/reference/target/debug/${pair%:*}" "$made/files/$name/data" "$made/files/$name/args" > "$made/files/$name/stdout"
+    rm -rf "crates/$name/data"
+    cp -r "$made/files/$name/." "crates/$name"
+done

@@ -1,5 +1,6 @@
 pub mod Pieces
 pub mod Laws
+pub mod Lengths
 pub mod Into
 pub mod Levels
 mod Examples

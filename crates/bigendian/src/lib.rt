@@ -1,8 +1,9 @@
-// Big-endian unsigned numbers at any place of a slice. A byte past the end counts as 0.
+// Big-endian numbers at any place of a slice, and the part that follows a place. A byte past the end counts as 0.
 ghost use mathlib.Core.Path.{_≡_};
 ghost use Prim.Native.Nat.{_+_, _*_, _^_, _<_, _≤_};
-ghost use lib.ListN.{length, getD};
-ghost use Rattle.bigendian.specs.BigEndian.{beAt, u16At, u32At, u64At};
+ghost use lib.ListN.{length, getD, drop};
+ghost use lib.Signed.{mag};
+ghost use Rattle.bigendian.specs.BigEndian.{beAt, u16At, u32At, u64At, signed32, i32At};
 
 pub fn byte_at(s: &[u8], at: usize) -> u8
     ensures { λ r. ⌜ r ≡ getD (now (s .entry)) at 0 ⌝ }
@@ -43,6 +44,34 @@ pub fn u64_at(s: &[u8], at: usize) -> u64
         }
     }
     number_at(&s[..], at, 8)
+}
+
+// The number that 32 bits stand for in two's complement.
+fn signed(n: u32) -> i64
+    ensures { λ r. ⌜ (r ≡ signed32 n) × (mag r < 2 ^ 31) ⌝ }
+{
+    if n < 2147483648 {
+        n as i64
+    } else {
+        n as i64 - 4294967296
+    }
+}
+
+// The bound follows from the equation; callers add small numbers and need it.
+pub fn i32_at(s: &[u8], at: usize) -> i64
+    ensures { λ r. ⌜ (r ≡ i32At (now (s .entry)) at) × (mag r < 2 ^ 31) ⌝ }
+{
+    signed(u32_at(s, at))
+}
+
+// What follows the first n bytes; nothing where there are no more.
+pub fn after(s: &[u8], n: usize) -> &[u8]
+    ensures { λ r. ⌜ now r ≡ drop n (now (s .entry)) ⌝ }
+{
+    if n <= s.len() {
+        return &s[n..];
+    }
+    &s[..0]
 }
 
 // The slow way, byte by byte. It calls itself: LLVM inlines no such function, so the three above stay small enough to

@@ -4,5 +4,6 @@ pub mod Places
 pub mod Tracks
 pub mod Shaped
 pub mod Callers
+pub mod Lengths
 mod Or
 mod Examples

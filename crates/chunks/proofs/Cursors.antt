@@ -1,0 +1,138 @@
+-- Laws of the cursor: to ready it changes nothing that lies ahead, to pass chunks drops them, and one that is ready stands in a run if a chunk is ahead.
+-- Assumes nothing.
+use Prim.Native.Nat.{ℕ, zero, suc, _+_, _-_, _≤_, _<_}
+use mathlib.Core.Path.{_≡_, refl, sym, ap, _∙_}
+use mathlib.Core.List.{List, [], _∷_, _++_}
+use native.Mathlib.Omega.{arith}
+use native.Mathlib.Decide.{ℕ-discrete, decLt}
+use lib.ListN.{length, drop, getD, replicate}
+use lib.Seq.{drop-drop, getD-drop}
+use borrow.Author.Tests.{eq-eqb, ne-eqb}
+use Rattle.bigendian.specs.BigEndian.{u32At}
+use Rattle.chunks.specs.Chunks.{Deal, dealsIn, firstOf, dealt, perChunk, descriptionIds}
+use Rattle.chunks.specs.Cursors.{ahead, idsAhead, Valid, Stands, startCursor, loaded, readiedIn, readied, past}
+use Rattle.chunks.specs.declared.Cursor.{Cursor}
+use Rattle.chunks.proofs.Turns.{deals-none, deals-next, samples-in, ids-in}
+
+-- ---- before the first chunk
+
+pub start-samples : (s : List ℕ) (chunks : ℕ) → ahead s chunks startCursor ≡ perChunk s chunks
+unfolding ahead
+start-samples s chunks = samples-in s chunks refl
+
+pub start-valid : (s : List ℕ) (chunks : ℕ) → Valid s chunks 0 startCursor
+unfolding idsAhead
+start-valid s chunks = record { samples = start-samples s chunks; descriptions = ids-in s chunks refl }
+
+-- ---- to ready a cursor: what the loop that reads entries keeps
+
+pub ready-stop : (s : List ℕ) (chunks : ℕ) (r : Cursor) → (r .remaining ≡ 0 → ⊥) → readied s chunks r ≡ r
+unfolding readied
+ready-stop s chunks r z = go (dealsIn (drop (r .at) s))
+  where
+    go : (es : List Deal) → readiedIn chunks es r ≡ r
+    go [] = refl
+    go (e ∷ es) = rw (ne-eqb (r .remaining) 0 z)
+
+module _ (s : List ℕ) (chunks : ℕ) (r : Cursor) {t : List ℕ} (p : t ≡ drop (r .at) s) where
+  pub ready-end : length t < 12 → readied s chunks r ≡ r
+  unfolding readied
+  ready-end h = ap (λ (l : List ℕ). readiedIn chunks (dealsIn l) r) (sym p) ∙ ap (λ (es : List Deal). readiedIn chunks es r) (deals-none t h)
+
+  pub ready-next : 12 ≤ length t → r .remaining ≡ 0 → {u : List ℕ} → u ≡ drop 12 t → {first next count per id : ℕ} → first ≡ u32At t 0 → next ≡ firstOf chunks (dealsIn u) →
+      count ≡ next - first → per ≡ u32At t 4 → id ≡ u32At t 8 →
+      readied s chunks (record { at = r .at + 12; remaining = count; per = per; description = id }) ≡ readied s chunks r
+  unfolding readied
+  ready-next h z {u} e {first} {next} {count} {per} {id} a b k q d =
+      let m : drop (r .at + 12) s ≡ u = sym (drop-drop 12 (r .at) s) ∙ sym (e ∙ ap (drop 12) p) in
+      let o : dealsIn (drop (r .at) s) ≡ record { first = first; per = per; id = id } ∷ dealsIn u =
+      ap dealsIn (sym p) ∙ deals-next t h ∙ (λ i. record { first = sym a i; per = sym q i; id = sym d i } ∷ dealsIn (sym e i)) in
+      ap (λ (l : List ℕ). readiedIn chunks (dealsIn l) (record { at = r .at + 12; remaining = count; per = per; description = id })) m
+      ∙ rw (o, eq-eqb (r .remaining) 0 z, k, b)
+
+-- ---- what lies ahead
+
+-- r has the same chunks ahead as c, and stands in a run if there is one
+pub record Same (s : List ℕ) (chunks : ℕ) (c r : Cursor) : Type 0 where
+  pub samples : ahead s chunks r ≡ ahead s chunks c
+  pub ids : idsAhead s chunks r ≡ idsAhead s chunks c
+  pub stands : Stands s chunks r
+
+module _ (s : List ℕ) (chunks : ℕ) where
+  -- the first entry of what a cursor has not read, and the rest
+  split : (at : ℕ) (e : Deal) (es : List Deal) → dealsIn (drop at s) ≡ e ∷ es → dealsIn (drop (at + 12) s) ≡ es
+  split at e es q = elim (decLt (length (drop at s)) 12) [
+    | yes l ↦ let n : dealsIn (drop at s) ≡ [] = deals-none (drop at s) l in let z : _≡_ {A = ℕ} 0 1 = cc in absurd (omega arith)
+    | no l ↦
+        let h : 12 ≤ length (drop at s) = omega arith in
+        let n = deals-next (drop at s) h in
+        let t : dealsIn (drop 12 (drop at s)) ≡ es = cc in
+        ap dealsIn (sym (drop-drop 12 at s)) ∙ t
+  ]
+
+  same-in : (es : List Deal) (c : Cursor) → dealsIn (drop (c .at) s) ≡ es → Same s chunks c (readiedIn chunks es c)
+  unfolding ahead idsAhead
+  same-in [] c q = record { samples = refl; ids = refl; stands = record { no-samples = λ z. rw (z, q); no-ids = λ z. rw (z, q) } }
+  same-in (e ∷ es) c q = elim (ℕ-discrete (c .remaining) 0) [
+    | yes z ↦
+        let m = split (c .at) e es q in
+        let w = same-in es (loaded chunks e es c) m in
+        rw (eq-eqb (c .remaining) 0 z) (record {
+          samples = w .samples ∙ rw (m, z, q);
+          ids = w .ids ∙ rw (m, z, q);
+          stands = w .stands;
+        })
+    | no z ↦ rw (ne-eqb (c .remaining) 0 z) (record { samples = refl; ids = refl; stands = record { no-samples = λ y. absurd (z y); no-ids = λ y. absurd (z y) } })
+  ]
+
+  pub ready-same : (c : Cursor) → Same s chunks c (readied s chunks c)
+  unfolding readied
+  ready-same c = same-in (dealsIn (drop (c .at) s)) c refl
+
+  pub ready-valid : {k : ℕ} {c : Cursor} → Valid s chunks k c → Valid s chunks k (readied s chunks c)
+  ready-valid {k} {c} v = let w = ready-same c in record { samples = w .samples ∙ v .samples; descriptions = w .ids ∙ v .descriptions }
+
+-- ---- to pass chunks of the run
+
+drop-in : (v : ℕ) (r : List ℕ) (n k : ℕ) → k ≤ n → drop k (replicate n v ++ r) ≡ replicate (n - k) v ++ r
+drop-in v r n zero h = let e : n ≡ n - 0 = omega arith in ap (λ (m : ℕ). replicate m v ++ r) e
+drop-in v r zero (suc k) h = absurd (omega arith)
+drop-in v r (suc n) (suc k) h = let e : n - k ≡ suc n - suc k = omega arith in drop-in v r n k (omega arith) ∙ ap (λ (m : ℕ). replicate m v ++ r) e
+
+module _ (s : List ℕ) (chunks : ℕ) (c : Cursor) (k : ℕ) (h : k ≤ c .remaining) where
+  pub past-samples : ahead s chunks (past k c) ≡ drop k (ahead s chunks c)
+  unfolding ahead
+  past-samples = sym (drop-in (c .per) (dealt (λ e. e .per) chunks (dealsIn (drop (c .at) s))) (c .remaining) k h)
+
+  pub past-ids : idsAhead s chunks (past k c) ≡ drop k (idsAhead s chunks c)
+  unfolding idsAhead
+  past-ids = sym (drop-in (c .description) (dealt (λ e. e .id) chunks (dealsIn (drop (c .at) s))) (c .remaining) k h)
+
+  pub past-valid : {j : ℕ} → Valid s chunks j c → Valid s chunks (j + k) (past k c)
+  past-valid {j} v = record {
+    samples = past-samples ∙ ap (drop k) (v .samples) ∙ drop-drop k j (perChunk s chunks);
+    descriptions = past-ids ∙ ap (drop k) (v .descriptions) ∙ drop-drop k j (descriptionIds s chunks);
+  }
+
+-- ---- the chunk at which a cursor stands
+
+replicate-cons : (n v : ℕ) (r : List ℕ) → 0 < n → replicate n v ++ r ≡ v ∷ (replicate (n - 1) v ++ r)
+replicate-cons zero v r h = absurd (omega arith)
+replicate-cons (suc n) v r h = let e : n ≡ suc n - 1 = omega arith in ap (λ (k : ℕ). v ∷ (replicate k v ++ r)) e
+
+module _ (s : List ℕ) (chunks : ℕ) (c : Cursor) (h : 0 < c .remaining) where
+  pub ahead-cons : ahead s chunks c ≡ c .per ∷ ahead s chunks (past 1 c)
+  unfolding ahead
+  ahead-cons = replicate-cons (c .remaining) (c .per) (dealt (λ e. e .per) chunks (dealsIn (drop (c .at) s))) h
+
+  pub ids-cons : idsAhead s chunks c ≡ c .description ∷ idsAhead s chunks (past 1 c)
+  unfolding idsAhead
+  ids-cons = replicate-cons (c .remaining) (c .description) (dealt (λ e. e .id) chunks (dealsIn (drop (c .at) s))) h
+
+  -- it has the samples and the ID that the cursor says
+  pub stands-at : {k : ℕ} → Valid s chunks k c → (getD (perChunk s chunks) k 0 ≡ c .per) × (getD (descriptionIds s chunks) k 0 ≡ c .description)
+  stands-at {k} v =
+      let e : k ≡ k + 0 = omega arith in (
+        ap (λ (j : ℕ). getD (perChunk s chunks) j 0) e ∙ sym (getD-drop k (perChunk s chunks) 0 0) ∙ ap (λ (l : List ℕ). getD l 0 0) (sym (v .samples) ∙ ahead-cons),
+        ap (λ (j : ℕ). getD (descriptionIds s chunks) j 0) e ∙ sym (getD-drop k (descriptionIds s chunks) 0 0) ∙ ap (λ (l : List ℕ). getD l 0 0) (sym (v .descriptions) ∙ ids-cons),
+      )

@@ -1,0 +1,124 @@
+-- Refusal 12: one turn of the walk, chunk by chunk, over stsc, stco and stsz together; and the sentence that the test computes.
+-- Assumes nothing.
+use Prim.Native.Nat.{ℕ, zero, suc, _+_, _-_, _≤_, _<_, min}
+use mathlib.Core.Path.{_≡_, refl, sym, ap, _∙_}
+use mathlib.Core.Bool.{Bool, true, false, cond}
+use mathlib.Core.List.{List, [], _∷_}
+use native.Mathlib.Omega.{arith}
+use native.Mathlib.Decide.{decLe}
+use lib.Dec.{ltb}
+use lib.ListN.{length, getD, take, drop, length-drop, drop-of-length-le}
+use lib.Seq.{take-all, drop-drop}
+use borrow.Author.Tests.{lt-ltb, le-ltb, ltb-false}
+use Rattle.bigendian.specs.BigEndian.{u32At}
+use Rattle.lists.specs.Lists.{sum, before, between}
+use Rattle.words.specs.Words.{wordsIn, chunkOffsets}
+use Rattle.words.proofs.Turns.{offsets-in, words-drop}
+use Rattle.chunks.specs.Chunks.{perChunk, endWithin}
+use Rattle.chunks.specs.Cursors.{ahead, Stands, startCursor, readied, past}
+use Rattle.chunks.specs.declared.Cursor.{Cursor}
+use Rattle.chunks.proofs.Cursors.{start-samples, Same, ready-same, ahead-cons}
+
+-- ---- a chunk's samples, up to the largest index
+
+module _ (zs : List ℕ) (few : length zs ≤ 4294967295) (begin per end : ℕ) (p : end ≡ min (begin + per) 4294967295) where
+  sizes-of : between zs begin end ≡ sum (take per (drop begin zs))
+  sizes-of = elim (decLe (begin + per) 4294967295) [
+    | yes l ↦ let e : end - begin ≡ per = omega arith in ap (λ (k : ℕ). sum (take k (drop begin zs))) e
+    | no l ↦
+        let a : length (drop begin zs) ≤ end - begin = omega (arith, length-drop begin zs) in
+        let b : length (drop begin zs) ≤ per = omega (arith, length-drop begin zs) in
+        ap sum (take-all (end - begin) (drop begin zs) a ∙ sym (take-all per (drop begin zs) b))
+  ]
+
+  sizes-after : drop per (drop begin zs) ≡ drop end zs
+  sizes-after = drop-drop per begin zs ∙ elim (decLe (begin + per) 4294967295) [
+    | yes l ↦ let e : begin + per ≡ end = omega arith in ap (λ (k : ℕ). drop k zs) e
+    | no l ↦ drop-of-length-le zs {i = begin + per} (omega arith) ∙ sym (drop-of-length-le zs {i = end} (omega arith))
+  ]
+
+-- ---- the walk
+
+-- c stands before a chunk if one is ahead; what the chunks ahead, the offsets of t and the sizes from `begin` on say is what the whole says
+pub record Ending (limit : ℕ) (s : List ℕ) (chunks : ℕ) (zs t : List ℕ) (whole : Bool) (c : Cursor) (begin : ℕ) : Type 0 where
+  pub stands : Stands s chunks c
+  pub same : endWithin limit (ahead s chunks c) (wordsIn t) (drop begin zs) ≡ whole
+
+-- before the first chunk
+pub ending-start : (limit : ℕ) (stsc stco zs : List ℕ) {chunks : ℕ} → chunks ≡ u32At stco 12 → {t : List ℕ} → t ≡ drop 16 stco →
+    {i r : Cursor} → i ≡ startCursor → r ≡ readied stsc chunks i →
+    Ending limit stsc chunks zs t (endWithin limit (perChunk stsc (u32At stco 12)) (chunkOffsets stco) zs) r 0
+ending-start limit stsc stco zs {chunks} k {t} p {i} {r} a e =
+    let w : Same stsc chunks startCursor r = rw (e, a) (ready-same stsc chunks startCursor) in
+    let q : ahead stsc chunks r ≡ perChunk stsc (u32At stco 12) = w .samples ∙ start-samples stsc chunks ∙ ap (perChunk stsc) k in
+    let o : wordsIn t ≡ chunkOffsets stco = ap wordsIn p ∙ sym (offsets-in stco) in
+    record { stands = w .stands; same = rw (q, o) }
+
+-- no chunk is ahead
+pub ended : {limit : ℕ} {s : List ℕ} {chunks : ℕ} {zs t : List ℕ} {whole : Bool} {c : Cursor} {begin : ℕ} → Ending limit s chunks zs t whole c begin → c .remaining ≡ 0 → whole ≡ true
+ended {limit} {s} {chunks} {zs} {t} {whole} {c} {begin} w z = sym (w .same) ∙ rw (w .stands .no-samples z)
+
+-- a chunk is ahead; its offset and its bytes as they are read
+module _ {limit : ℕ} {s : List ℕ} {chunks : ℕ} {zs t : List ℕ} {whole : Bool} {c : Cursor} {begin : ℕ} (w : Ending limit s chunks zs t whole c begin)
+    (few : length zs ≤ 4294967295) (z : c .remaining ≡ 0 → ⊥) {end : ℕ} (p : end ≡ min (begin + c .per) 4294967295) where
+  next : ahead s chunks c ≡ c .per ∷ ahead s chunks (past 1 c)
+  next = ahead-cons s chunks c (omega arith)
+
+  module _ {base bytes : ℕ} (q : base ≡ getD (wordsIn t) 0 0) (b : bytes ≡ between zs begin end) where
+    opened : whole ≡ cond (ltb limit (base + bytes)) false (endWithin limit (ahead s chunks (past 1 c)) (drop 1 (wordsIn t)) (drop end zs))
+    opened = sym (w .same) ∙ rw (next, ← sizes-of zs few begin (c .per) end p, sizes-after zs few begin (c .per) end p, ← q, ← b)
+
+    pub passes : limit < base + bytes → whole ≡ false
+    passes h = opened ∙ rw (lt-ltb limit (base + bytes) h)
+
+    -- r is the cursor readied past the chunk, u the offsets that follow
+    module _ {i r : Cursor} (a : i ≡ past 1 c) (e : r ≡ readied s chunks i) {u : List ℕ} (o : u ≡ drop 4 t) where
+      again : Same s chunks (past 1 c) r
+      again = rw (e, a) (ready-same s chunks (past 1 c))
+
+      pub ending-next : base + bytes ≤ limit → Ending limit s chunks zs u whole r end
+      ending-next h = record {
+        stands = again .stands;
+        same = rw (o, words-drop 1 t, again .samples) (sym (opened ∙ rw (le-ltb limit (base + bytes) h)));
+      }
+
+      pub ending-less : length (ahead s chunks r) < length (ahead s chunks c)
+      ending-less = omega (arith, ap length (again .samples), ap length next)
+
+-- ---- the sentence: each chunk's offset plus the sizes of its samples is within the limit
+
+abbrev pub Within : ℕ → List ℕ → List ℕ → List ℕ → Type 0
+Within limit ps cs zs = (k : ℕ) → k < length ps → getD cs k 0 + between zs (before ps k) (before ps k + getD ps k 0) ≤ limit
+
+halves : (a b : Bool) → cond a false b ≡ true → (a ≡ false) × (b ≡ true)
+halves true b e = let z : _≡_ {A = ℕ} 0 1 = cc in absurd (omega arith)
+halves false b e = (refl, e)
+
+second : (cs : List ℕ) (k : ℕ) → getD (drop 1 cs) k 0 ≡ getD cs (suc k) 0
+second [] k = refl
+second (x ∷ cs) k = refl
+
+-- the sizes of a chunk after the first, from the second chunk's samples on
+later : (p : ℕ) (ps zs : List ℕ) (k : ℕ) →
+    between (drop p zs) (before ps k) (before ps k + getD ps k 0) ≡ between zs (p + before ps k) (p + before ps k + getD ps k 0)
+later p ps zs k =
+    let e : before ps k + getD ps k 0 - before ps k ≡ p + before ps k + getD ps k 0 - (p + before ps k) = omega arith in
+    rw (e, drop-drop)
+
+first-sum : (p : ℕ) (zs : List ℕ) → between zs 0 (0 + p) ≡ sum (take p zs)
+first-sum p zs = let e : 0 + p - 0 ≡ p = omega arith in ap (λ (k : ℕ). sum (take k zs)) e
+
+pub all-within : (limit : ℕ) (ps cs zs : List ℕ) → endWithin limit ps cs zs ≡ true → Within limit ps cs zs
+all-within limit [] cs zs e k h = absurd (omega arith)
+all-within limit (p ∷ ps) cs zs e zero h =
+    omega (arith, ltb-false limit (getD cs 0 0 + sum (take p zs)) (halves (ltb limit (getD cs 0 0 + sum (take p zs))) _ e .0), first-sum p zs)
+all-within limit (p ∷ ps) cs zs e (suc k) h =
+    let t = all-within limit ps (drop 1 cs) (drop p zs) (halves (ltb limit (getD cs 0 0 + sum (take p zs))) _ e .1) k (omega arith) in
+    omega (arith, t, second cs k, later p ps zs k)
+
+pub within-all : (limit : ℕ) (ps cs zs : List ℕ) → Within limit ps cs zs → endWithin limit ps cs zs ≡ true
+within-all limit [] cs zs w = refl
+within-all limit (p ∷ ps) cs zs w =
+    let h : getD cs 0 0 + sum (take p zs) ≤ limit = omega (arith, w 0 (omega arith), first-sum p zs) in
+    rw (le-ltb limit (getD cs 0 0 + sum (take p zs)) h)
+    (within-all limit ps (drop 1 cs) (drop p zs) (λ k l. omega (arith, w (suc k) (omega arith), second cs k, later p ps zs k)))

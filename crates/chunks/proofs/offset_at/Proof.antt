@@ -1,0 +1,44 @@
+-- `chunks::offset_at` meets its contract: the sum is the definition's, each part as its function says.
+-- Assumes nothing.
+use borrow.Author.Needs.{needs}
+use Prim.Native.Nat.{ℕ}
+use mathlib.Core.Path.{ap, _∙_}
+use denote.Ref.{now}
+use Rattle.lists.specs.Lists.{between}
+use Rattle.words.specs.Words.{sizes}
+use Rattle.chunks.specs.Chunks.{offsetAt}
+use Rattle.chunks.proofs.offset_at.Statement.{statement}
+use Rattle.chunks.proofs.offset_at.Tie as tie
+
+span-requires : tie.Need-span-requires
+span-requires c κs = search needs
+
+chunk-offset-requires : tie.Need-chunk-offset-requires
+chunk-offset-requires c κs = search needs
+
+cast-result : tie.Need-cast-result
+cast-result c = search needs
+
+bytes-between-requires : tie.Need-bytes-between-requires
+bytes-between-requires c κs = search needs
+
+add-result : tie.Need-add-result
+add-result c = search needs
+
+returns : tie.Need-returns
+unfolding offsetAt
+returns c =
+    let a = c .before .before .before .before .before .args in
+    let e = c .bytes-between .ensures .0 ∙ ap (λ (b : ℕ). between (sizes (now (a .stsz))) b (a .index)) (c .before .before .span .ensures) in
+    cc (c .before .chunk-offset .ensures, e)
+
+pub offset-at-spec : {M : Type 1} → statement M
+offset-at-spec =
+    tie.close
+    (tie.spec
+    span-requires
+    chunk-offset-requires
+    cast-result
+    bytes-between-requires
+    add-result
+    returns)

@@ -1,0 +1,255 @@
+// Samples dealt to chunks: stsc, with stco and stsz, read as they stand in the file, one pass each and never expanded. Chunks are numbered from 1 in stsc;
+// elsewhere a chunk and a sample are named by their index from 0. No function asks that the tables agree: what they say where they do not is defined too.
+// The length below 2 ^ 32 that some of them ask of a table is that of any part of a file that passed refusal 1.
+use bigendian::after;
+use bigendian::u32_at;
+use lists::Total;
+use words::bytes_between;
+use words::chunk_offset;
+use words::word_at;
+ghost use mathlib.Core.Path.{_≡_};
+ghost use Prim.Native.Nat.{_+_, _-_, _^_, _≤_, _<_, min};
+ghost use lib.ListN.{length};
+ghost use Rattle.bigendian.specs.BigEndian.{u32At};
+ghost use Rattle.lists.specs.Lists.{sum};
+ghost use Rattle.lists.specs.Totals.{totalOf};
+ghost use Rattle.words.specs.Words.{sizes, chunkOffsets};
+ghost use Rattle.chunks.specs.Chunks.{dealsIn, firstOf, rightEntry, dealsAgree, perChunk, descriptionIds, locatedIn, offsetAt, endWithin};
+ghost use Rattle.chunks.specs.Cursors.{startCursor, readied, past, Finds};
+
+// The chunk at which the entries of a part begin: one past the last chunk where there is none. So the last entry holds for all chunks that remain.
+fn first_of(part: &[u8], chunks: u32) -> u64
+    ensures { λ r. ⌜ (r ≡ firstOf chunks (dealsIn (now (part .entry)))) × (r ≤ 2 ^ 32) ⌝ }
+{
+    if 12 <= part.len() {
+        return u32_at(part, 0) as u64;
+    }
+    chunks as u64 + 1
+}
+
+// How many chunks an entry holds for; none where the next one begins no later.
+fn span(first: u64, next: u64) -> u64
+    ensures { λ r. ⌜ r ≡ next - first ⌝ }
+{
+    if first < next { next - first } else { 0 }
+}
+
+// Whether an entry holds for some chunk, has samples in each, and names a description.
+fn right_entry(first: u64, next: u64, per: u32, id: u32, descriptions: u32) -> bool
+    ensures { λ r. ⌜ r ≡ rightEntry first next per id descriptions ⌝ }
+{
+    if next <= first {
+        return false;
+    }
+    if per == 0 {
+        return false;
+    }
+    if id == 0 {
+        return false;
+    }
+    id <= descriptions
+}
+
+// Whether stsc agrees with the number of chunks and of descriptions.
+pub fn deals_agree(stsc: &[u8], chunks: u32, descriptions: u32) -> bool
+    ensures { λ r. ⌜ r ≡ dealsAgree (now (stsc .entry)) chunks descriptions ⌝ }
+{
+    let part = after(stsc, 16);
+    let mut t = part;
+    let mut first = first_of(part, chunks);
+    if first != 1 {
+        return false;
+    }
+    while 12 <= t.len() {
+        let per = u32_at(t, 4);
+        let id = u32_at(t, 8);
+        t = &t[12..];
+        let next = first_of(t, chunks);
+        let right = right_entry(first, next, per, id, descriptions);
+        if !right {
+            return false;
+        }
+        first = next;
+    }
+    true
+}
+
+// The samples dealt to all chunks.
+pub fn total_dealt(stsc: &[u8], chunks: u32) -> Total
+    ensures { λ r. ⌜ r ≡ totalOf (sum (perChunk (now (stsc .entry)) chunks)) ⌝ }
+{
+    let part = after(stsc, 16);
+    let mut s = part;
+    let mut first = first_of(part, chunks);
+    let mut total: u64 = 0;
+    while 12 <= s.len() {
+        let per = u32_at(s, 4) as u64;
+        s = &s[12..];
+        let next = first_of(s, chunks);
+        total += span(first, next) * per;
+        if 4294967295 < total {
+            return Total::Over;
+        }
+        first = next;
+    }
+    Total::Sum(total as u32)
+}
+
+// A place in stsc: how many chunks remain of a run, with the samples and the description ID of each, and where the entries not yet read begin.
+pub struct Cursor {
+    pub at: usize,
+    pub remaining: u64,
+    pub per: u32,
+    pub description: u32,
+}
+
+// Before the first entry.
+pub fn start_cursor() -> Cursor
+    ensures { λ r. ⌜ r ≡ startCursor ⌝ }
+{
+    Cursor {
+        at: 16,
+        remaining: 0,
+        per: 0,
+        description: 0,
+    }
+}
+
+// Entries are read until a chunk remains, if there is one. The bound lets callers count samples.
+pub fn ready(stsc: &[u8], chunks: u32, c: Cursor) -> Cursor
+    ensures { λ r. ⌜ (r ≡ readied (now (stsc .entry)) chunks c) × (c .remaining ≤ 2 ^ 32 → r .remaining ≤ 2 ^ 32) ⌝ }
+{
+    let mut r = c;
+    while r.remaining == 0 {
+        let at = r.at;
+        let t = after(stsc, at);
+        if t.len() < 12 {
+            return r;
+        }
+        let first = u32_at(t, 0);
+        let next = first_of(&t[12..], chunks);
+        r = Cursor {
+            at: at + 12,
+            remaining: span(first as u64, next),
+            per: u32_at(t, 4),
+            description: u32_at(t, 8),
+        };
+    }
+    r
+}
+
+// Past some chunks of the run.
+pub fn pass(c: Cursor, count: u64) -> Cursor
+    ensures { λ r. ⌜ r ≡ past count c ⌝ }
+{
+    Cursor {
+        at: c.at,
+        remaining: span(count, c.remaining),
+        per: c.per,
+        description: c.description,
+    }
+}
+
+// A sample found: a cursor before its chunk, the index of the chunk, and its own index in the chunk.
+pub struct Sought {
+    pub cursor: Cursor,
+    pub chunk: u64,
+    pub within: u32,
+}
+
+// The chunk of the sample with an index. Past the last sample that is one past the last chunk, with what the index has over.
+pub fn seek(stsc: &[u8], chunks: u32, index: u32) -> Sought
+    requires { ⌜ length (now stsc) < 2 ^ 32 ⌝ }
+    ensures { λ r. ⌜ Finds (now (stsc .entry)) chunks index r ⌝ }
+{
+    let mut c = ready(stsc, chunks, start_cursor());
+    let mut passed: u64 = 0;
+    let mut rest = index as u64;
+    while c.remaining != 0 {
+        let count = c.remaining;
+        let per = c.per as u64;
+        let samples = count * per;
+        if rest < samples {
+            let skip = rest / per;
+            let cursor = pass(c, skip);
+            return Sought {
+                cursor,
+                chunk: passed + skip,
+                within: (rest % per) as u32,
+            };
+        }
+        rest -= samples;
+        passed += count;
+        c = ready(stsc, chunks, pass(c, count));
+    }
+    Sought {
+        cursor: c,
+        chunk: passed,
+        within: rest as u32,
+    }
+}
+
+// Where a sample lies: the index of its chunk, its index in the chunk, and the chunk's description ID.
+pub struct Located {
+    pub chunk: u64,
+    pub within: u32,
+    pub description: u32,
+}
+
+// The place of the sample with an index. Past the last sample the ID is 0.
+pub fn locate(stsc: &[u8], chunks: u32, index: u32) -> Located
+    requires { ⌜ length (now stsc) < 2 ^ 32 ⌝ }
+    ensures { λ r. ⌜ r ≡ locatedIn (perChunk (now (stsc .entry)) chunks) (descriptionIds (now (stsc .entry)) chunks) index ⌝ }
+{
+    let found = seek(stsc, chunks, index);
+    let c = found.cursor;
+    let id = if c.remaining == 0 { 0 } else { c.description };
+    Located {
+        chunk: found.chunk,
+        within: found.within,
+        description: id,
+    }
+}
+
+// The offset of the sample with an index, whose place was found.
+pub fn offset_at(stsz: &[u8], stco: &[u8], place: Located, index: u32) -> u64
+    ensures { λ r. ⌜ r ≡ offsetAt (chunkOffsets (now (stco .entry))) (sizes (now (stsz .entry))) place index ⌝ }
+{
+    let begin = words::span(place.within, index);
+    chunk_offset(stco, place.chunk) as u64 + bytes_between(stsz, begin, index)
+}
+
+// The index `count` further on; the largest one where there is none.
+fn further(index: u32, count: u32) -> u32
+    ensures { λ r. ⌜ r ≡ min (index + count) 4294967295 ⌝ }
+{
+    if count <= 4294967295 - index {
+        return index + count;
+    }
+    4294967295
+}
+
+// Whether each chunk's offset plus the sizes of its samples is within a limit: one pass over each table.
+pub fn chunks_end_within(stsc: &[u8], stsz: &[u8], stco: &[u8], limit: u64) -> bool
+    requires { ⌜ length (now stsz) < 2 ^ 32 ⌝ }
+    ensures { λ r. ⌜ r ≡ endWithin limit (perChunk (now (stsc .entry)) (u32At (now (stco .entry)) 12)) (chunkOffsets (now (stco .entry))) (sizes (now (stsz .entry))) ⌝ }
+{
+    let chunks = u32_at(stco, 12);
+    let part = after(stco, 16);
+    let mut t = part;
+    let mut c = ready(stsc, chunks, start_cursor());
+    let mut begin: u32 = 0;
+    while c.remaining != 0 {
+        let end = further(begin, c.per);
+        let base = word_at(t, 0) as u64;
+        let bytes = bytes_between(stsz, begin, end);
+        if limit < base + bytes {
+            return false;
+        }
+        c = ready(stsc, chunks, pass(c, 1));
+        begin = end;
+        let others = after(t, 4);
+        t = others;
+    }
+    true
+}

@@ -1,0 +1,4 @@
+pub mod Film
+pub mod Sentences
+pub mod Signs
+pub mod Turns

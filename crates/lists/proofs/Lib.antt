@@ -1,0 +1,5 @@
+pub mod Cuts
+pub mod Laws
+pub mod Places
+pub mod Rows
+pub mod Totals

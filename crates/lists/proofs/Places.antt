@@ -1,0 +1,119 @@
+-- Each number below the sum of the widths is held by exactly one of them; the parts of a stretch add up to its length; sums cut at a start add up.
+-- Assumes nothing.
+use Prim.Native.Nat.{ℕ, zero, suc, _+_, _-_, _≤_, _<_, min, max}
+use mathlib.Core.Path.{_≡_, refl, sym, ap, _∙_}
+use mathlib.Core.List.{List, [], _∷_}
+use native.Mathlib.Nat.{zero-add}
+use native.Mathlib.Omega.{arith}
+use native.Mathlib.Decide.{decLe, decLt}
+use lib.ListN.{length, getD}
+use lib.Seq.{take-add, drop-drop}
+use borrow.Author.Tests.{lt-ltb, le-ltb, le-leb, lt-leb}
+use Rattle.lists.specs.Lists.{sum, before, between, holder, Holds, inside, part, parts}
+use Rattle.lists.proofs.Laws.{holder-hit, holder-miss, sum-append}
+
+pub before-suc : (ds : List ℕ) (i : ℕ) → before ds (suc i) ≡ before ds i + getD ds i 0
+before-suc [] zero = refl
+before-suc [] (suc i) = refl
+before-suc (d ∷ ds) zero = omega arith
+before-suc (d ∷ ds) (suc i) = omega (arith, before-suc ds i)
+
+pub before-le : (ds : List ℕ) (i : ℕ) → before ds i ≤ sum ds
+before-le ds zero = omega arith
+before-le [] (suc i) = omega arith
+before-le (d ∷ ds) (suc i) = omega (arith, before-le ds i)
+
+pub past-end : (ds : List ℕ) (i : ℕ) → length ds ≤ i → getD ds i 0 ≡ 0
+past-end [] i h = refl
+past-end (d ∷ ds) zero h = absurd (omega arith)
+past-end (d ∷ ds) (suc i) h = past-end ds i (omega arith)
+
+-- whatever holds t is a width of the list, and t is below their sum
+pub holds-below : (ds : List ℕ) (t i : ℕ) → Holds ds t i → (t < sum ds) × (i < length ds)
+holds-below ds t i h = elim (decLt i (length ds)) [
+  | yes l ↦ (omega (arith, before-suc ds i, before-le ds (suc i)), l)
+  | no l ↦ let z : getD ds i 0 ≡ 0 = past-end ds i (omega arith) in absurd (omega arith)
+]
+
+-- the width that holds t is found
+pub holder-holds : (ds : List ℕ) (t : ℕ) → t < sum ds → Holds ds t (holder ds t)
+holder-holds [] t h = absurd (omega arith)
+holder-holds (d ∷ ds) t h = elim (decLt t d) [
+  | yes l ↦ rw (holder-hit d ds t l) (record { from = omega arith; to = omega arith })
+  | no l ↦
+      let le : d ≤ t = omega arith in
+      let ih = holder-holds ds (t - d) (omega arith) in
+      rw (holder-miss d ds t le) (record { from = omega arith; to = omega arith })
+]
+
+-- and nothing else holds it
+pub holder-only : (ds : List ℕ) (t i : ℕ) → Holds ds t i → i ≡ holder ds t
+holder-only [] t i h = absurd (omega (arith, holds-below [] t i h))
+holder-only (d ∷ ds) t zero h = sym (holder-hit d ds t (omega arith))
+holder-only (d ∷ ds) t (suc i) h =
+    let le : d ≤ t = omega arith in
+    sym (holder-miss d ds t le ∙ ap suc (sym (holder-only ds (t - d) i (record { from = omega arith; to = omega arith }))))
+
+pub holder-mono : (ds : List ℕ) (t u : ℕ) → t ≤ u → holder ds t ≤ holder ds u
+holder-mono [] t u h = omega arith
+holder-mono (d ∷ ds) t u h = elim (decLt t d) [
+  | yes l ↦ omega (arith, holder-hit d ds t l)
+  | no l ↦
+      let le : d ≤ t = omega arith in
+      omega (arith, holder-miss d ds t le, holder-miss d ds u (omega arith), holder-mono ds (t - d) (u - d) (omega arith))
+]
+
+-- ---- parts of a stretch
+
+-- x, moved into the stretch
+clamp : ℕ → ℕ → ℕ → ℕ
+clamp a b x = min b (max a x)
+
+inside-eq : (a b s : ℕ) → a ≤ b → inside a b s + clamp a b s ≡ clamp a b (suc s)
+unfolding clamp
+inside-eq a b s h = elim (decLe a s) [
+  | yes l ↦ elim (decLt s b) [
+    | yes k ↦ rw (le-leb a s l, lt-ltb s b k) (omega arith)
+    | no k ↦ let q : b ≤ s = omega arith in rw (le-leb a s l, le-ltb s b q) (omega arith)
+  ]
+  | no l ↦ let q : s < a = omega arith in rw (lt-leb a s q) (omega arith)
+]
+
+part-eq : (a b s d : ℕ) → a ≤ b → part a b s d + clamp a b s ≡ clamp a b (s + d)
+part-eq a b s zero h = let e : s ≡ s + 0 = omega arith in zero-add _ ∙ ap (clamp a b) e
+part-eq a b s (suc d) h =
+    let e : suc s + d ≡ s + suc d = omega arith in
+    omega (arith, inside-eq a b s h, part-eq a b (suc s) d h, ap (clamp a b) e)
+
+parts-eq : (a b s : ℕ) (ds : List ℕ) → a ≤ b → sum (parts a b s ds) + clamp a b s ≡ clamp a b (s + sum ds)
+parts-eq a b s [] h = let e : s ≡ s + 0 = omega arith in zero-add _ ∙ ap (clamp a b) e
+parts-eq a b s (d ∷ ds) h =
+    let e : s + d + sum ds ≡ s + (d + sum ds) = omega arith in
+    omega (arith, part-eq a b s d h, parts-eq a b (s + d) ds h, ap (clamp a b) e)
+
+pub parts-sum : (a b : ℕ) (ds : List ℕ) → a ≤ b → b ≤ sum ds → sum (parts a b 0 ds) ≡ b - a
+unfolding clamp
+parts-sum a b ds h k = omega (arith, parts-eq a b 0 ds h)
+
+-- ---- sums cut in two
+
+pub between-split : (zs : List ℕ) (i m j : ℕ) → i ≤ m → m ≤ j → between zs i j ≡ between zs i m + between zs m j
+between-split zs i m j h k =
+    let e : j - i ≡ (m - i) + (j - m) = omega arith in
+    let f : i + (m - i) ≡ m = omega arith in
+    rw (e, take-add, sum-append, drop-drop, f)
+
+-- the sizes of all samples from the one at a to the one at b - 1
+abbrev pub bytesIn : List ℕ → List ℕ → ℕ → ℕ → ℕ
+bytesIn ds zs a b = between zs (holder ds a) (holder ds (b - 1) + 1)
+
+-- a stretch cut at the start of a sample strictly inside, no sample having zero duration
+pub cut : (ds zs : List ℕ) (a b m : ℕ) → ((i : ℕ) → i < length ds → 0 < getD ds i 0) → m < length ds → a < before ds m → before ds m < b →
+    bytesIn ds zs a b ≡ bytesIn ds zs a (before ds m) + bytesIn ds zs (before ds m) b
+cut ds zs a b zero pos few l k = absurd (omega arith)
+cut ds zs a b (suc m) pos few l k =
+    let c = before ds (suc m) in
+    let here : suc m ≡ holder ds c = holder-only ds c (suc m) (record { from = omega arith; to = omega (arith, pos (suc m) few) }) in
+    let last : m ≡ holder ds (c - 1) = holder-only ds (c - 1) m (record { from = omega (arith, before-suc ds m, pos m (omega arith)); to = omega (arith, before-suc ds m) }) in
+    let e : holder ds (c - 1) + 1 ≡ holder ds c = omega arith in
+    rw e (between-split zs (holder ds a) (holder ds c) (holder ds (b - 1) + 1) (holder-mono ds a c (omega arith)) (omega (arith, holder-mono ds c (b - 1) (omega arith))))

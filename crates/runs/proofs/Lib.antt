@@ -1,0 +1,4 @@
+pub mod Leasts
+pub mod Sentences
+pub mod Sums
+pub mod Turns

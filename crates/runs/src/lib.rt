@@ -1,0 +1,164 @@
+// Tables of runs, stts and ctts, read as they stand in the file: one pass each, never expanded. A sample is named by its index from 0.
+use bigendian::after;
+use bigendian::i32_at;
+use bigendian::u32_at;
+use lists::Total;
+ghost use mathlib.Core.Path.{_≡_};
+ghost use Prim.Native.Nat.{_<_, _^_};
+ghost use lib.ListN.{length, replicate};
+ghost use lib.Signed.{mag};
+ghost use Rattle.lists.specs.Lists.{sum};
+ghost use Rattle.lists.specs.Totals.{totalOf};
+ghost use Rattle.runs.specs.Runs.{runsOf, durations, offsetAt, counting, sampleAt, timingOf, lesserOf, leastOf};
+
+// Whether no entry counts 0 samples and all of them total `samples`.
+pub fn counts(table: &[u8], samples: u32) -> bool
+    ensures { λ r. ⌜ r ≡ counting samples (runsOf (now (table .entry))) ⌝ }
+{
+    let part = after(table, 16);
+    let mut t = part;
+    let mut rest = samples;
+    while 8 <= t.len() {
+        let count = u32_at(t, 0);
+        if count == 0 {
+            return false;
+        }
+        if rest < count {
+            return false;
+        }
+        rest -= count;
+        t = &t[8..];
+    }
+    rest == 0
+}
+
+// The sum of the durations.
+pub fn total_duration(stts: &[u8]) -> Total
+    ensures { λ r. ⌜ r ≡ totalOf (sum (durations (now (stts .entry)))) ⌝ }
+{
+    let part = after(stts, 16);
+    let mut t = part;
+    let mut total: u64 = 0;
+    while 8 <= t.len() {
+        let count = u32_at(t, 0) as u64;
+        let each = u32_at(t, 4) as u64;
+        total += count * each;
+        if 4294967295 < total {
+            return Total::Over;
+        }
+        t = &t[8..];
+    }
+    Total::Sum(total as u32)
+}
+
+// Where a media time falls.
+pub enum Found {
+    At(u64),
+    Outside,
+}
+
+// The sample whose media times hold t.
+pub fn sample_at(stts: &[u8], t: u32) -> Found
+    requires { ⌜ length (now stts) < 2 ^ 32 ⌝ }
+    ensures { λ r. ⌜ r ≡ sampleAt (durations (now (stts .entry))) t ⌝ }
+{
+    let part = after(stts, 16);
+    let mut s = part;
+    let mut passed: u64 = 0;
+    let mut rest = t as u64;
+    while 8 <= s.len() {
+        let count = u32_at(s, 0) as u64;
+        let each = u32_at(s, 4) as u64;
+        let span = count * each;
+        if rest < span {
+            return Found::At(passed + rest / each);
+        }
+        rest -= span;
+        passed += count;
+        s = &s[8..];
+    }
+    Found::Outside
+}
+
+// A sample's decode time and duration.
+pub struct Timing {
+    pub start: u64,
+    pub duration: u32,
+}
+
+// The times of the sample with an index; past the last sample the sum of all durations, and 0.
+pub fn timing_of(stts: &[u8], index: u32) -> Timing
+    ensures { λ r. ⌜ r ≡ timingOf (durations (now (stts .entry))) index ⌝ }
+{
+    let part = after(stts, 16);
+    let mut t = part;
+    let mut skip = index as u64;
+    let mut start: u64 = 0;
+    while 8 <= t.len() {
+        let count = u32_at(t, 0) as u64;
+        let each = u32_at(t, 4);
+        if skip < count {
+            return Timing {
+                start: start + skip * (each as u64),
+                duration: each,
+            };
+        }
+        start += count * (each as u64);
+        skip -= count;
+        t = &t[8..];
+    }
+    Timing { start, duration: 0 }
+}
+
+// The composition offset of the sample with an index: 0 past the last, and without ctts. The bound follows from the
+// equation; callers add the offset to a decode time and need it.
+pub fn offset_at(ctts: &[u8], index: u32) -> i64
+    ensures { λ r. ⌜ (r ≡ offsetAt (now (ctts .entry)) index) × (mag r < 2 ^ 31) ⌝ }
+{
+    let part = after(ctts, 16);
+    let mut t = part;
+    let mut ahead = index;
+    while 8 <= t.len() {
+        let count = u32_at(t, 0);
+        if ahead < count {
+            return i32_at(t, 4);
+        }
+        ahead -= count;
+        t = &t[8..];
+    }
+    0
+}
+
+// The least of two numbers that is not 0; 0 where both are.
+fn lesser(a: u32, b: u32) -> u32
+    ensures { λ r. ⌜ r ≡ lesserOf a b ⌝ }
+{
+    if a == 0 {
+        return b;
+    }
+    if b == 0 {
+        return a;
+    }
+    if a < b { a } else { b }
+}
+
+// The least duration of a run that is not 0; a run of no samples has none.
+fn told(count: u32, each: u32) -> u32
+    ensures { λ r. ⌜ r ≡ leastOf (replicate count each) ⌝ }
+{
+    if count == 0 { 0 } else { each }
+}
+
+// The least duration that is not 0; 0 where there is none.
+pub fn least_duration(stts: &[u8]) -> u32
+    ensures { λ r. ⌜ r ≡ leastOf (durations (now (stts .entry))) ⌝ }
+{
+    let part = after(stts, 16);
+    let mut t = part;
+    let mut least: u32 = 0;
+    while 8 <= t.len() {
+        least = lesser(least, told(u32_at(t, 0), u32_at(t, 4)));
+        t = &t[8..];
+    }
+    least
+}

@@ -1,0 +1,110 @@
+-- `track::timed_refusal` meets its contract: each test is the condition of a row.
+-- Assumes nothing.
+use borrow.Author.Needs.{needs}
+use mathlib.Core.Bool.{not}
+use mathlib.Core.List.{List}
+use Prim.Native.Nat.{ℕ}
+use Rattle.structure.specs.Track.{elstOf}
+use Rattle.track.specs.Refusals.{beyond, wrongEdits}
+use mathlib.Core.Path.{_≡_, sym, ap, _∙_}
+use native.Mathlib.Omega.{arith}
+use denote.Ref.{now}
+use lib.Dec.{ltb}
+use lib.ListN.{length}
+use Rattle.atoms.specs.Kinds.{stsz}
+use Rattle.structure.proofs.Lengths.{table-short}
+use Rattle.edits.specs.Edits.{editTotal}
+use Rattle.track.proofs.Rows.{timed-10, timed-11, timed-12, timed-13, timed-0, beyond-by, wrong-by}
+use Rattle.track.proofs.timed_refusal.Statement.{statement}
+use Rattle.track.proofs.timed_refusal.Tie as tie
+
+-- whether the edits are too long
+over : (c : tie.After-is-over) → ltb 4294967295 (editTotal (elstOf (now (c .before .before .before .args .trak)))) ≡ c .is-over .result
+over c = sym (c .is-over .ensures ∙ ap (λ (l : List ℕ). ltb 4294967295 (editTotal l)) (c .before .edit-list .ensures))
+
+-- whether a chunk passes the file's end
+ends : (c : tie.After-chunks-end-within) → beyond (c .before .before .before .before .before .before .before .before .before .before .args .len) (now (c .before .before .before .before .before .before .before .before .before .before .args .trak)) ≡ not (c .chunks-end-within .result)
+ends c = sym (beyond-by _ _ _ _ _ _ (c .before .before .table2 .ensures) (c .before .before .before .table .ensures) (c .before .table3 .ensures) (c .chunks-end-within .ensures))
+
+-- whether the edit list is wrong
+shows : (c : tie.After-edits-ok) → wrongEdits (c .before .before .before .before .before .before .before .before .before .before .before .before .before .args .movie) (now (c .before .before .before .before .before .before .before .before .before .before .before .before .before .args .trak)) ≡ not (c .edits-ok .result)
+shows c = sym (wrong-by _ _ _ _ _ _ (c .before .before .before .before .before .before .before .before .before .before .before .edit-list .ensures) (c .before .media-scale .ensures) (c .before .before .before .before .before .before .before .before .before .before .before .before .before .pre .0) (c .edits-ok .ensures))
+
+edit-list-requires : tie.Need-edit-list-requires
+edit-list-requires c κs = search needs
+
+is-over-requires : tie.Need-is-over-requires
+is-over-requires c κs = search needs
+
+returns : tie.Need-returns
+returns c =
+    let s = c .before .before .before .before in
+    sym (timed-10 _ _ _ _ (s .pre .0) (s .fits .total .fits) (over (c .before) ∙ c .if1 .taken))
+
+stored-duration-requires : tie.Need-stored-duration-requires
+stored-duration-requires c κs = search needs
+
+returns-2 : tie.Need-returns-2
+returns-2 c =
+    let s = c .before .before .before .before .before .before in
+    sym (timed-11 _ _ _ _ (s .pre .0) (s .fits .total .fits) (over (c .before .before .before) ∙ c .before .before .if1 .left) (λ e. c .if2 .taken (c .before .stored-duration .ensures ∙ e)))
+
+table-requires : tie.Need-table-requires
+table-requires c κs = search needs
+
+table-requires-2 : tie.Need-table-requires-2
+table-requires-2 c κs = search needs
+
+table-requires-3 : tie.Need-table-requires-3
+table-requires-3 c κs = search needs
+
+chunks-end-within-requires : tie.Need-chunks-end-within-requires
+chunks-end-within-requires c κs =
+    let s = c .before .before .before .before .before .before .before .before .before in
+    omega (arith, ap length (c .before .before .table .ensures), table-short stsz (now (s .args .trak)), s .pre)
+
+returns-3 : tie.Need-returns-3
+returns-3 c =
+    let e = c .before in
+    let d = e .before .before .before .before in
+    let s = d .before .before .before .before .before .before in
+    sym (timed-12 _ _ _ _ (s .pre .0) (s .fits .total .fits) (over (d .before .before .before) ∙ d .before .before .if1 .left) (sym (d .before .stored-duration .ensures) ∙ d .if2 .left) (ends e ∙ c .if3 .taken))
+
+media-scale-requires : tie.Need-media-scale-requires
+media-scale-requires c κs = search needs
+
+edits-ok-requires : tie.Need-edits-ok-requires
+edits-ok-requires c κs = search needs
+
+returns-4 : tie.Need-returns-4
+returns-4 c =
+    let e = c .before .before .before .before in
+    let d = e .before .before .before .before in
+    let s = d .before .before .before .before .before .before in
+    sym (timed-13 _ _ _ _ (s .pre .0) (s .fits .total .fits) (over (d .before .before .before) ∙ d .before .before .if1 .left) (sym (d .before .stored-duration .ensures) ∙ d .if2 .left) (ends e ∙ c .before .before .before .if3 .left) (shows (c .before) ∙ c .if4 .taken))
+
+returns-5 : tie.Need-returns-5
+returns-5 c =
+    let e = c .before .before .before .before in
+    let d = e .before .before .before .before in
+    let s = d .before .before .before .before .before .before in
+    sym (timed-0 _ _ _ _ (s .pre .0) (s .fits .total .fits) (over (d .before .before .before) ∙ d .before .before .if1 .left) (sym (d .before .stored-duration .ensures) ∙ d .if2 .left) (ends e ∙ c .before .before .before .if3 .left) (shows (c .before) ∙ c .if4 .left))
+
+pub timed-refusal-spec : {M : Type 1} → statement M
+timed-refusal-spec =
+    tie.close
+    (tie.spec
+    edit-list-requires
+    is-over-requires
+    returns
+    stored-duration-requires
+    returns-2
+    table-requires
+    table-requires-2
+    table-requires-3
+    chunks-end-within-requires
+    returns-3
+    media-scale-requires
+    edits-ok-requires
+    returns-4
+    returns-5)

@@ -1,0 +1,67 @@
+-- The refusals of a track, 7 to 13, each a condition on the body t of its trak with the paper's words beside it.
+use Prim.Native.Nat.{ℕ}
+use mathlib.Core.List.{List, [], _∷_}
+use mathlib.Core.Bool.{Bool, false, not, _&&_, _||_}
+use lib.ListN.{length}
+use lib.Dec.{ltb, eqb}
+use Rattle.atoms.specs.Kinds.{stts, ctts, stsc, stsz, stco, stss}
+use Rattle.structure.specs.Track.{idOf, scaleOf, durationOf, tableOf, elstOf, samplesOf, chunksOf, descriptionsOf}
+use Rattle.structure.specs.Rows.{Row, row, never}
+use Rattle.lists.specs.Lists.{sum, Run}
+use Rattle.runs.specs.Runs.{runsOf, durations}
+use Rattle.words.specs.Words.{sizes, chunkOffsets, syncsAgree}
+use Rattle.chunks.specs.Chunks.{perChunk, dealsContradict, endWithin}
+use Rattle.edits.specs.Edits.{editTotal, editsOk}
+
+abbrev pub anyEmpty : List Run → Bool
+anyEmpty [] = false
+anyEmpty (r ∷ rs) = eqb (r .count) 0 || anyEmpty rs
+
+-- "an stts or ctts entry counts 0 samples"; "stts, or a present ctts, doesn't total N": of one of the two tables
+unfoldable pub miscounted : ℕ → List ℕ → Bool
+miscounted n s = anyEmpty (runsOf s) || not (eqb n (length (durations s)))
+
+-- 9: "sample tables contradict each other", with N samples from stsz and C chunks from stco
+unfoldable pub contradicts : List ℕ → Bool
+contradicts t =
+    miscounted (samplesOf t) (tableOf stts t)
+    -- "a present ctts"
+    || ((not (eqb (length (tableOf ctts t)) 0) && miscounted (samplesOf t) (tableOf ctts t))
+    -- "C is 0 with .. N not 0"
+    || ((eqb (chunksOf t) 0 && not (eqb (samplesOf t) 0))
+    -- "C is 0 with stsc not empty"; "C is above 0 and stsc is empty, doesn't start at chunk 1, isn't strictly rising, or passes C"; "an entry has 0 samples per
+    -- chunk"; "an ID is 0 or above the number of descriptions": each a clause of `dealsContradict`
+    || (dealsContradict (tableOf stsc t) (chunksOf t) (descriptionsOf t)
+    -- "samples dealt to the C chunks don't total N"
+    || (not (eqb (sum (perChunk (tableOf stsc t) (chunksOf t))) (samplesOf t))
+    -- "stss isn't strictly rising within 1 to N"
+    || not (syncsAgree (tableOf stss t) (samplesOf t))))))
+
+-- "the total of the sample durations"
+unfoldable pub totalIn : List ℕ → ℕ
+totalIn t = sum (durations (tableOf stts t))
+
+-- 10: "the sample durations, or a track's edit durations, total over 4,294,967,295"
+unfoldable pub tooLong : List ℕ → Bool
+tooLong t = ltb 4294967295 (totalIn t) || ltb 4294967295 (editTotal (elstOf t))
+
+-- 11: "the mdhd duration is not the total of the sample durations"
+unfoldable pub otherDuration : List ℕ → Bool
+otherDuration t = not (eqb (durationOf t) (totalIn t))
+
+-- 12: "a chunk's offset plus the sizes of its samples passes the file's end"
+unfoldable pub beyond : ℕ → List ℕ → Bool
+beyond len t = not (endWithin len (perChunk (tableOf stsc t) (chunksOf t)) (chunkOffsets (tableOf stco t)) (sizes (tableOf stsz t)))
+
+-- 13: "an edit list is wrong"
+unfoldable pub wrongEdits : ℕ → List ℕ → Bool
+wrongEdits movie t = not (editsOk (scaleOf t) movie (totalIn t) (elstOf t))
+
+-- the rows from 10 on, and from 7 on, for a movie of that time scale in a file of that length. What 7 and 8 say of the movie is the movie's to add: an ID that
+-- occurs twice, and the movie's own scale
+unfoldable pub timedRows : ℕ → ℕ → List Row
+timedRows movie len = row 10 never tooLong ∷ row 11 never otherDuration ∷ row 12 never (beyond len) ∷ row 13 never (wrongEdits movie) ∷ []
+
+-- 7: "a track ID is 0"; 8: "a .. media time scale is 0"
+unfoldable pub trackRows : ℕ → ℕ → List Row
+trackRows movie len = row 7 never (λ t. eqb (idOf t) 0) ∷ row 8 never (λ t. eqb (scaleOf t) 0) ∷ row 9 never contradicts ∷ timedRows movie len

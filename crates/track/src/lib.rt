@@ -1,0 +1,127 @@
+// The refusals of a track, 7 to 13, from the body of its trak.
+use atoms::kinds;
+use bigendian::u32_at;
+use chunks::chunks_end_within;
+use chunks::deals_agree;
+use chunks::total_dealt;
+use edits::edits_ok;
+use edits::edits_total;
+use lists::Total;
+use runs::counts;
+use runs::total_duration;
+use structure::track::edit_list;
+use structure::track::media_scale;
+use structure::track::stored_duration;
+use structure::track::table;
+use structure::track::track_id;
+use words::syncs_agree;
+ghost use mathlib.Core.Path.{_≡_};
+ghost use mathlib.Core.Bool.{_&&_, _||_};
+ghost use Prim.Native.Nat.{_<_, _^_};
+ghost use lib.ListN.{length};
+ghost use lib.Dec.{ltb, eqb};
+ghost use Rattle.structure.specs.Rows.{ofTrack};
+ghost use Rattle.lists.specs.Lists.{sum};
+ghost use Rattle.chunks.specs.Chunks.{perChunk};
+ghost use Rattle.runs.specs.Runs.{runsOf, counting};
+ghost use Rattle.edits.specs.Edits.{editTotal};
+ghost use Rattle.track.specs.Refusals.{contradicts, totalIn, timedRows, trackRows};
+
+// `&&` of two answers that are both had: code without a branch is shorter to prove.
+fn both(a: bool, b: bool) -> bool
+    ensures { λ r. ⌜ r ≡ (a && b) ⌝ }
+{
+    a && b
+}
+
+// Whether ctts counts the samples; without one nothing is asked.
+fn may_count(ctts: &[u8], samples: u32) -> bool
+    ensures { λ r. ⌜ r ≡ (eqb (length (now (ctts .entry))) 0 || counting samples (runsOf (now (ctts .entry)))) ⌝ }
+{
+    if ctts.len() == 0 {
+        return true;
+    }
+    counts(ctts, samples)
+}
+
+// Whether the samples dealt to the chunks total that number.
+fn is_dealt(stsc: &[u8], chunks: u32, samples: u32) -> bool
+    ensures { λ r. ⌜ r ≡ eqb (sum (perChunk (now (stsc .entry)) chunks)) samples ⌝ }
+{
+    match total_dealt(stsc, chunks) {
+        Total::Sum(n) => n == samples,
+        Total::Over => false,
+    }
+}
+
+// Whether the sample tables contradict each other.
+fn is_contradictory(trak: &[u8]) -> bool
+    ensures { λ r. ⌜ r ≡ contradicts (now (trak .entry)) ⌝ }
+{
+    let samples = u32_at(table(trak, kinds::STSZ), 16);
+    let chunks = u32_at(table(trak, kinds::STCO), 12);
+    let descriptions = u32_at(table(trak, kinds::STSD), 12);
+    let stsc = table(trak, kinds::STSC);
+    let a = counts(table(trak, kinds::STTS), samples);
+    let b = both(a, may_count(table(trak, kinds::CTTS), samples));
+    let c = both(b, deals_agree(stsc, chunks, descriptions));
+    let d = both(c, is_dealt(stsc, chunks, samples));
+    !both(d, syncs_agree(table(trak, kinds::STSS), samples))
+}
+
+// Whether the edits' durations total over 4,294,967,295.
+fn is_over(elst: &[u8]) -> bool
+    ensures { λ r. ⌜ r ≡ ltb 4294967295 (editTotal (now (elst .entry))) ⌝ }
+{
+    match edits_total(elst) {
+        Total::Sum(_) => false,
+        Total::Over => true,
+    }
+}
+
+// 10 to 13, of a track whose durations total `total`.
+fn timed_refusal(trak: &[u8], movie: u32, len: u64, total: u32) -> u32
+    requires { ⌜ (total ≡ totalIn (now trak)) × (length (now trak) < 2 ^ 32) ⌝ }
+    ensures { λ r. ⌜ r ≡ ofTrack (timedRows movie len) (now (trak .entry)) ⌝ }
+{
+    let elst = edit_list(trak);
+    if is_over(elst) {
+        return 10;
+    }
+    if stored_duration(trak) != total {
+        return 11;
+    }
+    let stsz = table(trak, kinds::STSZ);
+    if !chunks_end_within(
+        table(trak, kinds::STSC),
+        stsz,
+        table(trak, kinds::STCO),
+        len,
+    ) {
+        return 12;
+    }
+    if !edits_ok(elst, media_scale(trak), movie, total) {
+        return 13;
+    }
+    0
+}
+
+// The lowest of 7 to 13 that applies to a track, in a movie of that time scale and a file of that length; 0 where none does.
+pub fn refusal(trak: &[u8], movie: u32, len: u64) -> u32
+    requires { ⌜ length (now trak) < 2 ^ 32 ⌝ }
+    ensures { λ r. ⌜ r ≡ ofTrack (trackRows movie len) (now (trak .entry)) ⌝ }
+{
+    if track_id(trak) == 0 {
+        return 7;
+    }
+    if media_scale(trak) == 0 {
+        return 8;
+    }
+    if is_contradictory(trak) {
+        return 9;
+    }
+    match total_duration(table(trak, kinds::STTS)) {
+        Total::Over => 10,
+        Total::Sum(total) => timed_refusal(trak, movie, len, total),
+    }
+}

@@ -1,0 +1,143 @@
+// Tables of 32-bit numbers, read as they stand in the file: stsz, stco and stss. A sample and a chunk are named by their index from 0, a sync sample
+// by its number from 1. Past the last entry a size and an offset are 0.
+use bigendian::after;
+use bigendian::u32_at;
+ghost use mathlib.Core.Path.{_≡_};
+ghost use Prim.Native.Nat.{_*_, _-_, _/_, _^_, _≤_, _<_, min};
+ghost use lib.ListN.{length, getD, take};
+ghost use Rattle.lists.specs.Lists.{sum, between};
+ghost use Rattle.words.specs.Words.{wordsIn, sizes, chunkOffsets, syncsAgree, isSync};
+
+// The first n bytes; all where there are fewer.
+fn front(s: &[u8], n: usize) -> &[u8]
+    ensures { λ r. ⌜ now r ≡ take n (now (s .entry)) ⌝ }
+{
+    if n <= s.len() {
+        return &s[..n];
+    }
+    s
+}
+
+// The number of a part with an index.
+pub fn word_at(part: &[u8], index: usize) -> u32
+    ensures { λ r. ⌜ r ≡ getD (wordsIn (now (part .entry))) index 0 ⌝ }
+{
+    if index < part.len() / 4 {
+        return u32_at(part, index * 4);
+    }
+    0
+}
+
+// All numbers of a part, added. It has so few that the sum fits.
+fn sum_words(part: &[u8]) -> u64
+    requires { ⌜ length (now part) ≤ 4294967295 * 4 ⌝ }
+    ensures { λ r. ⌜ (r ≡ sum (wordsIn (now (part .entry)))) × (r ≤ length (now (part .entry)) / 4 * 4294967295) ⌝ }
+{
+    let mut t = part;
+    let mut total: u64 = 0;
+    while 4 <= t.len() {
+        total += u32_at(t, 0) as u64;
+        t = &t[4..];
+    }
+    total
+}
+
+// How far it is from one index to another; 0 where that is not further on.
+pub fn span(from: u32, to: u32) -> u32
+    ensures { λ r. ⌜ r ≡ to - from ⌝ }
+{
+    if from < to { to - from } else { 0 }
+}
+
+fn smaller(a: u32, b: u32) -> u32
+    ensures { λ r. ⌜ r ≡ min a b ⌝ }
+{
+    if a < b { a } else { b }
+}
+
+// The numbers from one index up to, not including, another, added.
+fn listed_between(part: &[u8], from: u32, to: u32) -> u64
+    ensures { λ r. ⌜ (r ≡ between (wordsIn (now (part .entry))) from to) × (r ≤ (to - from) * 4294967295) ⌝ }
+{
+    let t = after(part, (from as usize) * 4);
+    let count = span(from, to);
+    sum_words(front(t, (count as usize) * 4))
+}
+
+// The size of a sample.
+pub fn size_of(stsz: &[u8], index: u32) -> u32
+    ensures { λ r. ⌜ r ≡ getD (sizes (now (stsz .entry))) index 0 ⌝ }
+{
+    let common = u32_at(stsz, 12);
+    if common == 0 {
+        return word_at(after(stsz, 20), index as usize);
+    }
+    if index < u32_at(stsz, 16) { common } else { 0 }
+}
+
+// The sizes of the samples from one index up to, not including, another, added. The bound follows from the equation; callers need it to add more.
+pub fn bytes_between(stsz: &[u8], from: u32, to: u32) -> u64
+    ensures { λ r. ⌜ (r ≡ between (sizes (now (stsz .entry))) from to) × (r ≤ (to - from) * 4294967295) ⌝ }
+{
+    let each = u32_at(stsz, 12);
+    if each == 0 {
+        return listed_between(after(stsz, 20), from, to);
+    }
+    let end = smaller(to, u32_at(stsz, 16));
+    span(from, end) as u64 * each as u64
+}
+
+// All sizes, added, in a table so short that the sum fits.
+pub fn all_bytes(stsz: &[u8]) -> u64
+    requires { ⌜ length (now stsz) < 2 ^ 32 ⌝ }
+    ensures { λ r. ⌜ (r ≡ sum (sizes (now (stsz .entry)))) × (r ≤ length (sizes (now (stsz .entry))) * 4294967295) ⌝ }
+{
+    let every = u32_at(stsz, 12);
+    if every == 0 {
+        return sum_words(after(stsz, 20));
+    }
+    u32_at(stsz, 16) as u64 * every as u64
+}
+
+// The offset of a chunk.
+pub fn chunk_offset(stco: &[u8], index: u64) -> u32
+    ensures { λ r. ⌜ r ≡ getD (chunkOffsets (now (stco .entry))) index 0 ⌝ }
+{
+    word_at(after(stco, 16), index as usize)
+}
+
+// Whether the numbers of stss rise strictly within 1 to the number of samples.
+pub fn syncs_agree(stss: &[u8], samples: u32) -> bool
+    ensures { λ r. ⌜ r ≡ syncsAgree (now (stss .entry)) samples ⌝ }
+{
+    let part = after(stss, 16);
+    let mut t = part;
+    let mut last: u32 = 0;
+    while 4 <= t.len() {
+        let number = u32_at(t, 0);
+        if number <= last {
+            return false;
+        }
+        last = number;
+        t = &t[4..];
+    }
+    last <= samples
+}
+
+// Whether a sample is sync: its number is listed, or there is no stss.
+pub fn is_sync(stss: &[u8], number: u32) -> bool
+    ensures { λ r. ⌜ r ≡ isSync (now (stss .entry)) number ⌝ }
+{
+    if stss.len() == 0 {
+        return true;
+    }
+    let part = after(stss, 16);
+    let mut t = part;
+    while 4 <= t.len() {
+        if u32_at(t, 0) == number {
+            return true;
+        }
+        t = &t[4..];
+    }
+    false
+}
