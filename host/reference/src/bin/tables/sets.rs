@@ -118,7 +118,11 @@ impl Sets {
         let (stts, stsc) = (vec![(24, 10)], vec![(1, 2, 2)]);
         self.put(0, "one-entry-for-twelve-chunks", Track { stts, stsc, stsz: each(24), ..base.clone() });
         let (stts, stsc) = (vec![(19, 10)], vec![(1, 1, 2), (2, 3, 1), (5, 1, 1), (11, 1, 2), (12, 2, 1)]);
-        self.put(0, "last-entry-for-one-chunk", Track { stts, stsc, stsz: each(19), ..base });
+        self.put(0, "last-entry-for-one-chunk", Track { stts, stsc, stsz: each(19), ..base.clone() });
+        let (stts, stsc, stco) = (vec![(8, 10)], vec![(1, 2, 1)], vec![10, 20, 30, 40]);
+        self.put(0, "last-chunk-ends-last", Track { stts, stsc, stsz: each(8), stco, ..w_track() });
+        let (stts, stsc, stco) = (vec![(4, 10)], vec![(1, 1, 2)], vec![10, 20, 30, 40]);
+        self.put(0, "id-above-the-samples-of-a-chunk", Track { stts, stsc, stsz: each(4), stco, ..base.clone() });
         self.put(0, "chunks-of-one-offset", Track { stco: vec![7, 7], ..w_track() });
     }
 
@@ -150,6 +154,7 @@ impl Sets {
         self.put(9, "samples-without-chunks", Track { stco: vec![], ..dealt(&[]) });
         self.put(9, "dealt-3-of-4", dealt(&[(1, 2, 1), (2, 1, 1)]));
         self.put(9, "dealt-5-of-4", dealt(&[(1, 3, 1), (2, 2, 1)]));
+        self.put(9, "dealt-4294967295", dealt(&[(1, 2147483648, 1), (2, 2147483647, 1)]));
         self.put(9, "dealt-4294967296", dealt(&[(1, 2147483648, 1)]));
         self.put(9, "dealt-2-32-and-4", dealt(&[(1, 4294967295, 1), (2, 5, 1)]));
     }
