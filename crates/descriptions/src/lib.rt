@@ -1,24 +1,11 @@
 // The sample descriptions of an stsd, and the greatest picture that they describe.
 use bigendian::after;
 use bigendian::u16_at;
-use bigendian::u32_at;
+use leaves::entry_size;
 ghost use mathlib.Core.Path.{_≡_};
-ghost use Prim.Native.Nat.{_≤_, max};
+ghost use Prim.Native.Nat.{max};
 ghost use lib.ListN.{length};
-ghost use Rattle.leaves.specs.Leaves.{sizeEntry};
 ghost use Rattle.descriptions.specs.Descriptions.{descriptions, pictureSize};
-
-// The size of the description that s begins with; 0 where it is below `least` or passes the end.
-fn description_size(s: &[u8], least: usize) -> usize
-    ensures { λ r. ⌜ r ≡ sizeEntry least (now (s .entry)) ⌝ }
-    ensures { λ r. ⌜ r ≤ length (now (s .entry)) ⌝ }
-{
-    let z = u32_at(s, 0) as usize;
-    if z < least {
-        return 0;
-    }
-    if z <= s.len() { z } else { 0 }
-}
 
 fn larger(a: u16, b: u16) -> u16
     ensures { λ r. ⌜ r ≡ max a b ⌝ }
@@ -34,7 +21,7 @@ pub fn description_count(stsd: &[u8], least: usize) -> usize
     let mut t = part;
     let mut count: usize = 0;
     loop {
-        let z = description_size(t, least);
+        let z = entry_size(t, least);
         if z == 0 {
             return count;
         }
@@ -58,7 +45,7 @@ pub fn greatest_size(stsd: &[u8]) -> PictureSize
     let mut width: u16 = 0;
     let mut height: u16 = 0;
     loop {
-        let z = description_size(t, 36);
+        let z = entry_size(t, 36);
         if z == 0 {
             return PictureSize { width, height };
         }

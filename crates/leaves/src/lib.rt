@@ -86,7 +86,7 @@ pub fn holds_entries(atom: &[u8], head: u32, width: u32, n: u32) -> bool
 }
 
 // The size of the entry that s begins with; 0 where it is below `least` or passes the end.
-fn entry_size(s: &[u8], least: usize) -> usize
+pub fn entry_size(s: &[u8], least: usize) -> usize
     ensures { λ r. ⌜ r ≡ sizeEntry least (now (s .entry)) ⌝ }
     ensures { λ r. ⌜ r ≤ length (now (s .entry)) ⌝ }
 {

@@ -18,7 +18,7 @@ fn at_most_one(body: &[u8], parent: u32, kind: u32) -> bool
 }
 
 // `&&` of two answers that are both had: code without a branch is shorter to prove.
-fn both(a: bool, b: bool) -> bool
+pub fn both(a: bool, b: bool) -> bool
     ensures { λ r. ⌜ r ≡ (a && b) ⌝ }
 {
     a && b

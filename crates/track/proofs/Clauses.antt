@@ -14,6 +14,7 @@ use Rattle.runs.specs.Runs.{runsOf, durations, counting}
 use Rattle.words.specs.Words.{syncsAgree}
 use Rattle.chunks.specs.Chunks.{Deal, deals, dealt, perChunk, dealsAgree, dealsContradict, isEmpty}
 use Rattle.chunks.proofs.Clauses.{agree-clauses}
+use Rattle.atoms.proofs.Laws.{and-left, and-right}
 use Rattle.atoms.specs.Kinds.{stts, ctts, stsc, stsz, stco, stss, stsd}
 use Rattle.bigendian.specs.BigEndian.{u32At}
 use Rattle.structure.specs.Track.{tableOf, samplesOf, chunksOf, descriptionsOf}
@@ -60,14 +61,6 @@ counts-clauses n s = counting-runs n (runsOf s) ∙ sym (not-or (anyEmpty (runsO
 
 -- ---- no chunks and some samples
 
-and-first : (x y : Bool) → (x && y) ≡ true → x ≡ true
-and-first true y e = refl
-and-first false y e = e
-
-and-second : (x y : Bool) → (x && y) ≡ true → y ≡ true
-and-second true y e = e
-and-second false y e = absurd (let z : _≡_ {A = ℕ} 0 1 = cc in omega arith)
-
 no-deals : (ds : List Deal) → not (isEmpty ds) ≡ false → ds ≡ []
 no-deals [] e = refl
 no-deals (d ∷ ds) e = absurd (let z : _≡_ {A = ℕ} 0 1 = cc in omega arith)
@@ -83,10 +76,10 @@ unfolding dealsContradict perChunk
 none-dealt s chunks descriptions samples e = go (deals s) refl
   where
     none : eqb chunks 0 ≡ true
-    none = and-first (eqb chunks 0) (not (eqb samples 0)) e
+    none = and-left (eqb chunks 0) (not (eqb samples 0)) e
 
     some : eqb samples 0 ≡ false
-    some = not-true (eqb samples 0) (and-second (eqb chunks 0) (not (eqb samples 0)) e)
+    some = not-true (eqb samples 0) (and-right (eqb chunks 0) (not (eqb samples 0)) e)
 
     go : (ds : List Deal) → deals s ≡ ds → (dealsContradict s chunks descriptions || not (eqb (sum (dealt (λ x. x .per) chunks (deals s))) samples)) ≡ true
     go [] q = or-second (dealsContradict s chunks descriptions) (not (eqb (sum (dealt (λ x. x .per) chunks (deals s))) samples)) (rw (q, ne-eqb 0 samples (λ z. eqb-false samples 0 some (sym z))))

@@ -1,11 +1,14 @@
 -- A track as plain lists, one number for each sample or chunk, from the body of its trak.
-use Prim.Native.Nat.{ℕ}
-use mathlib.Core.List.{List}
+use Prim.Native.Nat.{ℕ, suc}
+use mathlib.Core.Bool.{Bool}
+use mathlib.Core.List.{List, map}
+use lib.IntN.{ℤ}
 use Rattle.atoms.specs.Kinds.{stts, ctts, stsc, stsz, stco, stss, stsd}
 use Rattle.descriptions.specs.Descriptions.{descriptions}
-use Rattle.structure.specs.Track.{idOf, subtypeOf, scaleOf, durationOf, tableOf, elstOf, profileOf, chunksOf}
-use Rattle.runs.specs.Runs.{durations}
-use Rattle.words.specs.Words.{sizes, chunkOffsets}
+use Rattle.structure.specs.Track.{idOf, subtypeOf, scaleOf, durationOf, tableOf, elstOf, profileOf, samplesOf, chunksOf}
+use Rattle.lists.specs.Lists.{upTo}
+use Rattle.runs.specs.Runs.{durations, offsetAt}
+use Rattle.words.specs.Words.{sizes, chunkOffsets, isSync}
 use Rattle.chunks.specs.Chunks.{perChunk, descriptionIds}
 use Rattle.edits.specs.Edits.{edits}
 use Rattle.edits.specs.declared.Edit.{Edit}
@@ -16,12 +19,11 @@ pub record Track : Type 0 where
   pub scale : ℕ
   -- the duration that mdhd states
   pub storedDuration : ℕ
-  -- for each sample: its duration; its composition offset, as 32 bits, none without ctts; its size
+  -- for each sample: its duration; its signed composition offset, 0 without ctts; its size; whether it is sync
   pub durations : List ℕ
-  pub offsets : List ℕ
+  pub offsets : List ℤ
   pub sizes : List ℕ
-  -- stss, empty where it is absent: whether a sample is sync is asked of it
-  pub syncTable : List ℕ
+  pub syncs : List Bool
   -- for each chunk: how many samples, its description ID, its offset
   pub perChunk : List ℕ
   pub descriptionIds : List ℕ
@@ -41,9 +43,9 @@ trackOf t =
       scale = scaleOf t;
       storedDuration = durationOf t;
       durations = durations (tableOf stts t);
-      offsets = durations (tableOf ctts t);
+      offsets = map (λ i. offsetAt (tableOf ctts t) i) (upTo (samplesOf t));
       sizes = sizes (tableOf stsz t);
-      syncTable = tableOf stss t;
+      syncs = map (λ i. isSync (tableOf stss t) (suc i)) (upTo (samplesOf t));
       perChunk = perChunk (tableOf stsc t) (chunksOf t);
       descriptionIds = descriptionIds (tableOf stsc t) (chunksOf t);
       chunkOffsets = chunkOffsets (tableOf stco t);

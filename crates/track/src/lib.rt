@@ -6,6 +6,7 @@ use chunks::deals_agree;
 use chunks::total_dealt;
 use edits::edits_ok;
 use edits::edits_total;
+use leaves::present::both;
 use lists::Total;
 use runs::counts;
 use runs::total_duration;
@@ -16,7 +17,7 @@ use structure::track::table;
 use structure::track::track_id;
 use words::syncs_agree;
 ghost use mathlib.Core.Path.{_≡_};
-ghost use mathlib.Core.Bool.{_&&_, _||_};
+ghost use mathlib.Core.Bool.{_||_};
 ghost use Prim.Native.Nat.{_<_, _^_};
 ghost use lib.ListN.{length};
 ghost use lib.Dec.{ltb, eqb};
@@ -26,13 +27,6 @@ ghost use Rattle.chunks.specs.Chunks.{perChunk};
 ghost use Rattle.runs.specs.Runs.{runsOf, counting};
 ghost use Rattle.edits.specs.Edits.{editTotal};
 ghost use Rattle.track.specs.Refusals.{contradicts, totalIn, timedRows, trackRows};
-
-// `&&` of two answers that are both had: code without a branch is shorter to prove.
-fn both(a: bool, b: bool) -> bool
-    ensures { λ r. ⌜ r ≡ (a && b) ⌝ }
-{
-    a && b
-}
 
 // Whether ctts counts the samples; without one nothing is asked.
 fn may_count(ctts: &[u8], samples: u32) -> bool

@@ -30,14 +30,14 @@ loop-holds c =
     let e = c .after .ensures in
     (omega (arith, ap (λ t. length (pieces (sizeEntry (a .least)) t)) e), omega (arith, ap length e, length-drop 16 (now (a .stsd))))
 
-description-size-requires : tie.Need-description-size-requires Inv-loop μ-loop
-description-size-requires c κs = tt
+entry-size-requires : tie.Need-entry-size-requires Inv-loop μ-loop
+entry-size-requires c κs = tt
 
 returns : tie.Need-returns Inv-loop μ-loop
 returns c =
     let a = c .before .before .before .before .before .args in
     let l = c .before .before .loop in
-    omega (arith, l .inv .0, count-none (sizeEntry (a .least)) (now (l .t)) (c .before .description-size .ensures .0) (c .if1 .taken))
+    omega (arith, l .inv .0, count-none (sizeEntry (a .least)) (now (l .t)) (c .before .entry-size .ensures .0) (c .if1 .taken))
 
 add-count : tie.Need-add-count Inv-loop μ-loop
 add-count c = search needs
@@ -54,14 +54,14 @@ part-t-end c = search needs
 loop-less : tie.Need-loop-less Inv-loop μ-loop
 loop-less c =
     let t = now (c .before .before .before .loop .t) in
-    let z = c .before .before .description-size .result in
+    let z = c .before .before .entry-size .result in
     rw (rest z t) (omega (arith, length-drop z t))
 
 loop-again : tie.Need-loop-again Inv-loop μ-loop
 loop-again c =
     let a = c .before .before .before .before .before .before .args in
     let l = c .before .before .before .loop in
-    let d = c .before .before .description-size in
+    let d = c .before .before .entry-size in
     let t = now (l .t) in
     rw (rest (d .result) t)
     (omega (arith, l .inv .0, count-next (sizeEntry (a .least)) t (d .ensures .0) (c .before .if1 .left) (d .ensures .1)), omega (arith, l .inv .1, length-drop (d .result) t))
@@ -74,7 +74,7 @@ description-count-spec =
     μ-loop
     after-requires
     loop-holds
-    description-size-requires
+    entry-size-requires
     returns
     add-count
     sub-t

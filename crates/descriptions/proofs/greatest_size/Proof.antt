@@ -32,20 +32,20 @@ loop-holds c =
     let e = c .after .ensures in
     (omega (arith, ap (λ t. greatest widthOf (pieces (sizeEntry 36) t)) e), omega (arith, ap (λ t. greatest heightOf (pieces (sizeEntry 36) t)) e))
 
-description-size-requires : tie.Need-description-size-requires Inv-loop μ-loop
-description-size-requires c κs = tt
+entry-size-requires : tie.Need-entry-size-requires Inv-loop μ-loop
+entry-size-requires c κs = tt
 
 returns : tie.Need-returns Inv-loop μ-loop
 unfolding pictureSize
 returns c =
     let l = c .before .before .loop in
-    let e = c .before .description-size .ensures .0 in
+    let e = c .before .entry-size .ensures .0 in
     let w = greatest-none _ (now (l .t)) e widthOf _ _ (c .if1 .taken) (l .inv .0) in
     let h = greatest-none _ (now (l .t)) e heightOf _ _ (c .if1 .taken) (l .inv .1) in
     λ i. record { width = w i; height = h i }
 
 slice-aggregate-d : tie.Need-slice-aggregate-d Inv-loop μ-loop
-slice-aggregate-d c = sym (length-take-le _ _ (c .before .before .description-size .ensures .1))
+slice-aggregate-d c = sym (length-take-le _ _ (c .before .before .entry-size .ensures .1))
 
 u16-at-requires : tie.Need-u16-at-requires Inv-loop μ-loop
 u16-at-requires c κs = tt
@@ -72,7 +72,7 @@ loop-less : tie.Need-loop-less Inv-loop μ-loop
 loop-less c =
     let k = c .before .before .before .before .before .before in
     let t = now (k .before .before .loop .t) in
-    let z = k .before .description-size .result in
+    let z = k .before .entry-size .result in
     rw (rest z t) (omega (arith, length-drop z t))
 
 loop-again : tie.Need-loop-again Inv-loop μ-loop
@@ -81,7 +81,7 @@ loop-again c =
     let a = b .before .before in
     let k = a .before .before .before in
     let l = k .before .before .loop in
-    let d = k .before .description-size in
+    let d = k .before .entry-size in
     let t = now (l .t) in
     let w = a .larger .ensures ∙ ap (max (l .width)) (a .before .u16-at .ensures) in
     let h = b .larger2 .ensures ∙ ap (max (l .height)) (b .before .u16-at2 .ensures) in
@@ -98,7 +98,7 @@ greatest-size-spec =
     μ-loop
     after-requires
     loop-holds
-    description-size-requires
+    entry-size-requires
     returns
     slice-aggregate-d
     u16-at-requires
