@@ -31,11 +31,11 @@ use Rattle.structure.proofs.Shaped.{Entered, MayEnter, Shaped, ShapedMo
 
 -- ---- a table of rows of which none holds
 
-or-left : (a b : Bool) → (a || b) ≡ false → a ≡ false
+pub or-left : (a b : Bool) → (a || b) ≡ false → a ≡ false
 or-left true b e = e
 or-left false b e = refl
 
-or-right : (a b : Bool) → (a || b) ≡ false → b ≡ false
+pub or-right : (a b : Bool) → (a || b) ≡ false → b ≡ false
 or-right true b e = let z : _≡_ {A = Bool} true false = e in cc
 or-right false b e = e
 
@@ -287,7 +287,7 @@ module _ (m : List ℕ) (P : everywhere present 5 moov m ≡ true) (e : movieRef
         tracks = track-shaped;
       }
 
-none-else : (a b : ℕ) → orElse a b ≡ 0 → (a ≡ 0) × (b ≡ 0)
+pub none-else : (a b : ℕ) → orElse a b ≡ 0 → (a ≡ 0) × (b ≡ 0)
 unfolding orElse
 none-else zero b e = (refl, e)
 none-else (suc a) b e = let z : suc a ≡ 0 = rw (eqb·suc-zero a) at e in absurd (omega arith)

@@ -1,0 +1,76 @@
+-- What holds of a file that is not refused, beyond its shape: no row of the table holds of its movie or of one of its tracks.
+-- Assumes nothing.
+use Prim.Native.Nat.{ℕ, _≤_}
+use mathlib.Core.Path.{_≡_, sym, _∙_}
+use mathlib.Core.List.{List, []}
+use mathlib.Core.Bool.{Bool, false, _||_}
+use lib.ListN.{length, getD}
+use lib.Dec.{eqb, ltb}
+use borrow.Author.Tests.{eqb-true, eqb-false, ltb-false, not-false}
+use Rattle.structure.specs.Rows.{Row, some}
+use Rattle.structure.specs.Track.{idOf, scaleOf, durationOf, elstOf}
+use Rattle.structure.specs.Movie.{moovOf, movieScale, tracksOf}
+use Rattle.structure.proofs.Shaped.{Shaped, ShapedMovie, ShapedFile}
+use Rattle.structure.proofs.Callers.{Clear, clear, some-none, shaped, none-else, or-left, or-right, Each, tracks-each}
+use Rattle.edits.specs.Edits.{editTotal}
+use Rattle.track.specs.Refusals.{contradicts, totalIn, tooLong, otherDuration, beyond, wrongEdits}
+use Rattle.movie.specs.Tracks.{idsOf, repeats}
+use Rattle.movie.specs.Refusals.{sameIds, idIsZero, movieScaleIsZero, scaleIsZero, fileRefusal, tableRows, tablesRefusal}
+use Rattle.movie.proofs.Tables.{file-is, table-rows-rise}
+
+-- a track of a movie of that time scale, in a file of that length
+pub record Accepted (scale len : ℕ) (t : List ℕ) : Type 0 where
+  pub shape : Shaped t
+  pub some-id : idOf t ≡ 0 → ⊥
+  pub some-scale : scaleOf t ≡ 0 → ⊥
+  pub agree : contradicts t ≡ false
+  pub total-fits : totalIn t ≤ 4294967295
+  pub edits-fit : editTotal (elstOf t) ≤ 4294967295
+  pub stored : durationOf t ≡ totalIn t
+  pub within : beyond len t ≡ false
+  pub edits : wrongEdits scale t ≡ false
+
+pub record AcceptedMovie (len : ℕ) (m : List ℕ) : Type 0 where
+  pub shape : ShapedMovie m
+  pub other-ids : repeats (idsOf m) ≡ false
+  pub some-scale : movieScale m ≡ 0 → ⊥
+  pub tracks : Each (Accepted (movieScale m) len) (tracksOf m)
+
+pub record AcceptedFile (s : List ℕ) : Type 0 where
+  pub shape : ShapedFile s
+  pub movie : AcceptedMovie (length s) (moovOf s)
+
+module _ (len : ℕ) (m : List ℕ) (shape : ShapedMovie m) (e : tablesRefusal len m ≡ 0) where
+  rows-clear : Clear (λ r. r .whole m || some (r .track) (tracksOf m)) (tableRows (movieScale m) len)
+  unfolding tablesRefusal
+  rows-clear = clear _ 6 (tableRows (movieScale m) len) (table-rows-rise (movieScale m) len) e
+
+  accepted-movie : AcceptedMovie len m
+  unfolding tableRows sameIds idIsZero movieScaleIsZero scaleIsZero tooLong otherDuration
+  accepted-movie =
+      let r = rows-clear in
+      record {
+        shape = shape;
+        other-ids = or-left _ _ (r .0);
+        some-scale = eqb-false _ _ (or-left _ _ (r .1 .0));
+        tracks = λ i h.
+            let t = getD (tracksOf m) i [] in
+            let long = some-none tooLong (tracksOf m) i (r .1 .1 .1 .0) h in
+            record {
+              shape = tracks-each m shape i h;
+              some-id = eqb-false _ _ (some-none idIsZero (tracksOf m) i (or-right (sameIds m) _ (r .0)) h);
+              some-scale = eqb-false _ _ (some-none scaleIsZero (tracksOf m) i (or-right (movieScaleIsZero m) _ (r .1 .0)) h);
+              agree = some-none contradicts (tracksOf m) i (r .1 .1 .0) h;
+              total-fits = ltb-false _ _ (or-left _ _ long);
+              edits-fit = ltb-false _ _ (or-right (ltb 4294967295 (totalIn t)) _ long);
+              stored = eqb-true _ _ (not-false _ (some-none otherDuration (tracksOf m) i (r .1 .1 .1 .1 .0) h));
+              within = some-none (beyond len) (tracksOf m) i (r .1 .1 .1 .1 .1 .0) h;
+              edits = some-none (wrongEdits (movieScale m)) (tracksOf m) i (r .1 .1 .1 .1 .1 .1 .0) h;
+            };
+      }
+
+pub accepted : (s : List ℕ) → fileRefusal s ≡ 0 → AcceptedFile s
+accepted s e =
+    let n = none-else _ _ (sym (file-is s) ∙ e) in
+    let h = shaped s (n .0) in
+    record { shape = h; movie = accepted-movie (length s) (moovOf s) (h .movie) (n .1) }

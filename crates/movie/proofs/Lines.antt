@@ -1,0 +1,55 @@
+-- The lines of the track list put one after the other: each turn stores the numbers of one track, and the rest follows.
+-- Assumes nothing.
+use Prim.Native.Nat.{ℕ, zero, suc, _+_, _*_, _≤_, _<_}
+use mathlib.Core.Path.{_≡_, refl, sym, ap, _∙_}
+use mathlib.Core.List.{List, [], _∷_, _++_}
+use native.Mathlib.Omega.{arith}
+use native.Mathlib.Nat.{add-zero, zero-add, add-suc, suc-add}
+use borrow.Author.Tests.{ltb-true}
+use lib.ListN.{length, set, drop, length-append}
+use lib.Seq.{sets, sets-eq}
+use Rattle.lists.specs.declared.Total.{Total}
+use Rattle.lists.specs.declared.Total.the-variants.{Over}
+use Rattle.lists.specs.Totals.{totalOf}
+use Rattle.track.specs.Refusals.{totalIn}
+use Rattle.track.proofs.Rows.{over-is}
+use Rattle.movie.specs.TrackList.{lineOf, linesOf, Fitting}
+
+-- a total that fits is not over
+pub not-over : (x : ℕ) (r : Total) → r ≡ totalOf x → r ≡ Over → x < 4294967296 → ⊥
+not-over x r is o h = let k = ltb-true 4294967295 x (over-is x r is o) in omega arith
+
+-- numbers stored in two goes
+pub sets-append : (xs ys l : List ℕ) (i : ℕ) → sets l i (xs ++ ys) ≡ sets (sets l i xs) (i + length xs) ys
+sets-append [] ys l i = ap (λ k. sets l k ys) (sym (add-zero i))
+sets-append (x ∷ xs) ys l i =
+    sets-append xs ys (set l i x) (suc i) ∙ ap (λ k. sets (sets (set l i x) (suc i) xs) k ys) (suc-add i (length xs) ∙ sym (add-suc i (length xs)))
+
+pub line-length : (t : List ℕ) → length (lineOf t) ≡ 7
+unfolding lineOf
+line-length t = refl
+
+pub lines-length : (ts : List (List ℕ)) → length (linesOf ts) ≡ 7 * length ts
+lines-length [] = refl
+lines-length (t ∷ ts) = omega (arith, length-append (lineOf t) (linesOf ts), line-length t, lines-length ts)
+
+-- ---- a turn, at a place whose tracks are b and the rest
+
+module _ (b : List ℕ) (ts rest : List (List ℕ)) (q : ts ≡ b ∷ rest) where
+  pub fits-here : Fitting ts → totalIn b < 4294967296
+  fits-here f = (rw q at f) .0
+
+  pub fits-rest : Fitting ts → Fitting rest
+  fits-rest f = (rw q at f) .1
+
+  pub room-here : (at k : ℕ) → at + 7 * length ts ≤ k → (at + 7 ≤ k) × (at + 7 + 7 * length rest ≤ k)
+  room-here at k h = let z : at + 7 * suc (length rest) ≤ k = rw q at h in (omega arith, omega arith)
+
+  pub turn : (room new line goal : List ℕ) (at : ℕ) → line ≡ lineOf b → new ≡ sets room at line → sets room at (linesOf ts) ≡ goal → sets new (at + 7) (linesOf rest) ≡ goal
+  turn room new line goal at e d h =
+      let z : sets room at (lineOf b ++ linesOf rest) ≡ goal = rw q at h in
+      rw (d, e) (sym (rw (line-length b) at (sets-append (lineOf b) (linesOf rest) room at)) ∙ z)
+
+-- all of them, in room for them all
+pub all-lines : (ts : List (List ℕ)) (room : List ℕ) → 7 * length ts ≤ length room → sets room 0 (linesOf ts) ≡ linesOf ts ++ drop (length (linesOf ts)) room
+all-lines ts room h = rw (zero-add) at (sets-eq (linesOf ts) room 0 (omega (arith, lines-length ts)))

@@ -1,0 +1,69 @@
+-- Rows 7 to 13 of the table: they follow those of the crate structure, and each track's own are those that the crate track judges.
+-- Assumes nothing.
+use Prim.Native.Nat.{ℕ, zero, suc, _<_, _^_}
+use mathlib.Core.Path.{_≡_, refl, sym, ap, _∙_}
+use mathlib.Core.List.{List, _++_}
+use mathlib.Core.Bool.{true, false}
+use lib.ListN.{length}
+use lib.Dec.{eqb, eqb·suc-zero}
+use native.Mathlib.Omega.{arith}
+use borrow.Author.Tests.{eq-eqb, ne-eqb}
+use Rattle.atoms.specs.Kinds.{file, moov}
+use Rattle.atoms.proofs.Lengths.{body-short}
+use Rattle.structure.specs.Rows.{first, rising, lowest, ofWhole, ofTrack, ofTracks, lowerOf, orElse}
+use Rattle.structure.specs.Movie.{moovOf, movieScale, tracksOf}
+use Rattle.structure.specs.Refusals.{fileRows, movieRows, movieRefusal, refusalOf}
+use Rattle.structure.proofs.Rows.{by-tracks, lowest-append}
+use Rattle.structure.proofs.Tracks.{movie-rows-rise}
+use Rattle.structure.proofs.Callers.{shaped}
+use Rattle.track.specs.Refusals.{trackRows, timedRows}
+use Rattle.movie.specs.Refusals.{idIsZero, scaleIsZero, moovRows, moovRefusal, fileRefusal, tableRows, tablesRefusal}
+
+pub rows-are : (scale len : ℕ) → moovRows scale len ≡ movieRows ++ tableRows scale len
+unfolding moovRows movieRows tableRows
+rows-are scale len = refl
+
+pub table-rows-rise : (scale len : ℕ) → rising 6 (tableRows scale len) ≡ true
+unfolding rising tableRows
+table-rows-rise scale len = refl
+
+-- a track's own number is what the crate track answers
+pub track-rows : (scale len : ℕ) (t : List ℕ) → ofTrack (trackRows scale len) t ≡ ofTrack (tableRows scale len) t
+unfolding first trackRows timedRows tableRows idIsZero scaleIsZero
+track-rows scale len t = refl
+
+pub tables-by-tracks : (scale len : ℕ) (m : List ℕ) → scale ≡ movieScale m
+    → tablesRefusal len m ≡ lowerOf (ofWhole (tableRows scale len) m) (ofTracks (tableRows scale len) (tracksOf m))
+unfolding tablesRefusal
+tables-by-tracks scale len m e = rw (← e) (by-tracks 6 (tableRows scale len) m (tracksOf m) (table-rows-rise scale len))
+
+-- ---- the whole
+
+pub moov-is : (len : ℕ) (m : List ℕ) → moovRefusal len m ≡ orElse (movieRefusal m) (tablesRefusal len m)
+unfolding moovRefusal movieRefusal tablesRefusal
+moov-is len m =
+    ap (λ rs. lowest rs m (tracksOf m)) (rows-are (movieScale m) len)
+    ∙ lowest-append 3 movieRows (tableRows (movieScale m) len) m (tracksOf m) movie-rows-rise
+
+else-assoc : (a b c : ℕ) → orElse a (orElse b c) ≡ orElse (orElse a b) c
+unfolding orElse
+else-assoc zero b c = refl
+else-assoc (suc a) b c = rw (eqb·suc-zero a, eqb·suc-zero a)
+
+pub file-is : (s : List ℕ) → fileRefusal s ≡ orElse (refusalOf s) (tablesRefusal (length s) (moovOf s))
+unfolding fileRefusal refusalOf
+file-is s = ap (orElse (ofWhole fileRows s)) (moov-is (length s) (moovOf s)) ∙ else-assoc (ofWhole fileRows s) (movieRefusal (moovOf s)) (tablesRefusal (length s) (moovOf s))
+
+-- ---- from what a caller has of `structure::refusal`, `moov_body` and `tables_refusal`
+
+pub refused-first : (s : List ℕ) (r : ℕ) → r ≡ refusalOf s → (r ≡ 0 → ⊥) → r ≡ fileRefusal s
+unfolding orElse
+refused-first s r e n = sym (file-is s ∙ rw (← e, ne-eqb r 0 n))
+
+pub then-tables : (s m : List ℕ) (r q : ℕ) → r ≡ refusalOf s → r ≡ 0 → m ≡ moovOf s → q ≡ tablesRefusal (length s) m → q ≡ fileRefusal s
+unfolding orElse
+then-tables s m r q e z d h = sym (file-is s ∙ rw (← e, eq-eqb r 0 z, ← d, ← h))
+
+pub moov-fits : (s m : List ℕ) (r : ℕ) → r ≡ refusalOf s → r ≡ 0 → m ≡ moovOf s → length m < 2 ^ 32
+unfolding moovOf
+moov-fits s m r e z d = rw d (omega (arith, shaped s (sym e ∙ z) .short, body-short file moov 0 s))

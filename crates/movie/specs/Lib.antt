@@ -1,0 +1,4 @@
+pub mod Tracks
+pub mod Refusals
+pub mod Rooms
+pub mod TrackList

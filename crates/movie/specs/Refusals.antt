@@ -1,0 +1,67 @@
+-- The refusals of a file, 1 to 13: the paper's table, row after row.
+use Prim.Native.Nat.{ℕ}
+use mathlib.Core.List.{List, [], _∷_}
+use mathlib.Core.Bool.{Bool}
+use lib.ListN.{length}
+use lib.Dec.{eqb}
+use Rattle.structure.specs.Track.{idOf, scaleOf}
+use Rattle.structure.specs.Movie.{moovOf, tracksOf, movieScale}
+use Rattle.structure.specs.Limits.{overLimits, tooMany}
+use Rattle.structure.specs.Rows.{Row, row, never, ofWhole, lowest, orElse}
+use Rattle.structure.specs.Refusals.{wrongVersion, wrongSize, wrongTrackSize, fileRows}
+use Rattle.track.specs.Refusals.{contradicts, tooLong, otherDuration, beyond, wrongEdits}
+use Rattle.movie.specs.Tracks.{idsOf, repeats}
+
+-- 7, of a movie: "a track ID .. occurs twice"; of a track: "a track ID is 0"
+unfoldable pub sameIds : List ℕ → Bool
+sameIds m = repeats (idsOf m)
+
+unfoldable pub idIsZero : List ℕ → Bool
+idIsZero t = eqb (idOf t) 0
+
+-- 8: "a movie or media time scale is 0"
+unfoldable pub movieScaleIsZero : List ℕ → Bool
+movieScaleIsZero m = eqb (movieScale m) 0
+
+unfoldable pub scaleIsZero : List ℕ → Bool
+scaleIsZero t = eqb (scaleOf t) 0
+
+-- the rows that are judged on the movie, its time scale and the file's length given: number, condition on the body of its moov, condition
+-- on a track. The rows 1 to 3, which are judged on the file, are `fileRows` of the crate structure
+unfoldable pub moovRows : ℕ → ℕ → List Row
+moovRows scale len =
+    row 4 wrongVersion never
+    ∷ row 5 wrongSize wrongTrackSize
+    ∷ row 6 tooMany overLimits
+    ∷ row 7 sameIds idIsZero
+    ∷ row 8 movieScaleIsZero scaleIsZero
+    ∷ row 9 never contradicts
+    ∷ row 10 never tooLong
+    ∷ row 11 never otherDuration
+    ∷ row 12 never (beyond len)
+    ∷ row 13 never (wrongEdits scale)
+    ∷ []
+
+-- the refusal of a movie, from the body of its moov and the length of its file; 0 where it is not refused
+unfoldable pub moovRefusal : ℕ → List ℕ → ℕ
+moovRefusal len m = lowest (moovRows (movieScale m) len) m (tracksOf m)
+
+-- the refusal of a file: the lowest number that applies; 0 where the file is not refused
+unfoldable pub fileRefusal : List ℕ → ℕ
+fileRefusal s = orElse (ofWhole fileRows s) (moovRefusal (length s) (moovOf s))
+
+-- ---- what the code judges after the crate structure has passed the file: rows 7 to 13. That the two make up the table is proved
+
+unfoldable pub tableRows : ℕ → ℕ → List Row
+tableRows scale len =
+    row 7 sameIds idIsZero
+    ∷ row 8 movieScaleIsZero scaleIsZero
+    ∷ row 9 never contradicts
+    ∷ row 10 never tooLong
+    ∷ row 11 never otherDuration
+    ∷ row 12 never (beyond len)
+    ∷ row 13 never (wrongEdits scale)
+    ∷ []
+
+unfoldable pub tablesRefusal : ℕ → List ℕ → ℕ
+tablesRefusal len m = lowest (tableRows (movieScale m) len) m (tracksOf m)

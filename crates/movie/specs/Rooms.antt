@@ -1,0 +1,22 @@
+-- "Lists go to lent 32-bit numbers": lent room before and after an answer.
+use Prim.Native.Nat.{ℕ}
+use mathlib.Core.List.{List, _∷_, _++_}
+use mathlib.Core.Bool.{cond}
+use lib.ListN.{length, drop, replicate}
+use lib.Dec.{eqb, ltb}
+
+-- 16: "the lent room is shorter than the answer"
+unfoldable pub noRoom : List ℕ → List ℕ → ℕ
+noRoom answer room = cond (ltb (length room) (length answer)) 16 0
+
+-- "An accepted answer fills the first places and leaves the rest"
+unfoldable pub filled : List ℕ → List ℕ → List ℕ
+filled answer room = answer ++ drop (length answer) room
+
+-- the room after an answer that is refused with that number, 0 for none: with a refusal "lent buffers keep their contents"
+unfoldable pub roomAfter : ℕ → List ℕ → List ℕ → List ℕ
+roomAfter refusal answer room = cond (eqb refusal 0) (filled answer room) room
+
+-- "Numbers returned with a refusal are all 0": its own, and so many zeros
+abbrev pub refusedWith : ℕ → ℕ → List ℕ
+refusedWith zeros refusal = refusal ∷ replicate zeros 0

@@ -1,0 +1,119 @@
+// The list of a movie's tracks, in lent 32-bit numbers.
+use atoms::body_of;
+use atoms::kinds;
+use atoms::size_in;
+use bigendian::u32_at;
+use lists::Total;
+use runs::total_duration;
+use structure::movie::moov_body;
+use structure::movie::track_count;
+use structure::track::edit_list;
+use structure::track::media_scale;
+use structure::track::subtype;
+use structure::track::table;
+use structure::track::track_id;
+ghost use mathlib.Core.Path.{_≡_};
+ghost use Prim.Native.Nat.{_+_, _*_, _≤_, _<_};
+ghost use lib.ListN.{length};
+ghost use lib.Seq.{sets};
+ghost use Rattle.structure.specs.Movie.{tracksOf};
+ghost use Rattle.track.specs.Refusals.{totalIn};
+ghost use Rattle.movie.specs.TrackList.{lineOf, linesOf, fields, Fitting, Lists};
+
+// How many numbers the list has for a track.
+pub const LINE: usize = 7;
+
+// The total of a track's sample durations.
+pub fn media_total(trak: &[u8]) -> u32
+    requires { ⌜ totalIn (now trak) < 4294967296 ⌝ }
+    ensures { λ r. ⌜ r ≡ totalIn (now (trak .entry)) ⌝ }
+{
+    match total_duration(table(trak, kinds::STTS)) {
+        Total::Sum(n) => n,
+        Total::Over => 0,
+    }
+}
+
+// What the list says of a track.
+pub struct Line {
+    pub id: u32,
+    pub subtype: u32,
+    pub scale: u32,
+    pub total: u32,
+    pub samples: u32,
+    pub chunks: u32,
+    pub edits: u32,
+}
+
+fn line_of(trak: &[u8]) -> Line
+    requires { ⌜ totalIn (now trak) < 4294967296 ⌝ }
+    ensures { λ r. ⌜ fields r ≡ lineOf (now (trak .entry)) ⌝ }
+{
+    Line {
+        id: track_id(trak),
+        subtype: subtype(trak),
+        scale: media_scale(trak),
+        total: media_total(trak),
+        samples: u32_at(table(trak, kinds::STSZ), 16),
+        chunks: u32_at(table(trak, kinds::STCO), 12),
+        edits: u32_at(edit_list(trak), 12),
+    }
+}
+
+// Puts a track's seven numbers into the room, from the place `at` on.
+fn put_line(line: Line, room: &mut [u32], at: usize)
+    requires { ⌜ at + 7 ≤ length (now room) ⌝ }
+    ensures { λ _. ⌜ now (room .exit) ≡ sets (now (room .entry)) at (fields line) ⌝ }
+{
+    room[at] = line.id;
+    room[at + 1] = line.subtype;
+    room[at + 2] = line.scale;
+    room[at + 3] = line.total;
+    room[at + 4] = line.samples;
+    room[at + 5] = line.chunks;
+    room[at + 6] = line.edits;
+}
+
+// Puts the list of a movie's tracks, from the body of its moov, into the first places of the room.
+fn put_lines(moov: &[u8], room: &mut [u32])
+    requires { ⌜ Fitting (tracksOf (now moov)) × (7 * length (tracksOf (now moov)) ≤ length (now room)) ⌝ }
+    ensures { λ _. ⌜ now (room .exit) ≡ sets (now (room .entry)) 0 (linesOf (tracksOf (now (moov .entry)))) ⌝ }
+{
+    let mut t = moov;
+    let mut at = 0;
+    loop {
+        let n = size_in(t, kinds::MOOV);
+        if n < 8 {
+            return;
+        }
+        if u32_at(t, 4) == kinds::TRAK {
+            let line = line_of(body_of(&t[..n]));
+            put_line(line, room, at);
+            at += LINE;
+        }
+        t = &t[n..];
+    }
+}
+
+// The answer of `track_list`: how many tracks; or the number of a refusal.
+pub enum TrackList {
+    Tracks(usize),
+    Refused(u32),
+}
+
+// Lists the tracks of a film: seven numbers for each, in the first places of the room. A refusal leaves the room as it is.
+pub fn track_list(file: &[u8], room: &mut [u32]) -> TrackList
+    ensures { λ r. ⌜ Lists (now (file .entry)) (now (room .entry)) r (now (room .exit)) ⌝ }
+{
+    let refused = super::refusal(file);
+    if refused != 0 {
+        return TrackList::Refused(refused);
+    }
+    let moov = moov_body(file);
+    let n = track_count(moov);
+    if room.len() < LINE * n {
+        return TrackList::Refused(16);
+    }
+    put_lines(moov, room);
+    TrackList::Tracks(n)
+}
