@@ -5,19 +5,10 @@ use mathlib.Core.Path.{_≡_, refl, sym, ap, _∙_}
 use mathlib.Core.List.{List, [], _∷_, _++_}
 use native.Mathlib.Omega.{arith}
 use native.Mathlib.Nat.{add-zero, zero-add, add-suc, suc-add}
-use borrow.Author.Tests.{ltb-true}
 use lib.ListN.{length, set, drop, length-append}
 use lib.Seq.{sets, sets-eq}
-use Rattle.lists.specs.declared.Total.{Total}
-use Rattle.lists.specs.declared.Total.the-variants.{Over}
-use Rattle.lists.specs.Totals.{totalOf}
 use Rattle.track.specs.Refusals.{totalIn}
-use Rattle.track.proofs.Rows.{over-is}
 use Rattle.movie.specs.TrackList.{lineOf, linesOf, Fitting}
-
--- a total that fits is not over
-pub not-over : (x : ℕ) (r : Total) → r ≡ totalOf x → r ≡ Over → x < 4294967296 → ⊥
-not-over x r is o h = let k = ltb-true 4294967295 x (over-is x r is o) in omega arith
 
 -- numbers stored in two goes
 pub sets-append : (xs ys l : List ℕ) (i : ℕ) → sets l i (xs ++ ys) ≡ sets (sets l i xs) (i + length xs) ys

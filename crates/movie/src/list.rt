@@ -3,8 +3,6 @@ use atoms::body_of;
 use atoms::kinds;
 use atoms::size_in;
 use bigendian::u32_at;
-use lists::Total;
-use runs::total_duration;
 use structure::movie::moov_body;
 use structure::movie::track_count;
 use structure::track::edit_list;
@@ -12,6 +10,7 @@ use structure::track::media_scale;
 use structure::track::subtype;
 use structure::track::table;
 use structure::track::track_id;
+use track::media_total;
 ghost use mathlib.Core.Path.{_≡_};
 ghost use Prim.Native.Nat.{_+_, _*_, _≤_, _<_};
 ghost use lib.ListN.{length};
@@ -22,17 +21,6 @@ ghost use Rattle.movie.specs.TrackList.{lineOf, linesOf, fields, Fitting
 
 // How many numbers the list has for a track.
 pub const LINE: usize = 7;
-
-// The total of a track's sample durations.
-pub fn media_total(trak: &[u8]) -> u32
-    requires { ⌜ totalIn (now trak) < 4294967296 ⌝ }
-    ensures { λ r. ⌜ r ≡ totalIn (now (trak .entry)) ⌝ }
-{
-    match total_duration(table(trak, kinds::STTS)) {
-        Total::Sum(n) => n,
-        Total::Over => 0,
-    }
-}
 
 // What the list says of a track.
 pub struct Line {

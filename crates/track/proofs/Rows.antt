@@ -34,6 +34,10 @@ module _ (x : ℕ) (r : Total) (is : r ≡ totalOf x) where
   pub over-is : r ≡ Over → ltb 4294967295 x ≡ true
   over-is q = lt-ltb 4294967295 x (over-told x (sym is ∙ q))
 
+  -- a total that fits is not over
+  pub not-over : r ≡ Over → x < 4294967296 → ⊥
+  not-over q h = let k = over-told x (sym is ∙ q) in omega arith
+
   pub sum-equal : (n k : ℕ) → r ≡ Sum n → eqb n k ≡ eqb x k
   sum-equal n k q = ap (λ y. eqb y k) (sym (sum-is n q))
 

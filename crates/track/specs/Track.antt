@@ -1,9 +1,10 @@
 -- A track as plain lists, one number for each sample or chunk, from the body of its trak.
 use Prim.Native.Nat.{ℕ, suc}
-use mathlib.Core.Bool.{Bool}
+use mathlib.Core.Bool.{Bool, cond}
 use mathlib.Core.List.{List, map}
 use lib.IntN.{ℤ}
-use Rattle.atoms.specs.Kinds.{stts, ctts, stsc, stsz, stco, stss, stsd}
+use lib.Dec.{eqb}
+use Rattle.atoms.specs.Kinds.{stts, ctts, stsc, stsz, stco, stss, stsd, vide}
 use Rattle.descriptions.specs.Descriptions.{descriptions}
 use Rattle.structure.specs.Track.{idOf, subtypeOf, scaleOf, durationOf, tableOf, elstOf, profileOf, samplesOf, chunksOf}
 use Rattle.lists.specs.Lists.{upTo}
@@ -35,6 +36,10 @@ pub record Track : Type 0 where
   pub edits : List Edit
   pub profile : List ℕ
 
+-- "each: size (at least 16)"; "In a track of subtype 'vide' a description is at least 36 bytes"
+unfoldable pub leastSize : ℕ → ℕ
+leastSize subtype = cond (eqb subtype vide) 36 16
+
 unfoldable pub trackOf : List ℕ → Track
 trackOf t =
     record {
@@ -49,7 +54,7 @@ trackOf t =
       perChunk = perChunk (tableOf stsc t) (chunksOf t);
       descriptionIds = descriptionIds (tableOf stsc t) (chunksOf t);
       chunkOffsets = chunkOffsets (tableOf stco t);
-      descriptions = descriptions 16 (tableOf stsd t);
+      descriptions = descriptions (leastSize (subtypeOf t)) (tableOf stsd t);
       editTable = elstOf t;
       edits = edits (elstOf t);
       profile = profileOf t;

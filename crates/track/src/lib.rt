@@ -28,6 +28,17 @@ ghost use Rattle.runs.specs.Runs.{runsOf, counting};
 ghost use Rattle.edits.specs.Edits.{editTotal};
 ghost use Rattle.track.specs.Refusals.{contradicts, totalIn, timedRows, trackRows};
 
+// The total of a track's sample durations.
+pub fn media_total(trak: &[u8]) -> u32
+    requires { ⌜ totalIn (now trak) < 4294967296 ⌝ }
+    ensures { λ r. ⌜ r ≡ totalIn (now (trak .entry)) ⌝ }
+{
+    match total_duration(table(trak, kinds::STTS)) {
+        Total::Sum(n) => n,
+        Total::Over => 0,
+    }
+}
+
 // Whether ctts counts the samples; without one nothing is asked.
 fn may_count(ctts: &[u8], samples: u32) -> bool
     ensures { λ r. ⌜ r ≡ (eqb (length (now (ctts .entry))) 0 || counting samples (runsOf (now (ctts .entry)))) ⌝ }

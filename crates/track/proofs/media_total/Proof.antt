@@ -1,11 +1,10 @@
--- `movie::list::media_total` meets its contract: a total below 2^32 is not over.
+-- `track::media_total` meets its contract: a total below 2^32 is not over.
 -- Assumes nothing.
 use borrow.Author.Needs.{needs}
 use mathlib.Core.Path.{sym, _∙_}
-use Rattle.track.proofs.Rows.{sum-is, total-by}
-use Rattle.movie.proofs.Lines.{not-over}
-use Rattle.movie.proofs.list.media_total.Statement.{statement}
-use Rattle.movie.proofs.list.media_total.Tie as tie
+use Rattle.track.proofs.Rows.{sum-is, not-over, total-by}
+use Rattle.track.proofs.media_total.Statement.{statement}
+use Rattle.track.proofs.media_total.Tie as tie
 
 table-requires : tie.Need-table-requires
 table-requires c κs = search needs
