@@ -9,10 +9,16 @@ for name in slip_vectors slip_example; do
     "host/reference/target/debug/$name" > "$made/$name"
     cp "$made/$name" "crates/$name/stdout"
 done
-for pair in films:structure_vectors tables:tables_vectors; do
+for pair in films:structure_vectors tables:tables_vectors movie_films:movie_vectors; do
     name=${pair#*:}
     mkdir -p "$made/files/$name/data"
     "host/reference/target/debug/${pair%:*}" "$made/files/$name/data" "$made/files/$name/args" > "$made/files/$name/stdout"
     rm -rf "crates/$name/data"
     cp -r "$made/files/$name/." "crates/$name"
 done
+# The listing program also has a film on its standard input; the films of the README come with it.
+mkdir -p "$made/files/listing/data" "$made/films" films
+host/reference/target/debug/listing "$made/files/listing" "$made/films"
+rm -rf crates/listing/data
+cp -r "$made/files/listing/." crates/listing
+cp "$made/films/"*.mov films

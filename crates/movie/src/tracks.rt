@@ -3,7 +3,7 @@ use atoms::body_of;
 use atoms::kinds;
 use atoms::size_in;
 use bigendian::u32_at;
-use structure::track::track_id;
+use structure::trak::track_id;
 ghost use mathlib.Core.Path.{_≡_};
 ghost use Rattle.movie.specs.Tracks.{idsOf, repeats, hasTrack, trackWith};
 

@@ -1,7 +1,7 @@
 // The structure of a movie file: refusals 1 to 6.
-pub mod movie;
+pub mod moov;
 pub mod profile;
-pub mod track;
+pub mod trak;
 
 use atoms::body_of;
 use atoms::kinds;
@@ -11,14 +11,14 @@ use leaves::LeafRule;
 use leaves::has_sized_entries;
 use leaves::walk::Rule;
 use leaves::walk::holds;
-use movie::moov_body;
-use movie::movie_profile;
-use movie::track_count;
+use moov::moov_body;
+use moov::movie_profile;
+use moov::track_count;
 use profile::profile_ok;
-use track::edit_list;
-use track::subtype;
-use track::table;
-use track::track_profile;
+use trak::edit_list;
+use trak::subtype;
+use trak::table;
+use trak::track_profile;
 ghost use mathlib.Core.Path.{_≡_};
 ghost use mathlib.Core.Bool.{_||_};
 ghost use Rattle.structure.specs.Limits.{overLimits, tooMany};
