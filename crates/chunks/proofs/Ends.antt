@@ -11,10 +11,11 @@ use lib.ListN.{length, getD, take, drop, length-drop, drop-of-length-le}
 use lib.Seq.{take-all, drop-drop}
 use borrow.Author.Tests.{lt-ltb, le-ltb, ltb-false}
 use Rattle.bigendian.specs.BigEndian.{u32At}
-use Rattle.lists.specs.Lists.{sum, before, between}
+use Rattle.lists.specs.Lists.{sum, before, between, holder}
+use Rattle.lists.proofs.Places.{holds-below, holder-holds, between-split, between-one}
 use Rattle.words.specs.Words.{wordsIn, chunkOffsets}
 use Rattle.words.proofs.Turns.{offsets-in, words-drop}
-use Rattle.chunks.specs.Chunks.{perChunk, endWithin}
+use Rattle.chunks.specs.Chunks.{perChunk, offsetOf, endWithin}
 use Rattle.chunks.specs.Cursors.{ahead, Stands, startCursor, readied, past}
 use Rattle.chunks.specs.declared.Cursor.{Cursor}
 use Rattle.chunks.proofs.Cursors.{start-samples, Same, ready-same, ahead-cons}
@@ -122,3 +123,22 @@ within-all limit (p ∷ ps) cs zs w =
     let h : getD cs 0 0 + sum (take p zs) ≤ limit = omega (arith, w 0 (omega arith), first-sum p zs) in
     rw (le-ltb limit (getD cs 0 0 + sum (take p zs)) h)
     (within-all limit ps (drop 1 cs) (drop p zs) (λ k l. omega (arith, w (suc k) (omega arith), second cs k, later p ps zs k)))
+
+-- so each sample ends within it too: its size and those before it in the chunk are among the chunk's
+pub sample-within : (limit : ℕ) (ps cs zs : List ℕ) (i : ℕ) → Within limit ps cs zs → i < sum ps → offsetOf ps cs zs i + getD zs i 0 ≤ limit
+unfolding offsetOf
+sample-within limit ps cs zs i w h =
+    let k = holder ps i in
+    let q = holder-holds ps i h in
+    let b = before ps k in
+    let e = b + getD ps k 0 in
+    let one : between zs i (suc i) ≡ getD zs i 0 = between-one zs i in
+    omega (
+      arith,
+      w k (holds-below ps i k q .1),
+      q .from,
+      q .to,
+      between-split zs b i e (q .from) (omega (arith, q .to)),
+      between-split zs i (suc i) e (omega arith) (q .to),
+      one,
+    )

@@ -2,14 +2,14 @@
 -- Assumes nothing.
 use Prim.Native.Nat.{ℕ, zero, suc, _+_, _-_, _≤_, _<_, min, max}
 use mathlib.Core.Path.{_≡_, refl, sym, ap, _∙_}
-use mathlib.Core.List.{List, [], _∷_}
+use mathlib.Core.List.{List, [], _∷_, _++_, map}
 use native.Mathlib.Nat.{zero-add}
 use native.Mathlib.Omega.{arith}
 use native.Mathlib.Decide.{decLe, decLt}
-use lib.ListN.{length, getD}
+use lib.ListN.{length, getD, take, drop, length-append, List·getD-append}
 use lib.Seq.{take-add, drop-drop}
 use borrow.Author.Tests.{lt-ltb, le-ltb, le-leb, lt-leb}
-use Rattle.lists.specs.Lists.{sum, before, between, holder, Holds, inside, part, parts}
+use Rattle.lists.specs.Lists.{upTo, sum, before, between, holder, Holds, inside, part, parts}
 use Rattle.lists.proofs.Laws.{holder-hit, holder-miss, sum-append}
 
 pub before-suc : (ds : List ℕ) (i : ℕ) → before ds (suc i) ≡ before ds i + getD ds i 0
@@ -103,6 +103,16 @@ between-split zs i m j h k =
     let f : i + (m - i) ≡ m = omega arith in
     rw (e, take-add, sum-append, drop-drop, f)
 
+-- one number by itself
+pub between-one : (zs : List ℕ) (i : ℕ) → between zs i (suc i) ≡ getD zs i 0
+between-one zs i = let e : suc i - i ≡ 1 = omega arith in rw e (first-of zs i)
+  where
+    first-of : (l : List ℕ) (k : ℕ) → sum (take 1 (drop k l)) ≡ getD l k 0
+    first-of [] zero = refl
+    first-of [] (suc k) = refl
+    first-of (x ∷ l) zero = omega arith
+    first-of (x ∷ l) (suc k) = first-of l k
+
 -- the sizes of all samples from the one at a to the one at b - 1
 abbrev pub bytesIn : List ℕ → List ℕ → ℕ → ℕ → ℕ
 bytesIn ds zs a b = between zs (holder ds a) (holder ds (b - 1) + 1)
@@ -117,3 +127,28 @@ cut ds zs a b (suc m) pos few l k =
     let last : m ≡ holder ds (c - 1) = holder-only ds (c - 1) m (record { from = omega (arith, before-suc ds m, pos m (omega arith)); to = omega (arith, before-suc ds m) }) in
     let e : holder ds (c - 1) + 1 ≡ holder ds c = omega arith in
     rw e (between-split zs (holder ds a) (holder ds c) (holder ds (b - 1) + 1) (holder-mono ds a c (omega arith)) (omega (arith, holder-mono ds c (b - 1) (omega arith))))
+
+-- ---- a number for each index
+
+length-up : (n : ℕ) → length (upTo n) ≡ n
+length-up zero = refl
+length-up (suc n) = omega (arith, length-append (upTo n) (n ∷ []), length-up n)
+
+last-at : (l : List ℕ) (n i : ℕ) → i ≡ length l → getD (l ++ n ∷ []) i 0 ≡ n
+last-at [] n i e = rw e
+last-at (x ∷ l) n i e = rw e (last-at l n (length l) refl)
+
+up-at : (n i : ℕ) → i < n → getD (upTo n) i 0 ≡ i
+up-at zero i h = absurd (omega arith)
+up-at (suc n) i h = elim (decLt i n) [
+  | yes l ↦ List·getD-append (upTo n) (n ∷ []) 0 i (omega (arith, length-up n)) ∙ up-at n i l
+  | no l ↦ let e : i ≡ n = omega arith in last-at (upTo n) n i (e ∙ sym (length-up n)) ∙ sym e
+]
+
+map-at : {A : Type 0} (f : ℕ → A) (l : List ℕ) (i : ℕ) (d : A) → i < length l → getD (map f l) i d ≡ f (getD l i 0)
+map-at f [] i d h = absurd (omega arith)
+map-at f (x ∷ l) zero d h = refl
+map-at f (x ∷ l) (suc i) d h = map-at f l i d (omega arith)
+
+pub each-at : {A : Type 0} (f : ℕ → A) (n i : ℕ) (d : A) → i < n → getD (map f (upTo n)) i d ≡ f i
+each-at f n i d h = map-at f (upTo n) i d (omega (arith, length-up n)) ∙ ap f (up-at n i h)

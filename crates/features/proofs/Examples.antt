@@ -1,0 +1,112 @@
+-- The paper's numbers, each computed from the definitions.
+-- Assumes nothing.
+use Prim.Native.Nat.{ℕ, _*_}
+use mathlib.Core.Path.{_≡_, refl}
+use mathlib.Core.List.{List, [], _∷_, _++_}
+use lib.ListN.{replicate}
+use Rattle.bigendian.specs.BigEndian.{beAt}
+use Rattle.atoms.specs.Kinds.{vide}
+use Rattle.lists.specs.Lists.{sum}
+use Rattle.descriptions.specs.Descriptions.{greatest}
+use Rattle.track.specs.Track.{Track}
+use Rattle.features.specs.declared.rates.Feature.the-variants.{Value, NotComputed}
+use Rattle.features.specs.Rates.{roundUp, valueOf, rateOf}
+use Rattle.features.specs.Features.{avvb, avab, tvsz, vfps, average, picture, frames, onlyIn, featureOf}
+
+-- the descriptions of pictures of 320 by 240, and of 7 by 65535
+abbrev usual : List ℕ
+usual = replicate 32 0 ++ (1 ∷ 64 ∷ 0 ∷ 240 ∷ [])
+
+abbrev tall : List ℕ
+tall = replicate 32 0 ++ (0 ∷ 7 ∷ 255 ∷ 255 ∷ [])
+
+-- a track of pictures, by its time scale, durations, sizes and descriptions; no feature looks at what else it has
+abbrev track : ℕ → List ℕ → List ℕ → List (List ℕ) → Track
+track scale ds zs descriptions =
+    record {
+      id = 1;
+      subtype = vide;
+      scale = scale;
+      storedDuration = sum ds;
+      durations = ds;
+      offsets = [];
+      sizes = zs;
+      syncs = [];
+      perChunk = [];
+      descriptionIds = [];
+      chunkOffsets = [];
+      descriptions = descriptions;
+      editTable = [];
+      edits = [];
+      profile = [];
+    }
+
+-- film W
+abbrev w : Track
+w = track 600 (24 ∷ 24 ∷ 24 ∷ 48 ∷ []) (100 ∷ 50 ∷ 0 ∷ 70 ∷ []) (usual ∷ [])
+
+avvb-of-w : featureOf w avvb ≡ Value 8800
+unfolding featureOf onlyIn average rateOf valueOf roundUp
+avvb-of-w = refl
+
+-- 25 frames a second
+vfps-of-w : featureOf w vfps ≡ Value 0x00190000
+unfolding featureOf onlyIn frames rateOf valueOf roundUp
+vfps-of-w = refl
+
+tvsz-of-w : featureOf w tvsz ≡ Value 0x014000F0
+unfolding featureOf onlyIn picture greatest valueOf beAt
+tvsz-of-w = refl
+
+-- the greatest width and the greatest height are of two descriptions
+tvsz-of-two : featureOf (track 600 [] [] (usual ∷ tall ∷ [])) tvsz ≡ Value 0x0140FFFF
+unfolding featureOf onlyIn picture greatest valueOf beAt
+tvsz-of-two = refl
+
+-- 29.97 is rounded up, and a duration of 0 is not the least
+vfps-rounded : featureOf (track 30000 (0 ∷ 2002 ∷ 1001 ∷ []) [] []) vfps ≡ Value 0x001DF854
+unfolding featureOf onlyIn frames rateOf valueOf roundUp
+vfps-rounded = refl
+
+-- no duration above 0; a feature of sound; no description; another code
+vfps-none : featureOf (track 30000 (0 ∷ 0 ∷ []) [] []) vfps ≡ NotComputed
+unfolding featureOf onlyIn frames rateOf
+vfps-none = refl
+
+avab-of-w : featureOf w avab ≡ NotComputed
+unfolding featureOf onlyIn
+avab-of-w = refl
+
+tvsz-none : featureOf (track 600 [] [] []) tvsz ≡ NotComputed
+unfolding featureOf onlyIn picture
+tvsz-none = refl
+
+another-code : featureOf w 0x41565642 ≡ NotComputed
+unfolding featureOf
+another-code = refl
+
+-- a divisor of 0; a numerator of 2^64 whose quotient is small; the greatest value, and one more
+divisor-none : rateOf 1056000 0 ≡ NotComputed
+unfolding rateOf
+divisor-none = refl
+
+numerator-over : rateOf (0x100000000 * 0x100000000) 0x100000000000 ≡ NotComputed
+unfolding rateOf
+numerator-over = refl
+
+value-greatest : rateOf 4294967295 1 ≡ Value 4294967295
+unfolding rateOf valueOf roundUp
+value-greatest = refl
+
+value-over : rateOf 4294967296 1 ≡ NotComputed
+unfolding rateOf valueOf roundUp
+value-over = refl
+
+-- an exact quotient, and an inexact one
+exact : roundUp 12 4 ≡ 3
+unfolding roundUp
+exact = refl
+
+inexact : roundUp 13 4 ≡ 4
+unfolding roundUp
+inexact = refl

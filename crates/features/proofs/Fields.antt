@@ -1,0 +1,54 @@
+-- The features of a track, from what the functions on its parts return: the fields of a track are these parts, by its definition.
+-- Assumes nothing.
+use Prim.Native.Nat.{ℕ, _+_, _*_, _<_}
+use mathlib.Core.Path.{_≡_, refl, sym, ap, _∙_}
+use mathlib.Core.List.{List}
+use native.Mathlib.Omega.{arith}
+use native.Mathlib.Nat.{mul-assoc, mul-comm}
+use lib.ListN.{length}
+use borrow.Author.Tests.{eq-eqb, ne-eqb}
+use Rattle.atoms.specs.Kinds.{stts, stsz, stsd, vide}
+use Rattle.lists.specs.Lists.{sum}
+use Rattle.runs.specs.Runs.{durations, leastOf}
+use Rattle.words.specs.Words.{sizes}
+use Rattle.descriptions.specs.Descriptions.{descriptions, pictureSize}
+use Rattle.descriptions.specs.declared.PictureSize.{PictureSize}
+use Rattle.structure.specs.Track.{scaleOf, subtypeOf, tableOf}
+use Rattle.structure.proofs.Lengths.{table-short}
+use Rattle.track.specs.Track.{trackOf, leastSize}
+use Rattle.track.specs.Refusals.{totalIn}
+use Rattle.features.specs.declared.rates.Feature.{Feature}
+use Rattle.features.specs.declared.rates.Feature.the-variants.{Value, NotComputed}
+use Rattle.features.specs.Rates.{valueOf, rateOf}
+use Rattle.features.specs.Features.{average, picture, frames}
+use Rattle.features.proofs.Products.{value-small}
+
+-- a table of a track so short that its sizes can be added
+pub fits : (k : ℕ) (t s : List ℕ) → s ≡ tableOf k t → length t < 4294967296 → length s < 4294967296
+fits k t s e h = rw e (omega (arith, table-short k t))
+
+-- b × (8 × c) = 8 × b × c
+eightfold : (b c : ℕ) → b * (8 * c) ≡ 8 * b * c
+eightfold b c = sym (mul-assoc b 8 c) ∙ ap (λ (x : ℕ). x * c) (mul-comm b 8)
+
+pub average-is : (t s : List ℕ) (bytes scale total : ℕ) (r : Feature) → s ≡ tableOf stsz t → bytes ≡ sum (sizes s) → scale ≡ scaleOf t → total ≡ totalIn t
+    → r ≡ rateOf (bytes * (8 * scale)) total → r ≡ average (trackOf t)
+unfolding average trackOf totalIn
+average-is t s bytes scale total r p b c d e =
+    e ∙ ap (λ (n : ℕ). rateOf n total) (eightfold bytes scale) ∙ rw (b, p, c, d) refl
+
+pub frames-are : (t s : List ℕ) (scale least : ℕ) (r : Feature) → s ≡ tableOf stts t → least ≡ leastOf (durations s) → scale ≡ scaleOf t
+    → r ≡ rateOf (65536 * scale) least → r ≡ frames (trackOf t)
+unfolding frames trackOf
+frames-are t s scale least r p b c e = e ∙ rw (b, p, c) refl
+
+-- a track of pictures, its descriptions of at least 36 bytes each
+module _ (t s : List ℕ) (p : s ≡ tableOf stsd t) (v : subtypeOf t ≡ vide) (n : ℕ) (e : n ≡ length (descriptions 36 s)) where
+  pub picture-none : n ≡ 0 → picture (trackOf t) ≡ NotComputed
+  unfolding picture trackOf leastSize
+  picture-none z = rw (eq-eqb (subtypeOf t) vide v, ← p, ← e, eq-eqb n 0 z) refl
+
+  pub picture-some : (n ≡ 0 → ⊥) → (z : PictureSize) → z ≡ pictureSize s → z .width * 65536 + z .height < 4294967296
+      → picture (trackOf t) ≡ Value (z .width * 65536 + z .height)
+  unfolding picture trackOf leastSize pictureSize
+  picture-some k z q h = rw (eq-eqb (subtypeOf t) vide v, ← p, ← e, ne-eqb n 0 k) (ap (λ (x : PictureSize). valueOf (x .width * 65536 + x .height)) (sym q) ∙ value-small _ h)

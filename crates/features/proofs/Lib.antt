@@ -1,0 +1,5 @@
+pub mod Quotients
+pub mod Products
+pub mod Fields
+pub mod Codes
+mod Examples

@@ -1,0 +1,99 @@
+// Features of a track: rates, rounded up, and the greatest picture.
+pub mod rates;
+
+use atoms::kinds;
+use descriptions::description_count;
+use descriptions::greatest_size;
+use rates::Feature;
+use rates::rate;
+use runs::least_duration;
+use structure::trak::media_scale;
+use structure::trak::subtype;
+use structure::trak::table;
+use track::media_total;
+use words::all_bytes;
+ghost use mathlib.Core.Path.{_≡_};
+ghost use Prim.Native.Nat.{_<_, _^_};
+ghost use lib.ListN.{length};
+ghost use Rattle.atoms.specs.Kinds.{vide};
+ghost use Rattle.structure.specs.Track.{subtypeOf};
+ghost use Rattle.track.specs.Track.{trackOf};
+ghost use Rattle.track.specs.Refusals.{totalIn};
+ghost use Rattle.features.specs.Features.{average, picture, frames, featureOf};
+
+// The codes of the features, and the subtype of sound.
+pub const AVVB: u32 = 0x61767662;
+
+pub const AVAB: u32 = 0x61766162;
+
+pub const TVSZ: u32 = 0x7476737a;
+
+pub const VFPS: u32 = 0x76667073;
+
+pub const SOUN: u32 = 0x736f756e;
+
+// The average rate of the media, in bits a second.
+fn average_rate(trak: &[u8]) -> Feature
+    requires { ⌜ (length (now trak) < 2 ^ 32) × (totalIn (now trak) < 4294967296) ⌝ }
+    ensures { λ r. ⌜ r ≡ average (trackOf (now (trak .entry))) ⌝ }
+{
+    let bytes = all_bytes(table(trak, kinds::STSZ));
+    let eight = 8 * (media_scale(trak) as u64);
+    rate(bytes, eight, media_total(trak) as u64)
+}
+
+// The greatest width and height of a track of pictures.
+fn picture_size(trak: &[u8]) -> Feature
+    requires { ⌜ subtypeOf (now trak) ≡ vide ⌝ }
+    ensures { λ r. ⌜ r ≡ picture (trackOf (now (trak .entry))) ⌝ }
+{
+    let stsd = table(trak, kinds::STSD);
+    if description_count(stsd, 36) == 0 {
+        return Feature::NotComputed;
+    }
+    let size = greatest_size(stsd);
+    Feature::Value((size.width as u32) * 65536 + size.height as u32)
+}
+
+// The greatest number of frames a second, by the least duration of a sample.
+fn frame_rate(trak: &[u8]) -> Feature
+    ensures { λ r. ⌜ r ≡ frames (trackOf (now (trak .entry))) ⌝ }
+{
+    let least = least_duration(table(trak, kinds::STTS));
+    rate(65536, media_scale(trak) as u64, least as u64)
+}
+
+// A feature of a track, by its code.
+pub fn feature_of(trak: &[u8], code: u32) -> Feature
+    requires { ⌜ (length (now trak) < 2 ^ 32) × (totalIn (now trak) < 4294967296) ⌝ }
+    ensures { λ r. ⌜ r ≡ featureOf (trackOf (now (trak .entry))) code ⌝ }
+{
+    let kind = subtype(trak);
+    match code {
+        AVVB => {
+            if kind == kinds::VIDE {
+                return average_rate(trak);
+            }
+            Feature::NotComputed
+        }
+        AVAB => {
+            if kind == SOUN {
+                return average_rate(trak);
+            }
+            Feature::NotComputed
+        }
+        TVSZ => {
+            if kind == kinds::VIDE {
+                return picture_size(trak);
+            }
+            Feature::NotComputed
+        }
+        VFPS => {
+            if kind == kinds::VIDE {
+                return frame_rate(trak);
+            }
+            Feature::NotComputed
+        }
+        _ => Feature::NotComputed,
+    }
+}

@@ -1,0 +1,106 @@
+// The stored profile of a movie or of one of its tracks, in lent 32-bit numbers.
+use bigendian::after;
+use bigendian::u32_at;
+use questions::ask_refusal;
+use questions::track_asked;
+use structure::moov::moov_body;
+use structure::moov::movie_profile;
+use structure::trak::track_profile;
+ghost use mathlib.Core.Path.{_≡_};
+ghost use mathlib.Core.Bool.{cond};
+ghost use mathlib.Core.List.{[], _∷_};
+ghost use Prim.Native.Nat.{_+_, _*_, _≤_, _<_, _^_};
+ghost use lib.Dec.{eqb};
+ghost use lib.ListN.{length};
+ghost use lib.Seq.{sets};
+ghost use Rattle.movie.specs.Refusals.{fileRefusal};
+ghost use Rattle.questions.specs.Asked.{askRefusal};
+ghost use Rattle.profiles.specs.Profiles.{keptOf, recordNumbers, profileAsked, Profiles};
+
+// How many numbers the answer has for a record.
+pub const RECORD: usize = 3;
+
+// How many records of a profile are kept: those with a code other than 0.
+fn kept_count(profile: &[u8]) -> usize
+    ensures { λ r. ⌜ r ≡ length (keptOf (now (profile .entry))) ⌝ }
+{
+    let mut t = after(profile, 16);
+    let mut n = 0;
+    while 16 <= t.len() {
+        if u32_at(t, 8) != 0 {
+            n += 1;
+        }
+        t = &t[16..];
+    }
+    n
+}
+
+// Puts the numbers of the record that a part begins with into the room, from the place `at` on.
+fn put_record(t: &[u8], room: &mut [u32], at: usize)
+    requires { ⌜ at + 3 ≤ length (now room) ⌝ }
+    ensures { λ _. ⌜ now (room .exit) ≡ sets (now (room .entry)) at (recordNumbers (now (t .entry) ∷ [])) ⌝ }
+{
+    room[at] = u32_at(t, 4);
+    room[at + 1] = u32_at(t, 8);
+    room[at + 2] = u32_at(t, 12);
+}
+
+// Puts the records kept of a profile into the first places of the room.
+fn put_records(profile: &[u8], room: &mut [u32])
+    requires { ⌜ 3 * length (keptOf (now profile)) ≤ length (now room) ⌝ }
+    ensures { λ _. ⌜ now (room .exit) ≡ sets (now (room .entry)) 0 (recordNumbers (keptOf (now (profile .entry)))) ⌝ }
+{
+    let mut t = after(profile, 16);
+    let mut at = 0;
+    while 16 <= t.len() {
+        if u32_at(t, 8) != 0 {
+            put_record(t, room, at);
+            at += RECORD;
+        }
+        t = &t[16..];
+    }
+}
+
+// The refusal before the room is looked at: ID 0 asks for the movie's own profile, and no track has it.
+fn id_refusal(file: &[u8], id: u32) -> u32
+    ensures { λ r. ⌜ r ≡ cond (eqb id 0) (fileRefusal (now (file .entry))) (askRefusal (now (file .entry)) id) ⌝ }
+{
+    if id == 0 {
+        return movie::refusal(file);
+    }
+    ask_refusal(file, id)
+}
+
+// The profile that is asked for; empty where there is none.
+fn profile_asked<'a>(file: &'a [u8], id: u32) -> &'a [u8]
+    ensures { λ r. ⌜ now r ≡ profileAsked (now (file .entry)) id ⌝ }
+{
+    if id == 0 {
+        return movie_profile(moov_body(file));
+    }
+    track_profile(track_asked(file, id))
+}
+
+// The answer of `stored_profile`: how many records; or the number of a refusal.
+pub enum ProfileAnswer {
+    Records(usize),
+    Refused(u32),
+}
+
+// The stored profile of a track, or for ID 0 of the movie: three numbers for each record kept, in the first places of the room. A refusal leaves the
+// room as it is.
+pub fn stored_profile(file: &[u8], id: u32, room: &mut [u32]) -> ProfileAnswer
+    ensures { λ r. ⌜ Profiles (now (file .entry)) id (now (room .entry)) r (now (room .exit)) ⌝ }
+{
+    let refused = id_refusal(file, id);
+    if refused != 0 {
+        return ProfileAnswer::Refused(refused);
+    }
+    let profile = profile_asked(file, id);
+    let n = kept_count(profile);
+    if room.len() / RECORD < n {
+        return ProfileAnswer::Refused(16);
+    }
+    put_records(profile, room);
+    ProfileAnswer::Records(n)
+}

@@ -1,0 +1,81 @@
+-- The track that is asked: where neither the file nor the ID is refused it is an accepted track of the file, and no longer than the file.
+-- Assumes nothing.
+use Prim.Native.Nat.{ℕ, zero, suc, _≤_, _<_, _^_}
+use mathlib.Core.Path.{_≡_, refl, sym, _∙_}
+use mathlib.Core.List.{List, [], _∷_, map}
+use mathlib.Core.Bool.{Bool, true, false, cond}
+use native.Mathlib.Omega.{arith}
+use borrow.Author.Tests.{eq-eqb, ne-eqb, eqb-true}
+use lib.ListN.{length, getD}
+use lib.Dec.{eqb}
+use Rattle.words.specs.Words.{listed}
+use Rattle.structure.specs.Track.{idOf, tableOf}
+use Rattle.structure.specs.Movie.{moovOf, movieScale, tracksOf, trackAt}
+use Rattle.structure.specs.Rows.{orElse}
+use Rattle.structure.proofs.Callers.{Each, track-at, none-else}
+use Rattle.structure.proofs.Lengths.{table-short, track-short}
+use Rattle.track.specs.Refusals.{totalIn}
+use Rattle.movie.specs.Refusals.{fileRefusal}
+use Rattle.movie.specs.Tracks.{withId, hasTrack, trackWith}
+use Rattle.movie.proofs.Accepted.{Accepted, AcceptedFile, accepted}
+use Rattle.questions.specs.Asked.{askRefusal, trackAsked}
+
+-- ---- the refusal, from what the code has of the file's and of the IDs
+
+pub ask-file : (s : List ℕ) (id r : ℕ) → r ≡ fileRefusal s → (r ≡ 0 → ⊥) → r ≡ askRefusal s id
+unfolding askRefusal orElse
+ask-file s id r e n = rw (← e, ne-eqb r 0 n)
+
+pub ask-track : (s m : List ℕ) (id r : ℕ) (h : Bool) → r ≡ fileRefusal s → r ≡ 0 → m ≡ moovOf s → h ≡ hasTrack id m → askRefusal s id ≡ cond h 0 14
+unfolding askRefusal orElse
+ask-track s m id r h e z d q = rw (← e, eq-eqb r 0 z, ← d, ← q)
+
+-- ---- the track
+
+-- what holds of each of some tracks holds of the one with the ID, where there is one
+with-each : (P : List ℕ → Type 0) (id : ℕ) (ts : List (List ℕ)) → listed id (map idOf ts) ≡ true → Each P ts → P (withId id ts)
+with-each P id [] h e = let y : _≡_ {A = Bool} false true = h in let z : _≡_ {A = ℕ} 0 1 = cc in absurd (omega arith)
+with-each P id (t ∷ ts) h e = go (eqb (idOf t) id) refl (λ q. with-each P id ts (rw q at h) (λ i g. e (suc i) (omega arith)))
+  where
+    go : (b : Bool) → eqb (idOf t) id ≡ b → (eqb (idOf t) id ≡ false → P (withId id ts)) → P (withId id (t ∷ ts))
+    go true q r = rw q (e 0 (omega arith))
+    go false q r = rw q (r q)
+
+has-told : (b : Bool) → _≡_ {A = ℕ} (cond b 0 14) 0 → b ≡ true
+has-told true e = refl
+has-told false e = absurd (omega arith)
+
+pub record AskedTrack (s : List ℕ) (id : ℕ) : Type 0 where
+  pub file : AcceptedFile s
+  pub has : hasTrack id (moovOf s) ≡ true
+  pub track : Accepted (movieScale (moovOf s)) (length s) (trackAsked s id)
+  pub short : length (trackAsked s id) ≤ length s
+
+pub asked : (s : List ℕ) (id : ℕ) → askRefusal s id ≡ 0 → AskedTrack s id
+unfolding askRefusal trackAsked hasTrack trackWith
+asked s id e =
+    let n = none-else _ _ e in
+    let f = accepted s (n .0) in
+    let h = has-told _ (n .1) in
+    record {
+      file = f;
+      has = h;
+      track = with-each (Accepted (movieScale (moovOf s)) (length s)) id (tracksOf (moovOf s)) h (f .movie .tracks);
+      short = with-each (λ t. length t ≤ length s) id (tracksOf (moovOf s)) h (λ i g. rw (track-at (moovOf s) i) (track-short i s));
+    }
+
+-- ---- the same, from what the code has
+
+module _ (s t : List ℕ) (id r : ℕ) (e : r ≡ askRefusal s id) (z : r ≡ 0) (d : t ≡ trackAsked s id) where
+  pub asked-track : Accepted (movieScale (moovOf s)) (length s) t
+  asked-track = rw d (asked s id (sym e ∙ z) .track)
+
+  pub asked-short : length t < 2 ^ 32
+  asked-short = let a = asked s id (sym e ∙ z) in rw d (omega (arith, a .short, a .file .shape .short))
+
+  pub asked-total : totalIn t < 4294967296
+  asked-total = omega (arith, asked-track .total-fits)
+
+-- a table of it
+pub table-fits : (k : ℕ) (t x : List ℕ) → x ≡ tableOf k t → length t < 2 ^ 32 → length x < 2 ^ 32
+table-fits k t x e h = rw e (omega (arith, table-short k t))

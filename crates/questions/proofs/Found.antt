@@ -1,0 +1,166 @@
+-- The answers of the sample question, from what the code has of the track and of its tables; and that a sample's bytes lie in the file.
+-- Assumes nothing.
+use Prim.Native.Nat.{ℕ, zero, suc, _+_, _-_, _≤_, _<_}
+use mathlib.Core.Path.{_≡_, refl, sym, ap, _∙_}
+use mathlib.Core.List.{List}
+use mathlib.Core.Bool.{Bool, true, false, cond, _&&_}
+use native.Mathlib.Omega.{arith}
+use borrow.Author.Tests.{eq-eqb, ne-eqb, lt-ltb, le-leb, lt-leb, eqb-true, ltb-true, leb-true, not-false}
+use lib.ListN.{length, getD, take, drop}
+use lib.Dec.{eqb, ltb, leb}
+use lib.IntN.{ℤ, pos, _+ℤ_}
+use Rattle.bigendian.specs.BigEndian.{u32At}
+use Rattle.atoms.specs.Kinds.{stts, ctts, stsc, stsz, stco, stss}
+use Rattle.atoms.proofs.Laws.{and-left, and-right}
+use Rattle.lists.specs.Lists.{before, holder, sum}
+use Rattle.lists.proofs.Places.{holder-holds, holds-below, each-at, before-le}
+use Rattle.runs.specs.Runs as runs
+use Rattle.runs.specs.declared.Timing.{Timing}
+use Rattle.words.specs.Words.{sizes, chunkOffsets, isSync}
+use Rattle.chunks.specs.Chunks.{perChunk, descriptionIds, locatedIn, offsetOf, offsetAt, endWithin}
+use Rattle.chunks.specs.declared.Located.{Located}
+use Rattle.chunks.proofs.Agreed.{samples-length}
+use Rattle.chunks.proofs.Finding.{offset-located}
+use Rattle.chunks.proofs.Ends.{all-within, sample-within}
+use Rattle.structure.specs.Track.{tableOf, samplesOf, chunksOf}
+use Rattle.structure.specs.Movie.{moovOf, movieScale}
+use Rattle.structure.specs.Rows.{orElse}
+use Rattle.structure.proofs.Callers.{none-else}
+use Rattle.track.specs.Track.{trackOf}
+use Rattle.track.specs.Refusals.{contradicts, totalIn, beyond}
+use Rattle.track.proofs.Agreed.{agreed-tables}
+use Rattle.movie.proofs.Accepted.{Accepted}
+use Rattle.questions.specs.Asked.{askRefusal, trackAsked}
+use Rattle.questions.specs.Samples.{sampleOf, sampleRefusal, sampleAnswer, sampleNumbers, Samples, bytesStart, bytesLength, sampleBytes}
+use Rattle.questions.specs.declared.samples.Sample.{Sample}
+use Rattle.questions.specs.declared.samples.SampleAnswer.{SampleAnswer}
+use Rattle.questions.specs.declared.samples.SampleAnswer.the-variants.{Found, Refused}
+use Rattle.questions.proofs.Asking.{asked}
+
+-- ---- what the tables say of a sample
+
+module _ (t : List ℕ) (i : ℕ) (e : contradicts t ≡ false) (h : i < samplesOf t) where
+  -- its chunk is one of the chunks
+  pub chunk-known : holder (perChunk (tableOf stsc t) (chunksOf t)) i < chunksOf t
+  chunk-known =
+      let a = agreed-tables t e in
+      let ps = perChunk (tableOf stsc t) (chunksOf t) in
+      let q = holder-holds ps i (omega (arith, a .dealt)) in
+      omega (arith, holds-below ps i (holder ps i) q .1, samples-length (tableOf stsc t) (chunksOf t) _ (a .deals))
+
+  pub chunk-fits : (o c : List ℕ) (n : ℕ) (p : Located) → o ≡ tableOf stco t → c ≡ tableOf stsc t → n ≡ u32At o 12 → n < 4294967296
+      → p ≡ locatedIn (perChunk c n) (descriptionIds c n) i → p .chunk < 4294967296
+  unfolding locatedIn
+  chunk-fits o c n p eo ec en f ep =
+      let q : n ≡ chunksOf t = en ∙ rw eo in
+      let k : p .chunk ≡ holder (perChunk (tableOf stsc t) (chunksOf t)) i = ap (λ l. l .chunk) ep ∙ rw (q, ec) in
+      omega (arith, chunk-known)
+
+-- it starts before the total
+pub starts-low : (t x : List ℕ) (i : ℕ) (r : Timing) → x ≡ tableOf stts t → r ≡ runs.timingOf (runs.durations x) i → totalIn t < 4294967296 → r .start < 4294967296
+unfolding totalIn runs.timingOf
+starts-low t x i r e d h = rw (d, e) (omega (arith, before-le (runs.durations (tableOf stts t)) i))
+
+pub sample-made : (t x y z o c w : List ℕ) (i n : ℕ) (r : Timing) (shift comp : ℤ) (p : Located) (sync : Bool) (off size : ℕ)
+    → i < samplesOf t
+    → x ≡ tableOf stts t → r ≡ runs.timingOf (runs.durations x) i
+    → y ≡ tableOf ctts t → shift ≡ runs.offsetAt y i → comp ≡ pos (r .start) +ℤ shift
+    → z ≡ tableOf stsz t → o ≡ tableOf stco t → c ≡ tableOf stsc t → n ≡ u32At o 12
+    → p ≡ locatedIn (perChunk c n) (descriptionIds c n) i
+    → w ≡ tableOf stss t → sync ≡ isSync w (i + 1)
+    → off ≡ offsetAt (chunkOffsets o) (sizes z) p i → size ≡ getD (sizes z) i 0
+    → _≡_ {A = Sample} (record { decode = r .start; duration = r .duration; composition = comp; sync = sync; description = p .description; chunk = p .chunk + 1; offset = off; size = size }) (sampleOf (trackOf t) i)
+unfolding sampleOf trackOf runs.timingOf locatedIn
+sample-made t x y z o c w i n r shift comp p sync off size h ex er ey es ec ez eo ed en ep ew ek eq em =
+    let u : i + 1 ≡ suc i = omega arith in
+    let m : off ≡ offsetOf (perChunk c n) (chunkOffsets o) (sizes z) i = eq ∙ ap (λ q. offsetAt (chunkOffsets o) (sizes z) q i) ep ∙ offset-located (perChunk c n) (descriptionIds c n) (chunkOffsets o) (sizes z) i in
+    let ps = perChunk (tableOf stsc t) (chunksOf t) in
+    let v : holder ps i + 1 ≡ suc (holder ps i) = omega arith in
+    rw (each-at (λ k. runs.offsetAt (tableOf ctts t) k) (samplesOf t) i (pos 0) h, each-at (λ k. isSync (tableOf stss t) (suc k)) (samplesOf t) i false h)
+    (rw (ec, es, ey, m, em, ek, ew, ep, en, ed, eo, er, ex, ez, u, v))
+
+-- ---- the answers
+
+refused-sample : (s : List ℕ) (id n r : ℕ) → sampleRefusal s id n ≡ r → (r ≡ 0 → ⊥) → Samples s id n (Refused r)
+unfolding sampleAnswer sampleNumbers
+refused-sample s id n r e z = record { answer = rw (e, ne-eqb r 0 z); numbers = rw (e, ne-eqb r 0 z) }
+
+pub no-track : (s : List ℕ) (id n r : ℕ) → r ≡ askRefusal s id → (r ≡ 0 → ⊥) → Samples s id n (Refused r)
+unfolding sampleRefusal orElse
+no-track s id n r e z = refused-sample s id n r (rw (← e, ne-eqb r 0 z)) z
+
+module _ (s t : List ℕ) (id n r : ℕ) (e : r ≡ askRefusal s id) (z : r ≡ 0) (d : t ≡ trackAsked s id) where
+  pub sample-zero : n ≡ 0 → Samples s id n (Refused 15)
+  unfolding sampleRefusal orElse
+  sample-zero q = refused-sample s id n 15 (rw (← e, eq-eqb r 0 z, q)) (λ y. omega arith)
+
+  module _ (c : ℕ) (x : List ℕ) (g : x ≡ tableOf stsz t) (f : c ≡ u32At x 16) where
+    count-is : c ≡ samplesOf (trackAsked s id)
+    count-is = f ∙ rw (g, d)
+
+    pub sample-past : (n ≡ 0 → ⊥) → c < n → Samples s id n (Refused 15)
+    unfolding sampleRefusal orElse
+    sample-past k h =
+        refused-sample s id n 15 (rw (← e, eq-eqb r 0 z, ← count-is, lt-ltb 0 n (omega arith), lt-leb n c h)) (λ y. omega arith)
+
+    pub sample-index : (n ≡ 0 → ⊥) → n ≤ c → n - 1 < samplesOf t
+    sample-index k h = let w : c ≡ samplesOf t = f ∙ rw g in omega arith
+
+    pub sample-found : (n ≡ 0 → ⊥) → n ≤ c → (v : Sample) → v ≡ sampleOf (trackOf t) (n - 1) → Samples s id n (Found v)
+    unfolding sampleRefusal sampleAnswer sampleNumbers orElse
+    sample-found k h v q =
+        let w : sampleRefusal s id n ≡ 0 = rw (← e, eq-eqb r 0 z, ← count-is, lt-ltb 0 n (omega arith), le-leb n c h) in
+        record { answer = rw (w, ← d, ← q); numbers = rw (w, ← d, ← q) }
+
+-- ---- the bytes
+
+in-range : (b : Bool) → _≡_ {A = ℕ} (cond b 0 15) 0 → b ≡ true
+in-range true e = refl
+in-range false e = absurd (omega arith)
+
+within-file : (s : List ℕ) (id n : ℕ) → sampleRefusal s id n ≡ 0
+    → sampleOf (trackOf (trackAsked s id)) (n - 1) .offset + sampleOf (trackOf (trackAsked s id)) (n - 1) .size ≤ length s
+unfolding sampleRefusal sampleOf trackOf beyond
+within-file s id n e =
+    let t = trackAsked s id in
+    let q = none-else _ _ e in
+    let a = asked s id (q .0) .track in
+    let g = agreed-tables t (a .agree) in
+    let r = in-range _ (q .1) in
+    let lo = ltb-true 0 n (and-left _ _ r) in
+    let hi = leb-true n (samplesOf t) (and-right (ltb 0 n) _ r) in
+    let ps = perChunk (tableOf stsc t) (chunksOf t) in
+    let w = all-within (length s) ps (chunkOffsets (tableOf stco t)) (sizes (tableOf stsz t)) (not-false _ (a .within)) in
+    sample-within (length s) ps (chunkOffsets (tableOf stco t)) (sizes (tableOf stsz t)) (n - 1) w (omega (arith, g .dealt))
+
+bytes-within : (s : List ℕ) (id n : ℕ) → bytesStart (sampleAnswer s id n) + bytesLength (sampleAnswer s id n) ≤ length s
+unfolding sampleAnswer bytesStart bytesLength
+bytes-within s id n = go (eqb (sampleRefusal s id n) 0) refl
+  where
+    go : (b : Bool) → eqb (sampleRefusal s id n) 0 ≡ b
+        → bytesStart (cond b (Found (sampleOf (trackOf (trackAsked s id)) (n - 1))) (Refused (sampleRefusal s id n)))
+        + bytesLength (cond b (Found (sampleOf (trackOf (trackAsked s id)) (n - 1))) (Refused (sampleRefusal s id n))) ≤ length s
+    go true q = within-file s id n (eqb-true _ _ q)
+    go false q = omega arith
+
+-- from what the code has of the answer
+found-bytes : (s : List ℕ) (id n : ℕ) (r : SampleAnswer) (v : Sample) → Samples s id n r → r ≡ Found v
+    → (bytesStart (sampleAnswer s id n) ≡ v .offset) × (bytesLength (sampleAnswer s id n) ≡ v .size)
+unfolding bytesStart bytesLength
+found-bytes s id n r v a e = let q = sym (a .answer) ∙ e in (ap bytesStart q, ap bytesLength q)
+
+refused-bytes : (s : List ℕ) (id n : ℕ) (r : SampleAnswer) (k : ℕ) → Samples s id n r → r ≡ Refused k
+    → (bytesStart (sampleAnswer s id n) ≡ 0) × (bytesLength (sampleAnswer s id n) ≡ 0)
+unfolding bytesStart bytesLength
+refused-bytes s id n r k a e = let q = sym (a .answer) ∙ e in (ap bytesStart q, ap bytesLength q)
+
+pub found-fits : (s : List ℕ) (id n : ℕ) (r : SampleAnswer) (v : Sample) → Samples s id n r → r ≡ Found v → v .offset + v .size ≤ length s
+found-fits s id n r v a e = let q = found-bytes s id n r v a e in omega (arith, q .0, q .1, bytes-within s id n)
+
+pub found-part : (s : List ℕ) (id n : ℕ) (r : SampleAnswer) (v : Sample) → Samples s id n r → r ≡ Found v → take (v .size) (drop (v .offset) s) ≡ sampleBytes s id n
+unfolding sampleBytes
+found-part s id n r v a e = let q = found-bytes s id n r v a e in rw (q .0, q .1)
+
+pub refused-part : (s : List ℕ) (id n : ℕ) (r : SampleAnswer) (k : ℕ) → Samples s id n r → r ≡ Refused k → take 0 (drop 0 s) ≡ sampleBytes s id n
+unfolding sampleBytes
+refused-part s id n r k a e = let q = refused-bytes s id n r k a e in rw (q .0, q .1)

@@ -1,0 +1,4 @@
+pub mod Asked
+pub mod Samples
+pub mod Times
+pub mod Feature

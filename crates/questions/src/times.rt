@@ -1,0 +1,75 @@
+// The sample at a media time, and movie time to media time.
+use super::ask_refusal;
+use super::track_asked;
+use atoms::kinds;
+use edits::Mapped;
+use edits::MediaTime;
+use edits::MovieTime;
+use edits::media_at;
+use runs::Found;
+use structure::moov::moov_body;
+use structure::moov::movie_scale;
+use structure::trak::edit_list;
+use structure::trak::media_scale;
+use structure::trak::table;
+use track::media_total;
+ghost use mathlib.Core.Path.{_≡_};
+ghost use Rattle.questions.specs.Times.{SampleAt, toAnswer, Maps};
+
+// The answer of `sample_at_time`: the sample's number, from 1; or the number of a refusal.
+pub enum NumberAnswer {
+    Number(u32),
+    Refused(u32),
+}
+
+// The sample whose media times hold t.
+pub fn sample_at_time(file: &[u8], id: u32, t: MediaTime) -> NumberAnswer
+    ensures { λ r. ⌜ SampleAt (now (file .entry)) id t r ⌝ }
+{
+    let refused = ask_refusal(file, id);
+    if refused != 0 {
+        return NumberAnswer::Refused(refused);
+    }
+    let trak = track_asked(file, id);
+    let time = t.0;
+    match runs::sample_at(table(trak, kinds::STTS), time) {
+        Found::At(index) => NumberAnswer::Number((index + 1) as u32),
+        Found::Outside => NumberAnswer::Refused(15),
+    }
+}
+
+// The answer of `media_time_of`: the media time that is shown; or that nothing is; or the number of a refusal.
+pub enum TimeAnswer {
+    Shown(MediaTime),
+    NothingShown,
+    NotMapped(u32),
+}
+
+fn to_answer(m: Mapped) -> TimeAnswer
+    ensures { λ r. ⌜ r ≡ toAnswer m ⌝ }
+{
+    match m {
+        Mapped::Media(t) => TimeAnswer::Shown(t),
+        Mapped::Nothing => TimeAnswer::NothingShown,
+        Mapped::Outside => TimeAnswer::NotMapped(15),
+    }
+}
+
+// The media time that a movie time shows.
+pub fn media_time_of(file: &[u8], id: u32, t: MovieTime) -> TimeAnswer
+    ensures { λ r. ⌜ Maps (now (file .entry)) id t r ⌝ }
+{
+    let refused = ask_refusal(file, id);
+    if refused != 0 {
+        return TimeAnswer::NotMapped(refused);
+    }
+    let trak = track_asked(file, id);
+    let movie = movie_scale(moov_body(file));
+    to_answer(media_at(
+        edit_list(trak),
+        media_scale(trak),
+        movie,
+        media_total(trak),
+        t,
+    ))
+}
