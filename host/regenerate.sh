@@ -9,7 +9,7 @@ for name in slip_vectors slip_example; do
     "host/reference/target/debug/$name" > "$made/$name"
     cp "$made/$name" "crates/$name/stdout"
 done
-for pair in films:structure_vectors tables:tables_vectors movie_films:movie_vectors; do
+for pair in films:structure_vectors tables:tables_vectors movie_films:movie_vectors question_films:question_vectors; do
     name=${pair#*:}
     mkdir -p "$made/files/$name/data"
     "host/reference/target/debug/${pair%:*}" "$made/files/$name/data" "$made/files/$name/args" > "$made/files/$name/stdout"

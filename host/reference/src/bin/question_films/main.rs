@@ -1,0 +1,54 @@
+//! The films of crates/question_vectors, the questions that they are asked, and its lines, from the reference.
+//!
+//! Writes each film and its questions to the folder that is its first argument, and the names, one to a line, to the file that is its second:
+//! each film with its questions after it. The lines go to standard output. A question is three big-endian 32-bit numbers: its kind, a track ID
+//! and the number asked. A film's name begins with the number that its maker means it to be refused with, and its maker may say some of its
+//! lines by hand: the reference must agree with both, so that a film which tests another thing than its name says is not kept by mistake.
+mod asks;
+mod base;
+mod features;
+mod lines;
+mod paper;
+mod profiles;
+mod refused;
+mod samples;
+mod times;
+mod tracks;
+
+use base::Films;
+use reference::movie::refusal;
+
+fn main() {
+    let arguments: Vec<String> = std::env::args().collect();
+    let [_, folder, names] = &arguments[..] else {
+        panic!("question_films FOLDER NAMES");
+    };
+    let mut films = Films::new();
+    paper::films(&mut films);
+    samples::films(&mut films);
+    times::films(&mut films);
+    features::films(&mut films);
+    profiles::films(&mut films);
+    tracks::films(&mut films);
+    refused::films(&mut films);
+
+    let mut args = String::new();
+    for film in films.list {
+        let name = format!("{}-{}", film.number, film.name);
+        assert_eq!(refusal(&film.bytes), film.number, "{name}");
+        assert!(film.bytes.len() < 65_536, "{name}");
+        let lines: Vec<String> = film.asks.iter().map(|ask| lines::line(&film.bytes, ask)).collect();
+        for said in &film.said {
+            assert!(lines.contains(said), "{name}: not among the lines: {said}");
+        }
+        let asks: Vec<u8> = film.asks.iter().flat_map(|ask| ask.bytes()).collect();
+        std::fs::write(format!("{folder}/{name}.mov"), &film.bytes).unwrap();
+        std::fs::write(format!("{folder}/{name}.ask"), asks).unwrap();
+        args += &format!("{name}.mov\n{name}.ask\n");
+        println!("{name}.mov");
+        for line in lines {
+            println!("  {line}");
+        }
+    }
+    std::fs::write(names, args).unwrap();
+}
