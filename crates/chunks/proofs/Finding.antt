@@ -119,7 +119,7 @@ module _ {s : List ℕ} {chunks i : ℕ} (r : Sought) (f : Finds s chunks i r) w
 
 -- ---- the offset of a sample from its place
 
-before-holder : (ps : List ℕ) (i : ℕ) → before ps (holder ps i) ≤ i
+pub before-holder : (ps : List ℕ) (i : ℕ) → before ps (holder ps i) ≤ i
 before-holder [] i = omega arith
 before-holder (p ∷ ps) i = elim (decLt i p) [
   | yes l ↦ rw (holder-hit p ps i l) (omega arith)

@@ -1,0 +1,63 @@
+-- `pairs::pair_at` meets its contract: the samples of the chunk that are asked for, and those before them in it.
+-- Assumes nothing.
+use borrow.Author.Needs.{needs}
+use Rattle.pairs.proofs.Walking.{pair-made}
+use Rattle.pairs.proofs.pair_at.Statement.{statement}
+use Rattle.pairs.proofs.pair_at.Tie as tie
+
+cast-smaller : tie.Need-cast-smaller
+cast-smaller c = search needs
+
+add-smaller : tie.Need-add-smaller
+add-smaller c = search needs
+
+smaller-requires : tie.Need-smaller-requires
+smaller-requires c κs = search needs
+
+cast-end : tie.Need-cast-end
+cast-end c = search needs
+
+cast-larger : tie.Need-cast-larger
+cast-larger c = search needs
+
+larger-requires : tie.Need-larger-requires
+larger-requires c κs = search needs
+
+cast-bytes-between : tie.Need-cast-bytes-between
+cast-bytes-between c = search needs
+
+bytes-between-requires : tie.Need-bytes-between-requires
+bytes-between-requires c κs = search needs
+
+chunk-offset-requires : tie.Need-chunk-offset-requires
+chunk-offset-requires c κs = search needs
+
+cast-t12 : tie.Need-cast-t12
+cast-t12 c = search needs
+
+add-t15 : tie.Need-add-t15
+add-t15 c = search needs
+
+bytes-between-requires-2 : tie.Need-bytes-between-requires-2
+bytes-between-requires-2 c κs = search needs
+
+returns : tie.Need-returns
+returns c = pair-made _ _ _ _ _ _ _ _ _ _ _ (c .before .before .before .before .smaller .ensures) (c .before .before .before .larger .ensures) (c .before .before .bytes-between .ensures .0) (c .bytes-between2 .ensures .0) (c .before .chunk-offset .ensures)
+
+pub pair-at-spec : {M : Type 1} → statement M
+pair-at-spec =
+    tie.close
+    (tie.spec
+    cast-smaller
+    add-smaller
+    smaller-requires
+    cast-end
+    cast-larger
+    larger-requires
+    cast-bytes-between
+    bytes-between-requires
+    chunk-offset-requires
+    cast-t12
+    add-t15
+    bytes-between-requires-2
+    returns)

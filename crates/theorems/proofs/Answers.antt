@@ -1,0 +1,127 @@
+-- The answers of a track that is asked and not refused, by index: what is answered of each number and time, and what an answer tells.
+-- Assumes nothing.
+use Prim.Native.Nat.{ℕ, zero, suc, _*_, _-_, _≤_, _<_}
+use mathlib.Core.Path.{_≡_, refl}
+use mathlib.Core.Bool.{Bool, true, false, cond}
+use mathlib.Core.List.{List, [], _∷_}
+use native.Mathlib.Omega.{arith}
+use native.Mathlib.Decide.{decLe, decLt}
+use lib.ListN.{length}
+use lib.Dec.{eqb, ltb}
+use borrow.Author.Tests.{lt-ltb, le-ltb, le-leb, lt-leb, ltb-true, leb-true, eqb-true}
+use Rattle.atoms.proofs.Laws.{and-left, and-right}
+use Rattle.lists.specs.Lists.{sum, holder}
+use Rattle.pairs.specs.Pairs.{flat}
+use Rattle.pairs.specs.declared.Pair.{Pair}
+use Rattle.edits.specs.declared.MediaTime.{MediaTime}
+use Rattle.structure.specs.Track.{samplesOf}
+use Rattle.structure.specs.Rows.{orElse}
+use Rattle.structure.proofs.Callers.{none-else}
+use Rattle.movie.specs.Rooms.{noRoom}
+use Rattle.questions.specs.Asked.{askRefusal, trackAsked}
+use Rattle.questions.specs.Samples.{sampleOf, sampleRefusal, sampleAnswer}
+use Rattle.questions.specs.Times.{atRefusal, atNumber, atAnswer}
+use Rattle.questions.specs.Stretches.{bytesIn, stretchPairs, spanRefusal, stretchRefusal, stretchAnswer}
+use Rattle.questions.specs.declared.samples.Sample.{Sample}
+use Rattle.questions.specs.declared.samples.SampleAnswer.the-variants.{Found, Refused}
+use Rattle.questions.specs.declared.times.NumberAnswer.the-variants as number
+use Rattle.questions.specs.declared.stretches.StretchAnswer.the-variants as stretch
+use Rattle.theorems.specs.Demand.{tables}
+
+-- a pair is two numbers
+pub flat-length : (ps : List Pair) → length (flat ps) ≡ 2 * length ps
+flat-length [] = refl
+flat-length (p ∷ ps) = omega (arith, flat-length ps)
+
+-- the sample that was found has this index
+pub record Told (s : List ℕ) (id n : ℕ) (x : Sample) : Type 0 where
+  pub index : ℕ
+  pub number : n ≡ suc index
+  pub low : index < samplesOf (trackAsked s id)
+  pub is : x ≡ sampleOf (tables s id) index
+
+-- the track is not refused, and the stretch lies within
+pub record Span (s : List ℕ) (id : ℕ) (a b : MediaTime) : Type 0 where
+  pub ask : askRefusal s id ≡ 0
+  pub order : a .0 < b .0
+  pub within : b .0 ≤ sum (tables s id .durations)
+
+-- a stretch that is answered
+pub record Answered (s : List ℕ) (id : ℕ) (a b : MediaTime) (room : List ℕ) (k bytes : ℕ) : Type 0 where
+  pub span : Span s id a b
+  pub refusal : stretchRefusal s id a b room ≡ 0
+  pub count : k ≡ length (stretchPairs s id a b)
+  pub total : bytes ≡ bytesIn (tables s id) a b
+
+module _ (s : List ℕ) (id : ℕ) (e : askRefusal s id ≡ 0) where
+  -- ---- samples
+
+  pub found-is : (n i : ℕ) → n ≡ suc i → i < samplesOf (trackAsked s id) → sampleAnswer s id n ≡ Found (sampleOf (tables s id) i)
+  unfolding sampleAnswer sampleRefusal orElse
+  found-is n i q h =
+      let w : n - 1 ≡ i = omega arith in
+      rw (e, lt-ltb 0 n (omega arith), le-leb n (samplesOf (trackAsked s id)) (omega arith), w)
+
+  pub none-is : sampleAnswer s id 0 ≡ Refused 15
+  unfolding sampleAnswer sampleRefusal orElse
+  none-is = rw e
+
+  pub past-is : (n : ℕ) → samplesOf (trackAsked s id) < n → sampleAnswer s id n ≡ Refused 15
+  unfolding sampleAnswer sampleRefusal orElse
+  past-is n h = rw (e, lt-ltb 0 n (omega arith), lt-leb n (samplesOf (trackAsked s id)) h)
+
+  pub found-told : (n : ℕ) (x : Sample) → sampleAnswer s id n ≡ Found x → Told s id n x
+  found-told zero x q = let r = none-is in let z : _≡_ {A = ℕ} 0 1 = cc in absurd (omega arith)
+  found-told (suc i) x q = elim (decLe (suc i) (samplesOf (trackAsked s id))) [
+    | yes l ↦ let r = found-is (suc i) i refl l in record { index = i; number = refl; low = l; is = cc }
+    | no l ↦ let r = past-is (suc i) (omega arith) in let z : _≡_ {A = ℕ} 0 1 = cc in absurd (omega arith)
+  ]
+
+  -- ---- times
+
+  pub at-is : (t : MediaTime) → t .0 < sum (tables s id .durations) → atAnswer s id t ≡ number.Number (suc (holder (tables s id .durations) (t .0)))
+  unfolding atAnswer atRefusal atNumber orElse
+  at-is t h = rw (e, lt-ltb (t .0) (sum (tables s id .durations)) h)
+
+  pub at-outside : (t : MediaTime) → sum (tables s id .durations) ≤ t .0 → atAnswer s id t ≡ number.Refused 15
+  unfolding atAnswer atRefusal orElse
+  at-outside t h = rw (e, le-ltb (t .0) (sum (tables s id .durations)) h)
+
+  pub at-told : (t : MediaTime) (n : ℕ) → atAnswer s id t ≡ number.Number n → (t .0 < sum (tables s id .durations)) × (n ≡ suc (holder (tables s id .durations) (t .0)))
+  at-told t n q = elim (decLt (t .0) (sum (tables s id .durations))) [
+    | yes l ↦ let r = at-is t l in (l, cc)
+    | no l ↦ let r = at-outside t (omega arith) in let z : _≡_ {A = ℕ} 0 1 = cc in absurd (omega arith)
+  ]
+
+  -- ---- stretches
+
+  pub pairs-is : (a b : MediaTime) (room : List ℕ) → a .0 < b .0 → b .0 ≤ sum (tables s id .durations) → length (flat (stretchPairs s id a b)) ≤ length room
+      → stretchAnswer s id a b room ≡ stretch.Pairs (length (stretchPairs s id a b)) (bytesIn (tables s id) a b)
+  unfolding stretchAnswer stretchRefusal spanRefusal noRoom orElse
+  pairs-is a b room o w r =
+      rw (e, lt-ltb (a .0) (b .0) o, le-leb (b .0) (sum (tables s id .durations)) w, le-ltb (length room) (length (flat (stretchPairs s id a b))) r)
+
+-- ---- what the answer of a stretch tells
+
+span-test : (b : Bool) → _≡_ {A = ℕ} (cond b 0 15) 0 → b ≡ true
+span-test true e = refl
+span-test false e = absurd (omega arith)
+
+pub span-told : (s : List ℕ) (id : ℕ) (a b : MediaTime) → spanRefusal s id a b ≡ 0 → Span s id a b
+unfolding spanRefusal
+span-told s id a b e =
+    let n = none-else _ _ e in
+    let r = span-test _ (n .1) in
+    record { ask = n .0; order = ltb-true (a .0) (b .0) (and-left _ _ r); within = leb-true _ _ (and-right (ltb (a .0) (b .0)) _ r) }
+
+pub pairs-told : (s : List ℕ) (id : ℕ) (a b : MediaTime) (room : List ℕ) (k bytes : ℕ) → stretchAnswer s id a b room ≡ stretch.Pairs k bytes → Answered s id a b room k bytes
+unfolding stretchAnswer stretchRefusal
+pairs-told s id a b room k bytes e = go (eqb (stretchRefusal s id a b room) 0) refl e
+  where
+    go : (t : Bool) → eqb (stretchRefusal s id a b room) 0 ≡ t
+        → cond t (stretch.Pairs (length (stretchPairs s id a b)) (bytesIn (tables s id) a b)) (stretch.Refused (stretchRefusal s id a b room)) ≡ stretch.Pairs k bytes
+        → Answered s id a b room k bytes
+    go true q w =
+        let r = eqb-true _ _ q in
+        record { span = span-told s id a b (none-else _ _ r .0); refusal = r; count = cc; total = cc }
+    go false q w = let z : _≡_ {A = ℕ} 0 1 = cc in absurd (omega arith)

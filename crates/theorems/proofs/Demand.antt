@@ -1,0 +1,221 @@
+-- Demand 3 holds of each track that is asked and not refused. The idea: an answer gives the lists at an index, and the laws of lists say the rest.
+-- Assumes nothing.
+use Prim.Native.Nat.{ℕ, suc, _+_, _-_, _≤_, _<_}
+use mathlib.Core.Path.{_≡_, refl, sym, ap, _∙_}
+use mathlib.Core.List.{List}
+use native.Mathlib.Omega.{arith}
+use lib.ListN.{length, getD}
+use Rattle.lists.specs.Lists.{sum, before, between, holder, Holds}
+use Rattle.lists.proofs.Places as places
+use Rattle.chunks.specs.Chunks.{offsetOf}
+use Rattle.edits.specs.declared.MediaTime.{MediaTime}
+use Rattle.structure.specs.Track.{samplesOf}
+use Rattle.questions.specs.Asked.{askRefusal, trackAsked}
+use Rattle.questions.specs.Samples.{sampleOf, sampleAnswer}
+use Rattle.questions.specs.Times.{atAnswer}
+use Rattle.questions.specs.Stretches.{firstIn, pastIn, bytesIn, stretchPairs}
+use Rattle.questions.specs.declared.samples.Sample.{Sample}
+use Rattle.questions.specs.declared.samples.SampleAnswer.the-variants.{Found}
+use Rattle.questions.specs.declared.times.NumberAnswer.the-variants as number
+use Rattle.theorems.specs.Demand.{tables, HasTime, partIn, sizeIn, howMany, added, AllLast, Demand3}
+use Rattle.theorems.proofs.Added.{sizes-added, parts-added}
+use Rattle.theorems.proofs.Dealt.{gets-of, gets-only, first-low, first-chunk, first-offset, next-offset}
+use Rattle.theorems.proofs.Lists.{Listed, listed}
+use Rattle.theorems.proofs.Answers.{flat-length, Told, found-is, none-is, past-is, found-told, at-is, at-outside, at-told, pairs-is, pairs-told}
+
+-- ---- what a sample's answer says of the lists
+
+module _ (s : List ℕ) (id n : ℕ) (x : Sample) (u : Told s id n x) where
+  decode-is : x .decode ≡ before (tables s id .durations) (u .index)
+  unfolding sampleOf
+  decode-is = ap (λ (y : Sample). y .decode) (u .is)
+
+  duration-is : x .duration ≡ getD (tables s id .durations) (u .index) 0
+  unfolding sampleOf
+  duration-is = ap (λ (y : Sample). y .duration) (u .is)
+
+  chunk-is : x .chunk ≡ suc (holder (tables s id .perChunk) (u .index))
+  unfolding sampleOf
+  chunk-is = ap (λ (y : Sample). y .chunk) (u .is)
+
+  size-is : x .size ≡ getD (tables s id .sizes) (u .index) 0
+  unfolding sampleOf
+  size-is = ap (λ (y : Sample). y .size) (u .is)
+
+  offset-is : x .offset ≡ offsetOf (tables s id .perChunk) (tables s id .chunkOffsets) (tables s id .sizes) (u .index)
+  unfolding sampleOf
+  offset-is = ap (λ (y : Sample). y .offset) (u .is)
+
+  -- its media times are those that its duration holds
+  holds-told : (t : ℕ) → HasTime x t → Holds (tables s id .durations) t (u .index)
+  holds-told t h = record { from = omega (arith, decode-is, h .from); to = omega (arith, decode-is, duration-is, h .to) }
+
+-- and the other way round
+has-of : (s : List ℕ) (id i t : ℕ) → Holds (tables s id .durations) t i → HasTime (sampleOf (tables s id) i) t
+unfolding sampleOf
+has-of s id i t h = record { from = h .from; to = h .to }
+
+-- the duration of an index is not zero where no answer's is
+lasting : (s : List ℕ) (id : ℕ) (e : askRefusal s id ≡ 0) (i : ℕ) → i < samplesOf (trackAsked s id) → AllLast s id → 0 < getD (tables s id .durations) i 0
+unfolding sampleOf
+lasting s id e i h all = omega (arith, all (suc i) (sampleOf (tables s id) i) (found-is s id e (suc i) i refl h))
+
+-- ---- stretches
+
+-- the samples from the one at a to the one at b - 1: n of them, from index i on, which cover the stretch
+record Run (s : List ℕ) (id : ℕ) (a b : MediaTime) (first last : ℕ) : Type 0 where
+  i : ℕ
+  n : ℕ
+  begin : first ≡ suc i
+  count : howMany first last ≡ n
+  here : i ≡ holder (tables s id .durations) (a .0)
+  there : i + n ≡ suc (holder (tables s id .durations) (b .0 - 1))
+  low : before (tables s id .durations) i ≤ a .0
+  high : b .0 ≤ before (tables s id .durations) (i + n)
+  few : i + n ≤ samplesOf (trackAsked s id)
+
+module _ (s : List ℕ) (id : ℕ) (e : askRefusal s id ≡ 0) (l : Listed s id) where
+  run-of : (a b z : MediaTime) (first last : ℕ) → a .0 < b .0 → b .0 ≤ sum (tables s id .durations) → z .0 ≡ b .0 - 1
+      → atAnswer s id a ≡ number.Number first → atAnswer s id z ≡ number.Number last → Run s id a b first last
+  run-of a b z first last o w d p q =
+      let ds = tables s id .durations in
+      let i = holder ds (a .0) in
+      let j = holder ds (b .0 - 1) in
+      let f = at-told s id e a first p in
+      let g = at-told s id e z last q in
+      let k : last ≡ suc j = g .1 ∙ rw d in
+      let m : i ≤ j = places.holder-mono ds (a .0) (b .0 - 1) (omega arith) in
+      let t : i + (suc j - i) ≡ suc j = omega arith in
+      let u = places.holder-holds ds (a .0) (f .0) in
+      let v = places.holder-holds ds (b .0 - 1) (omega arith) in
+      record {
+        i = i;
+        n = suc j - i;
+        begin = f .1;
+        count = omega (arith, f .1, k);
+        here = refl;
+        there = t;
+        low = u .from;
+        high = rw t (omega (arith, v .to, places.before-suc ds j));
+        few = omega (arith, t, places.holds-below ds (b .0 - 1) j v .1, l .timed);
+      }
+
+  module _ (a b : MediaTime) (first last : ℕ) (r : Run s id a b first last) where
+    -- the answer of each
+    each : (j : ℕ) → j < r .n → sampleAnswer s id (first + j) ≡ Found (sampleOf (tables s id) (r .i + j))
+    each j h = found-is s id e (first + j) (r .i + j) (omega (arith, r .begin)) (omega (arith, r .few))
+
+    parts-fit : a .0 < b .0 → added s id (partIn (a .0) (b .0)) first last ≡ b .0 - a .0
+    unfolding sampleOf
+    parts-fit o = rw (r .count)
+        (parts-added (tables s id .durations) (λ j. partIn (a .0) (b .0) (sampleAnswer s id (first + j))) (a .0) (b .0) (r .i) (r .n) (omega arith) (r .low) (r .high)
+        (λ j h. ap (partIn (a .0) (b .0)) (each j h)))
+
+    sizes-fit : bytesIn (tables s id) a b ≡ added s id sizeIn first last
+    unfolding sampleOf bytesIn firstIn pastIn
+    sizes-fit = rw (r .count, ← r .here, ← r .there)
+        (sym (sizes-added (tables s id .sizes) (λ j. sizeIn (sampleAnswer s id (first + j))) (r .i) (r .n) (λ j h. ap sizeIn (each j h))))
+
+-- a stretch cut at the start of the sample with index i
+cut-fits : (s : List ℕ) (id : ℕ) (a m b : MediaTime) (i : ℕ) → ((k : ℕ) → k < length (tables s id .durations) → 0 < getD (tables s id .durations) k 0)
+    → i < length (tables s id .durations) → m .0 ≡ before (tables s id .durations) i → a .0 < m .0 → m .0 < b .0
+    → bytesIn (tables s id) a b ≡ bytesIn (tables s id) a m + bytesIn (tables s id) m b
+unfolding bytesIn firstIn pastIn
+cut-fits s id a m b i pos h d o w =
+    let ds = tables s id .durations in
+    let zs = tables s id .sizes in
+    let same : (x y : ℕ) → between zs (holder ds x) (suc (holder ds (y - 1))) ≡ places.bytesIn ds zs x y =
+    λ x y. let q : suc (holder ds (y - 1)) ≡ holder ds (y - 1) + 1 = omega arith in ap (between zs (holder ds x)) q in
+    let c = places.cut ds zs (a .0) (b .0) i pos h (omega arith) (omega arith) in
+    rw d (omega (arith, same (a .0) (b .0), same (a .0) (before ds i), same (before ds i) (b .0), c))
+
+-- ---- the claim
+
+pub demand3 : (s : List ℕ) (id : ℕ) → askRefusal s id ≡ 0 → Demand3 s id
+demand3 s id e =
+    let l = listed s id e in
+    let ds = tables s id .durations in
+    let zs = tables s id .sizes in
+    let ps = tables s id .perChunk in
+    let cs = tables s id .chunkOffsets in
+    record {
+      timed = l .timed ∙ sym (l .sized);
+      dealt = l .dealt ∙ sym (l .sized);
+      chunks = l .chunks ∙ sym (l .placed);
+      found = λ n lo hi. (sampleOf (tables s id) (n - 1), found-is s id e n (n - 1) (omega arith) (omega (arith, l .sized)));
+      none = none-is s id e;
+      past = λ n h. past-is s id e n (omega (arith, l .sized));
+      named = λ t h.
+          let i = holder ds (t .0) in
+          let k = places.holder-holds ds (t .0) h in
+          let low : i < samplesOf (trackAsked s id) = omega (arith, places.holds-below ds (t .0) i k .1, l .timed) in
+          let f = found-is s id e (suc i) i refl low in (
+            suc i,
+            sampleOf (tables s id) i,
+            at-is s id e t h,
+            f,
+            has-of s id i (t .0) k,
+            λ m y q w.
+                let u = found-told s id e m y q in
+                u .number ∙ ap suc (places.holder-only ds (t .0) (u .index) (holds-told s id m y u (t .0) w)),
+          );
+      outside = λ t h. (
+        at-outside s id e t h,
+        λ m y q w.
+            let u = found-told s id e m y q in
+            omega (arith, places.holds-below ds (t .0) (u .index) (holds-told s id m y u (t .0) w) .0),
+      );
+      in-chunk = λ n x q.
+          let u = found-told s id e n x q in
+          gets-of ps (u .index) (holder ps (u .index)) (x .chunk) n (chunk-is s id n x u) (u .number) (places.holder-holds ps (u .index) (omega (arith, u .low, l .dealt)));
+      gets = λ c n g.
+          let o : n ≡ suc (n - 1) = omega (arith, g .after) in
+          let f = found-is s id e n (n - 1) o (omega (arith, g .after, g .upto, places.before-le ps c, l .dealt)) in
+          let u = found-told s id e n (sampleOf (tables s id) (n - 1)) f in
+          (sampleOf (tables s id) (n - 1), f, chunk-is s id n (sampleOf (tables s id) (n - 1)) u ∙ sym (gets-only ps (u .index) c n (u .number) g));
+      first-in = λ c lo hi.
+          let k = l .some (c - 1) (omega (arith, l .chunks, l .placed)) in
+          let i = before ps (c - 1) in
+          let f = found-is s id e (suc i) i refl (omega (arith, first-low ps (c - 1) k, l .dealt)) in
+          let u = found-told s id e (suc i) (sampleOf (tables s id) i) f in
+          let v : u .index ≡ i = omega (arith, u .number) in (
+            sampleOf (tables s id) i,
+            f,
+            chunk-is s id (suc i) (sampleOf (tables s id) i) u ∙ rw v (omega (arith, first-chunk ps (c - 1) k)),
+            offset-is s id (suc i) (sampleOf (tables s id) i) u ∙ rw v (first-offset ps (c - 1) k cs zs),
+          );
+      next-in = λ n x y p q same.
+          let u = found-told s id e n x p in
+          let v = found-told s id e (suc n) y q in
+          let w : v .index ≡ suc (u .index) = omega (arith, u .number, v .number) in
+          let g : holder ps (u .index) ≡ holder ps (suc (u .index)) = omega (arith, same, chunk-is s id n x u, chunk-is s id (suc n) y v, ap (holder ps) w) in
+          omega (
+            arith,
+            offset-is s id n x u,
+            size-is s id n x u,
+            offset-is s id (suc n) y v,
+            ap (offsetOf ps cs zs) w,
+            next-offset ps cs zs (u .index) (omega (arith, u .low, l .dealt)) g,
+          );
+      parts = λ a b z first last o w d p q. parts-fit s id e l a b first last (run-of s id e l a b z first last o w d p q) o;
+      answered = λ a b o w. (
+        length (stretchPairs s id a b),
+        bytesIn (tables s id) a b,
+        λ room h. pairs-is s id e a b room o w (omega (arith, flat-length (stretchPairs s id a b))),
+      );
+      bytes = λ a b z room k total first last g d p q.
+          let r = pairs-told s id a b room k total g in
+          r .total ∙ sizes-fit s id e l a b first last (run-of s id e l a b z first last (r .span .order) (r .span .within) d p q);
+      cut = λ pos a m b n x f d o w room₁ room₂ room k₁ k₂ k bytes₁ bytes₂ bytes p q r.
+          let u = found-told s id e n x f in
+          let all : (i : ℕ) → i < length ds → 0 < getD ds i 0 = λ i h.
+          lasting s id e i (omega (arith, l .timed)) pos in
+          let c = cut-fits s id a m b (u .index) all (omega (arith, u .low, l .timed)) (d ∙ decode-is s id n x u) o w in
+          omega (
+            arith,
+            c,
+            pairs-told s id a m room₁ k₁ bytes₁ p .total,
+            pairs-told s id m b room₂ k₂ bytes₂ q .total,
+            pairs-told s id a b room k bytes r .total,
+          );
+    }

@@ -1,0 +1,63 @@
+-- The lists of a track that is asked and not refused: as many durations as sizes, as many samples dealt, as many chunks as offsets, and a sample in each chunk.
+-- Assumes nothing.
+use Prim.Native.Nat.{ℕ, _<_}
+use mathlib.Core.Path.{_≡_, refl, ap, _∙_}
+use mathlib.Core.List.{List}
+use native.Mathlib.Omega.{arith}
+use native.Mathlib.Decide.{ℕ-discrete}
+use lib.ListN.{length, getD, drop, length-drop, length-replicate}
+use Rattle.bigendian.specs.BigEndian.{u32At}
+use Rattle.atoms.specs.Kinds.{stsc, stsz, stco}
+use Rattle.lists.specs.Lists.{sum}
+use Rattle.words.specs.Words.{sizes, chunkOffsets}
+use Rattle.words.proofs.Turns.{offsets-in, length-words, sizes-listed, sizes-common}
+use Rattle.chunks.proofs.Agreed.{samples-length, samples-some}
+use Rattle.structure.specs.Track.{tableOf, samplesOf, chunksOf, descriptionsOf}
+use Rattle.structure.proofs.Shaped.{Shaped}
+use Rattle.track.specs.Track.{trackOf}
+use Rattle.track.proofs.Agreed.{agreed-tables}
+use Rattle.questions.specs.Asked.{askRefusal, trackAsked}
+use Rattle.questions.proofs.Asking.{asked}
+use Rattle.theorems.specs.Demand.{tables}
+
+-- as many sizes as the table counts
+sizes-count : (t : List ℕ) → Shaped t → length (sizes (tableOf stsz t)) ≡ samplesOf t
+sizes-count t h =
+    let z = tableOf stsz t in
+    elim (ℕ-discrete (u32At z 12) 0) [
+      | yes e ↦ omega (arith, ap length (sizes-listed z refl e), length-words (drop 20 z), length-drop 20 z, h .stsz-size e)
+      | no e ↦ ap length (sizes-common z refl e) ∙ length-replicate (u32At z 16) (u32At z 12)
+    ]
+
+-- and as many chunk offsets
+offsets-count : (t : List ℕ) → Shaped t → length (chunkOffsets (tableOf stco t)) ≡ chunksOf t
+offsets-count t h =
+    let o = tableOf stco t in
+    omega (arith, ap length (offsets-in o), length-words (drop 16 o), length-drop 16 o, h .stco-size)
+
+pub record Listed (s : List ℕ) (id : ℕ) : Type 0 where
+  -- N samples
+  pub sized : length (tables s id .sizes) ≡ samplesOf (trackAsked s id)
+  pub timed : length (tables s id .durations) ≡ samplesOf (trackAsked s id)
+  pub dealt : sum (tables s id .perChunk) ≡ samplesOf (trackAsked s id)
+  -- C chunks
+  pub chunks : length (tables s id .perChunk) ≡ chunksOf (trackAsked s id)
+  pub placed : length (tables s id .chunkOffsets) ≡ chunksOf (trackAsked s id)
+  -- each with a sample
+  pub some : (c : ℕ) → c < length (tables s id .perChunk) → 0 < getD (tables s id .perChunk) c 0
+
+pub listed : (s : List ℕ) (id : ℕ) → askRefusal s id ≡ 0 → Listed s id
+unfolding trackOf
+listed s id e =
+    let t = trackAsked s id in
+    let a = asked s id e .track in
+    let g = agreed-tables t (a .agree) in
+    let n = samples-length (tableOf stsc t) (chunksOf t) (descriptionsOf t) (g .deals) in
+    record {
+      sized = sizes-count t (a .shape);
+      timed = g .counted;
+      dealt = g .dealt;
+      chunks = n;
+      placed = offsets-count t (a .shape);
+      some = λ c h. samples-some (tableOf stsc t) (chunksOf t) (descriptionsOf t) (g .deals) c (omega (arith, n));
+    }

@@ -1,0 +1,140 @@
+-- Through the whole: the slip that is written of a stretch reads back as the ID, the scale, a, b and the very pairs that the stretch question puts into its room.
+-- The idea: the track is accepted, so that its numbers keep the rules of a slip.
+-- Assumes nothing.
+use Prim.Native.Nat.{ℕ, _+_, _-_, _*_, _^_, _≤_, _<_}
+use mathlib.Core.Path.{_≡_, refl, sym, ap, _∙_}
+use mathlib.Core.Bool.{Bool, true, false, cond}
+use mathlib.Core.List.{List, _++_}
+use native.Mathlib.Omega.{arith}
+use lib.ListN.{length, take, drop}
+use lib.Seq.{take-at, drop-at}
+use lib.Dec.{eqb}
+use borrow.Author.Tests.{eq-eqb, eqb-true, not-false}
+use Rattle.lists.specs.Lists.{holder}
+use Rattle.lists.proofs.Places.{holder-mono, holder-holds, holds-below}
+use Rattle.words.specs.Words.{sizes, chunkOffsets}
+use Rattle.chunks.specs.Chunks.{perChunk, endWithin}
+use Rattle.pairs.specs.Pairs.{touched, flat}
+use Rattle.edits.specs.declared.MediaTime.{MediaTime}
+use Rattle.slip.specs.Slip.{Rules, Reads}
+use Rattle.slip.specs.declared.Head.{Head}
+use Rattle.slip.specs.declared.read.SlipRead.{SlipRead}
+use Rattle.slip.specs.declared.read.SlipRead.the-variants.{Accepted}
+use Rattle.slip.proofs.Promises.{reads-back}
+use Rattle.structure.specs.Track.{samplesOf}
+use Rattle.structure.proofs.Callers.{none-else}
+use Rattle.track.specs.Track.{trackOf}
+use Rattle.track.specs.Refusals.{beyond}
+use Rattle.movie.specs.Rooms.{filled, roomAfter}
+use Rattle.questions.specs.Asked.{askRefusal, trackAsked}
+use Rattle.questions.specs.Stretches.{firstIn, pastIn, pairsIn, stretchPairs, Stretches}
+use Rattle.questions.specs.Slips.{slipHead, slipOfStretch, slipRefusal, slipAnswer, Slips}
+use Rattle.questions.specs.declared.stretches.StretchAnswer.{StretchAnswer}
+use Rattle.questions.specs.declared.stretches.StretchAnswer.the-variants as stretch
+use Rattle.questions.specs.declared.slips.SlipAnswer.{SlipAnswer}
+use Rattle.questions.specs.declared.slips.SlipAnswer.the-variants as slip
+use Rattle.questions.proofs.Asking.{asked}
+use Rattle.theorems.specs.Demand.{tables}
+use Rattle.theorems.proofs.Bytes.{Bytes, scale-small, asked-id}
+use Rattle.theorems.proofs.Ranges.{few-touched, some-touched, touched-below}
+use Rattle.theorems.proofs.Lists.{listed}
+use Rattle.theorems.proofs.Answers.{flat-length, Span, span-told, pairs-told}
+
+-- ---- what an answer that is not refused tells
+
+-- the slip was written: nothing was refused, and n is its length
+slip-told : (s : List ℕ) (id : ℕ) (a b : MediaTime) (out : List ℕ) (n : ℕ) → slipAnswer s id a b out ≡ slip.Written n
+    → (slipRefusal s id a b out ≡ 0) × (n ≡ length (slipOfStretch s id a b))
+unfolding slipAnswer
+slip-told s id a b out n e = go (eqb (slipRefusal s id a b out) 0) refl e
+  where
+    go : (t : Bool) → eqb (slipRefusal s id a b out) 0 ≡ t → cond t (slip.Written (length (slipOfStretch s id a b))) (slip.Refused (slipRefusal s id a b out)) ≡ slip.Written n
+        → (slipRefusal s id a b out ≡ 0) × (n ≡ length (slipOfStretch s id a b))
+    go true q w = (eqb-true _ _ q, cc)
+    go false q w = let z : _≡_ {A = ℕ} 0 1 = cc in absurd (omega arith)
+
+-- the room after it
+filled-told : (refusal : ℕ) (answer room after : List ℕ) → refusal ≡ 0 → after ≡ roomAfter refusal answer room → after ≡ answer ++ drop (length answer) room
+unfolding roomAfter filled
+filled-told refusal answer room after z e = rw (eq-eqb refusal 0 z) at e
+
+not-zero : (n : ℕ) → (n ≡ 0 → ⊥) → 0 < n
+not-zero n h = omega arith
+
+-- ---- the numbers of the slip keep its rules
+
+-- the samples of a stretch, by index
+span-samples : (s : List ℕ) (id : ℕ) (a b : MediaTime) → Span s id a b
+    → (firstIn (tables s id) a < pastIn (tables s id) b) × (pastIn (tables s id) b ≤ samplesOf (trackAsked s id))
+unfolding firstIn pastIn
+span-samples s id a b p =
+    let ds = tables s id .durations in
+    let h = holder-holds ds (b .0 - 1) (omega (arith, p .order, p .within)) in (
+      omega (arith, holder-mono ds (a .0) (b .0 - 1) (omega (arith, p .order))),
+      omega (arith, holds-below ds (b .0 - 1) (holder ds (b .0 - 1)) h .1, listed s id (p .ask) .timed),
+    )
+
+-- each chunk ends within the file
+chunks-end : (s : List ℕ) (id : ℕ) → askRefusal s id ≡ 0 → endWithin (length s) (tables s id .perChunk) (tables s id .chunkOffsets) (tables s id .sizes) ≡ true
+unfolding trackOf beyond
+chunks-end s id e = not-false _ (asked s id e .track .within)
+
+some-scale-of : (s : List ℕ) (id : ℕ) → askRefusal s id ≡ 0 → tables s id .scale ≡ 0 → ⊥
+unfolding trackOf
+some-scale-of s id e = asked s id e .track .some-scale
+
+slip-rules : (s : List ℕ) (id : ℕ) (a b : MediaTime) → Bytes s → id < 2 ^ 32 → a .0 < 2 ^ 32 → b .0 < 2 ^ 32 → Span s id a b
+    → Rules (2 ^ 32) (slipHead s id a b) (flat (stretchPairs s id a b))
+unfolding slipHead stretchPairs pairsIn
+slip-rules s id a b bytes low-id low-a low-b p =
+    let k = asked s id (p .ask) in
+    let l = listed s id (p .ask) in
+    let ps = tables s id .perChunk in
+    let cs = tables s id .chunkOffsets in
+    let zs = tables s id .sizes in
+    let i = firstIn (tables s id) a in
+    let j = pastIn (tables s id) b in
+    let o = span-samples s id a b p in
+    let n = asked-id s id (k .has) in
+    let y = some-scale-of s id (p .ask) in
+    record {
+      some-id = not-zero id (λ z. k .track .some-id (n ∙ z));
+      some-scale = not-zero (tables s id .scale) y;
+      order = p .order;
+      some-pairs = some-touched i j 0 ps cs zs (o .0) (omega arith) (omega (arith, o .0, o .1, l .dealt));
+      few-pairs = omega (arith, few-touched i j 0 ps cs zs, l .chunks, k .track .shape .few-chunks);
+      all-pairs = flat-length (touched i j 0 ps cs zs);
+      below = (low-id, (scale-small s id bytes, (low-a, (low-b, touched-below (length s) (2 ^ 32) i j 0 ps cs zs (omega (arith, k .file .shape .short)) (o .0) (chunks-end s id (p .ask))))));
+    }
+
+-- ---- written, and read
+
+-- the slip that reading answers
+abbrev pub headOf : List ℕ → ℕ → MediaTime → MediaTime → ℕ → Head
+headOf s id a b k = record { id = id; scale = tables s id .scale; a = a .0; b = b .0; pairs = k }
+
+-- The file s holds bytes, and the numbers asked are of 32 bits. A slip question on s has written n bytes, and a stretch question of the same stretch, in a room of its
+-- own, has answered k pairs. Then those n bytes, read into any room of 2 * k places or more, are accepted as the ID, the track's scale, a, b and k; the first
+-- 2 * k places are what the stretch question put into its room, and the rest of the room is as it was
+module _ (s : List ℕ) (id : ℕ) (a b : MediaTime) (bytes : Bytes s) (low-id : id < 2 ^ 32) (low-a : a .0 < 2 ^ 32) (low-b : b .0 < 2 ^ 32)
+    (out : List ℕ) (w : SlipAnswer) (after : List ℕ) (n : ℕ) (slips : Slips s id a b out w after) (written : w ≡ slip.Written n)
+    (room : List ℕ) (q : StretchAnswer) (put : List ℕ) (k total : ℕ) (stretches : Stretches s id a b room q put) (pairs : q ≡ stretch.Pairs k total)
+    (places : List ℕ) (r : SlipRead) (read : List ℕ) (reads : Reads (take n after) places r read) (enough : 2 * k ≤ length places) where
+  pub whole : (r ≡ Accepted (headOf s id a b k)) × (take (2 * k) read ≡ take (2 * k) put) × (drop (2 * k) read ≡ drop (2 * k) places)
+  unfolding slipOfStretch slipHead slipRefusal
+  whole =
+      let ps = stretchPairs s id a b in
+      let u = slip-told s id a b out n (sym (slips .answer) ∙ written) in
+      let v = pairs-told s id a b room k total (sym (stretches .answer) ∙ pairs) in
+      let p = span-told s id a b (none-else _ _ (u .0) .0) in
+      let c = flat-length ps in
+      let e : length (flat ps) ≡ 2 * k = omega (arith, c, v .count) in
+      let f : take n after ≡ slipOfStretch s id a b =
+      ap (take n) (filled-told _ (slipOfStretch s id a b) out after (u .0) (slips .places)) ∙ take-at (slipOfStretch s id a b) (drop (length (slipOfStretch s id a b)) out) n (sym (u .1)) in
+      let g = filled-told _ (flat ps) room put (v .refusal) (stretches .places) in
+      let h = reads-back (take n after) places r read reads (slipHead s id a b) (flat ps) (record { bytes = f; rules = slip-rules s id a b bytes low-id low-a low-b p }) (omega (arith, e)) in
+      let m : length ps ≡ k = sym (v .count) in (
+        h .0 ∙ ap (λ (x : ℕ). Accepted (headOf s id a b x)) m,
+        ap (take (2 * k)) (h .1) ∙ take-at (flat ps) (drop (length (flat ps)) places) (2 * k) e ∙ sym (ap (take (2 * k)) g ∙ take-at (flat ps) (drop (length (flat ps)) room) (2 * k) e),
+        ap (drop (2 * k)) (h .1) ∙ drop-at (flat ps) (drop (length (flat ps)) places) (2 * k) e ∙ ap (λ (x : ℕ). drop x places) e,
+      )
