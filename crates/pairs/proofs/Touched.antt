@@ -14,7 +14,8 @@ use Rattle.lists.specs.Lists.{sum, before, between, holder}
 use Rattle.lists.proofs.Laws.{holder-hit, holder-miss}
 use Rattle.lists.proofs.Places.{between-split}
 use Rattle.chunks.specs.Chunks.{endWithin}
-use Rattle.pairs.specs.Pairs.{isTouched, pairOf, touched}
+use Rattle.leb128.specs.Numbers.{Below}
+use Rattle.pairs.specs.Pairs.{isTouched, pairOf, touched, flat}
 use Rattle.pairs.specs.Walks.{lengthsOf, Fitting}
 use Rattle.pairs.specs.declared.Pair.{Pair}
 
@@ -148,3 +149,16 @@ touched-fits limit i j begin (p ∷ ps) cs zs o l e = go (ltb limit (getD cs 0 0
 pub fits-sum : (l : List Pair) → Fitting l → sum (lengthsOf l) ≤ length l * 4294967295
 fits-sum [] f = omega arith
 fits-sum (q ∷ l) f = omega (arith, f .1, fits-sum l (f .2))
+
+-- sample i lies in one of the chunks
+pub some-touched : (i j begin : ℕ) (ps cs zs : List ℕ) → i < j → begin ≤ i → i < begin + sum ps → 0 < length (touched i j begin ps cs zs)
+some-touched i j begin [] cs zs o l h = absurd (omega arith)
+some-touched i j begin (p ∷ ps) cs zs o l h = elim (decLt i (begin + p)) [
+  | yes k ↦ rw (is-touched i j begin p (omega arith) k) (omega arith)
+  | no k ↦ rw (before-first i j begin p (omega arith)) (some-touched i j (begin + p) ps (drop 1 cs) zs o (omega arith) (omega arith))
+]
+
+-- their numbers, one after the other, are below 2 ^ 32 each
+pub fits-below : (l : List Pair) → Fitting l → Below 4294967296 (flat l)
+fits-below [] f = tt
+fits-below (q ∷ l) f = (f .0, (f .1, fits-below l (f .2)))

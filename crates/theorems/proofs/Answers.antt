@@ -28,11 +28,6 @@ use Rattle.questions.specs.declared.times.NumberAnswer.the-variants as number
 use Rattle.questions.specs.declared.stretches.StretchAnswer.the-variants as stretch
 use Rattle.theorems.specs.Demand.{tables}
 
--- a pair is two numbers
-pub flat-length : (ps : List Pair) → length (flat ps) ≡ 2 * length ps
-flat-length [] = refl
-flat-length (p ∷ ps) = omega (arith, flat-length ps)
-
 -- the sample that was found has this index
 pub record Told (s : List ℕ) (id n : ℕ) (x : Sample) : Type 0 where
   pub index : ℕ

@@ -21,7 +21,8 @@ use Rattle.theorems.specs.Demand.{tables, HasTime, partIn, sizeIn, howMa
 use Rattle.theorems.proofs.Added.{sizes-added, parts-added}
 use Rattle.theorems.proofs.Dealt.{gets-of, gets-only, first-low, first-chunk, first-offset, next-offset}
 use Rattle.theorems.proofs.Lists.{Listed, listed}
-use Rattle.theorems.proofs.Answers.{flat-length, Told, found-is, none-is, past-is, found-told, at-is, at-outside, at-told, pairs-is, pairs-told}
+use Rattle.questions.proofs.Spanning.{flat-length}
+use Rattle.theorems.proofs.Answers.{Told, found-is, none-is, past-is, found-told, at-is, at-outside, at-told, pairs-is, pairs-told}
 
 -- ---- what a sample's answer says of the lists
 

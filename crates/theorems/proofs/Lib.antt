@@ -4,5 +4,4 @@ pub mod Lists
 pub mod Answers
 pub mod Demand
 pub mod Bytes
-pub mod Ranges
 pub mod Whole

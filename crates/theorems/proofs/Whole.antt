@@ -36,9 +36,10 @@ use Rattle.questions.specs.declared.slips.SlipAnswer.the-variants as slip
 use Rattle.questions.proofs.Asking.{asked}
 use Rattle.theorems.specs.Demand.{tables}
 use Rattle.theorems.proofs.Bytes.{Bytes, scale-small, asked-id}
-use Rattle.theorems.proofs.Ranges.{few-touched, some-touched, touched-below}
+use Rattle.pairs.proofs.Touched.{touched-few, some-touched, touched-fits, fits-below}
 use Rattle.theorems.proofs.Lists.{listed}
-use Rattle.theorems.proofs.Answers.{flat-length, Span, span-told, pairs-told}
+use Rattle.questions.proofs.Spanning.{flat-length}
+use Rattle.theorems.proofs.Answers.{Span, span-told, pairs-told}
 
 -- ---- what an answer that is not refused tells
 
@@ -102,9 +103,9 @@ slip-rules s id a b bytes low-id low-a low-b p =
       some-scale = not-zero (tables s id .scale) y;
       order = p .order;
       some-pairs = some-touched i j 0 ps cs zs (o .0) (omega arith) (omega (arith, o .0, o .1, l .dealt));
-      few-pairs = omega (arith, few-touched i j 0 ps cs zs, l .chunks, k .track .shape .few-chunks);
+      few-pairs = omega (arith, touched-few i j 0 ps cs zs, l .chunks, k .track .shape .few-chunks);
       all-pairs = flat-length (touched i j 0 ps cs zs);
-      below = (low-id, (scale-small s id bytes, (low-a, (low-b, touched-below (length s) (2 ^ 32) i j 0 ps cs zs (omega (arith, k .file .shape .short)) (o .0) (chunks-end s id (p .ask))))));
+      below = (low-id, (scale-small s id bytes, (low-a, (low-b, fits-below (touched i j 0 ps cs zs) (touched-fits (length s) i j 0 ps cs zs (omega (arith, o .0)) (omega (arith, k .file .shape .short)) (chunks-end s id (p .ask)))))));
     }
 
 -- ---- written, and read

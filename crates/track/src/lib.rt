@@ -125,7 +125,8 @@ pub fn refusal(trak: &[u8], movie: u32, len: u64) -> u32
     if is_contradictory(trak) {
         return 9;
     }
-    match total_duration(table(trak, kinds::STTS)) {
+    let stts = table(trak, kinds::STTS);
+    match total_duration(stts) {
         Total::Over => 10,
         Total::Sum(total) => timed_refusal(trak, movie, len, total),
     }
