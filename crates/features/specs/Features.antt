@@ -9,7 +9,7 @@ use Rattle.runs.specs.Runs.{leastOf}
 use Rattle.descriptions.specs.Descriptions.{greatest, widthOf, heightOf}
 use Rattle.track.specs.Track.{Track}
 use Rattle.features.specs.declared.rates.Feature.{Feature}
-use Rattle.features.specs.declared.rates.Feature.the-variants.{Value, NotComputed}
+use Rattle.features.specs.declared.rates.Feature.the-variants.{NotComputed}
 use Rattle.features.specs.Rates.{valueOf, rateOf}
 
 -- the four codes, and the subtype of sound

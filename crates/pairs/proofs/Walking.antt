@@ -6,21 +6,21 @@ use mathlib.Core.Bool.{Bool, true, false, _||_}
 use mathlib.Core.List.{List, [], _∷_}
 use native.Mathlib.Omega.{arith}
 use native.Mathlib.Decide.{decLt}
-use borrow.Author.Tests.{eq-eqb, ne-eqb, eqb-true, eqb-false, leb-true, leb-false}
-use lib.ListN.{length, getD, drop, length-drop, drop-of-length-le}
+use borrow.Author.Tests.{eqb-true, eqb-false, leb-true, leb-false}
+use lib.ListN.{length, getD, drop, length-drop}
 use lib.Seq.{drop-drop, getD-drop}
 use lib.Dec.{eqb, leb}
 use Rattle.lists.specs.Lists.{sum, before, between, holder}
-use Rattle.lists.proofs.Laws.{holder-hit, holder-miss}
+use Rattle.lists.proofs.Laws.{holder-miss}
 use Rattle.lists.proofs.Places.{before-suc, holder-holds}
 use Rattle.words.specs.Words.{sizes, chunkOffsets}
 use Rattle.chunks.specs.Chunks.{perChunk}
-use Rattle.chunks.specs.Cursors.{ahead, Valid, Stands, readied, past, Finds}
+use Rattle.chunks.specs.Cursors.{ahead, readied, past, Finds}
 use Rattle.chunks.specs.declared.Cursor.{Cursor}
 use Rattle.chunks.specs.declared.Sought.{Sought}
 use Rattle.chunks.proofs.Cursors.{Same, ready-same, ready-valid, past-valid, ahead-cons, stands-at}
 use Rattle.chunks.proofs.Finding.{before-holder}
-use Rattle.pairs.specs.Pairs.{pairOf, touched}
+use Rattle.pairs.specs.Pairs.{pairOf}
 use Rattle.pairs.specs.Walks.{pairsBetween, pairsAhead, At, placeAfter, StartsAt}
 use Rattle.pairs.specs.declared.Pair.{Pair}
 use Rattle.pairs.specs.declared.Place.{Place}

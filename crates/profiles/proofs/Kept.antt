@@ -1,7 +1,7 @@
 -- The records kept of a profile, record after record: what a walk learns at a place t.
 -- Assumes nothing.
-use Prim.Native.Nat.{ℕ, zero, suc, _+_, _*_, _≤_, _<_}
-use mathlib.Core.Path.{_≡_, refl, sym, ap, _∙_}
+use Prim.Native.Nat.{ℕ, suc, _+_, _*_, _≤_, _<_}
+use mathlib.Core.Path.{_≡_, refl}
 use mathlib.Core.List.{List, [], _∷_, _++_}
 use native.Mathlib.Omega.{arith}
 use native.Mathlib.Nat.{zero-add}
@@ -11,7 +11,7 @@ use lib.ListN.{length, take, drop}
 use lib.Seq.{sets, sets-eq}
 use Rattle.bigendian.specs.BigEndian.{u32At}
 use Rattle.bigendian.proofs.Laws.{beAt-take}
-use Rattle.lists.specs.Entries.{rowsOf, entries}
+use Rattle.lists.specs.Entries.{entries}
 use Rattle.lists.proofs.Rows.{rows-none, rows-next}
 use Rattle.profiles.specs.Profiles.{kept, recordNumbers, keptIn, keptOf}
 

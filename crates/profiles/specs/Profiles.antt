@@ -1,7 +1,7 @@
 -- "Stored profile: part-ID, code and value of each record kept, in order; ID 0 asks for the movie's own; no profile gives none."
 use Prim.Native.Nat.{ℕ}
 use mathlib.Core.Path.{_≡_}
-use mathlib.Core.List.{List, [], _∷_, _++_}
+use mathlib.Core.List.{List, [], _∷_}
 use mathlib.Core.Bool.{cond}
 use lib.ListN.{length}
 use lib.Dec.{eqb}

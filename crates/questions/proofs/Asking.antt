@@ -1,16 +1,16 @@
 -- The track that is asked: where neither the file nor the ID is refused it is an accepted track of the file, and no longer than the file.
 -- Assumes nothing.
-use Prim.Native.Nat.{ℕ, zero, suc, _≤_, _<_, _^_}
+use Prim.Native.Nat.{ℕ, suc, _≤_, _<_, _^_}
 use mathlib.Core.Path.{_≡_, refl, sym, _∙_}
 use mathlib.Core.List.{List, [], _∷_, map}
 use mathlib.Core.Bool.{Bool, true, false, cond}
 use native.Mathlib.Omega.{arith}
-use borrow.Author.Tests.{eq-eqb, ne-eqb, eqb-true}
-use lib.ListN.{length, getD}
+use borrow.Author.Tests.{eq-eqb, ne-eqb}
+use lib.ListN.{length}
 use lib.Dec.{eqb}
 use Rattle.words.specs.Words.{listed}
 use Rattle.structure.specs.Track.{idOf, tableOf}
-use Rattle.structure.specs.Movie.{moovOf, movieScale, tracksOf, trackAt}
+use Rattle.structure.specs.Movie.{moovOf, movieScale, tracksOf}
 use Rattle.structure.specs.Rows.{orElse}
 use Rattle.structure.proofs.Callers.{Each, track-at, none-else}
 use Rattle.structure.proofs.Lengths.{table-short, track-short}

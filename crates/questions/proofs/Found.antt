@@ -1,35 +1,33 @@
 -- The answers of the sample question, from what the code has of the track and of its tables; and that a sample's bytes lie in the file.
 -- Assumes nothing.
-use Prim.Native.Nat.{ℕ, zero, suc, _+_, _-_, _≤_, _<_}
+use Prim.Native.Nat.{ℕ, suc, _+_, _-_, _≤_, _<_}
 use mathlib.Core.Path.{_≡_, refl, sym, ap, _∙_}
 use mathlib.Core.List.{List}
-use mathlib.Core.Bool.{Bool, true, false, cond, _&&_}
+use mathlib.Core.Bool.{Bool, true, false, cond}
 use native.Mathlib.Omega.{arith}
 use borrow.Author.Tests.{eq-eqb, ne-eqb, lt-ltb, le-leb, lt-leb, eqb-true, ltb-true, leb-true, not-false}
 use lib.ListN.{length, getD, take, drop}
-use lib.Dec.{eqb, ltb, leb}
+use lib.Dec.{eqb, ltb}
 use lib.IntN.{ℤ, pos, _+ℤ_}
 use Rattle.bigendian.specs.BigEndian.{u32At}
 use Rattle.atoms.specs.Kinds.{stts, ctts, stsc, stsz, stco, stss}
 use Rattle.atoms.proofs.Laws.{and-left, and-right}
-use Rattle.lists.specs.Lists.{before, holder, sum}
+use Rattle.lists.specs.Lists.{holder}
 use Rattle.lists.proofs.Places.{holder-holds, holds-below, each-at, before-le}
 use Rattle.runs.specs.Runs as runs
 use Rattle.runs.specs.declared.Timing.{Timing}
 use Rattle.words.specs.Words.{sizes, chunkOffsets, isSync}
-use Rattle.chunks.specs.Chunks.{perChunk, descriptionIds, locatedIn, offsetOf, offsetAt, endWithin}
+use Rattle.chunks.specs.Chunks.{perChunk, descriptionIds, locatedIn, offsetOf, offsetAt}
 use Rattle.chunks.specs.declared.Located.{Located}
 use Rattle.chunks.proofs.Agreed.{samples-length}
 use Rattle.chunks.proofs.Finding.{offset-located}
 use Rattle.chunks.proofs.Ends.{all-within, sample-within}
 use Rattle.structure.specs.Track.{tableOf, samplesOf, chunksOf}
-use Rattle.structure.specs.Movie.{moovOf, movieScale}
 use Rattle.structure.specs.Rows.{orElse}
 use Rattle.structure.proofs.Callers.{none-else}
 use Rattle.track.specs.Track.{trackOf}
 use Rattle.track.specs.Refusals.{contradicts, totalIn, beyond}
 use Rattle.track.proofs.Agreed.{agreed-tables}
-use Rattle.movie.proofs.Accepted.{Accepted}
 use Rattle.questions.specs.Asked.{askRefusal, trackAsked}
 use Rattle.questions.specs.Samples.{sampleOf, sampleRefusal, sampleAnswer, sampleNumbers, Samples, bytesStart, bytesLength, sampleBytes}
 use Rattle.questions.specs.declared.samples.Sample.{Sample}

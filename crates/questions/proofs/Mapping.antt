@@ -1,7 +1,7 @@
 -- The answers of the two questions of times, from what the code has of the track and of its tables.
 -- Assumes nothing.
-use Prim.Native.Nat.{ℕ, suc, _+_, _≤_, _<_}
-use mathlib.Core.Path.{_≡_, refl, sym, ap, _∙_}
+use Prim.Native.Nat.{ℕ, suc, _+_, _<_}
+use mathlib.Core.Path.{_≡_, sym, ap, _∙_}
 use mathlib.Core.List.{List}
 use native.Mathlib.Omega.{arith}
 use borrow.Author.Tests.{eq-eqb, ne-eqb, lt-ltb, le-ltb}
@@ -18,7 +18,7 @@ use Rattle.edits.specs.declared.MediaTime.{MediaTime}
 use Rattle.edits.specs.declared.MovieTime.{MovieTime}
 use Rattle.edits.specs.declared.Mapped.{Mapped}
 use Rattle.edits.specs.declared.Mapped.the-variants as mapped
-use Rattle.structure.specs.Track.{tableOf, scaleOf, elstOf, samplesOf}
+use Rattle.structure.specs.Track.{tableOf, scaleOf, elstOf}
 use Rattle.structure.specs.Movie.{moovOf, movieScale}
 use Rattle.structure.specs.Rows.{orElse}
 use Rattle.track.specs.Track.{trackOf}

@@ -1,6 +1,6 @@
 -- Slip writing, from what the code has of the stretch: the head and then the pairs, put one after the other, are the slip's bytes.
 -- Assumes nothing.
-use Prim.Native.Nat.{ℕ, _+_, _*_, _^_, _≤_, _<_}
+use Prim.Native.Nat.{ℕ, _+_, _^_, _≤_, _<_}
 use mathlib.Core.Path.{_≡_, refl, sym, ap, _∙_}
 use mathlib.Core.List.{List, [], _∷_, _++_}
 use mathlib.Core.Bool.{Bool, true, false, cond}
@@ -20,7 +20,6 @@ use Rattle.structure.specs.Rows.{orElse}
 use Rattle.track.specs.Track.{trackOf}
 use Rattle.movie.specs.Rooms.{noRoom, filled, roomAfter, refusedWith}
 use Rattle.pairs.specs.Pairs.{flat}
-use Rattle.pairs.specs.declared.Pair.{Pair}
 use Rattle.edits.specs.declared.MediaTime.{MediaTime}
 use Rattle.questions.specs.Asked.{trackAsked}
 use Rattle.questions.specs.Spans.{Usable, Spans, spanPairs, PutSlip}
@@ -29,7 +28,7 @@ use Rattle.questions.specs.Slips.{slipHead, slipOfStretch, slipRefusal, 
 use Rattle.questions.specs.declared.stretches.Span.{Span}
 use Rattle.questions.specs.declared.slips.SlipAnswer.{SlipAnswer}
 use Rattle.questions.specs.declared.slips.SlipAnswer.the-variants.{Written, Refused}
-use Rattle.questions.proofs.Spanning.{InSpan, in-span-of, pairs-few, pairs-are, flat-length}
+use Rattle.questions.proofs.Spanning.{in-span-of, pairs-few, pairs-are, flat-length}
 
 -- ---- how long it is
 

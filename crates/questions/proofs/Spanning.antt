@@ -1,19 +1,19 @@
 -- The stretch question, from what the code has of the track: its samples, its pairs, and each of its answers.
 -- Assumes nothing.
-use Prim.Native.Nat.{ℕ, suc, _+_, _*_, _-_, _/_, _^_, _≤_, _<_, max}
+use Prim.Native.Nat.{ℕ, _+_, _*_, _-_, _/_, _≤_, _<_, max}
 use mathlib.Core.Path.{_≡_, refl, sym, ap, _∙_}
 use mathlib.Core.List.{List, [], _∷_, _++_}
-use mathlib.Core.Bool.{Bool, true, false, cond, _&&_}
+use mathlib.Core.Bool.{Bool, true, false, cond}
 use native.Mathlib.Omega.{arith}
 use native.Mathlib.Nat.{zero-add, div-lt-iff-lt-mul}
 use borrow.Author.Tests.{eq-eqb, ne-eqb, lt-ltb, le-ltb, le-leb, lt-leb, not-false, ltb-true, leb-true}
 use lib.ListN.{length, drop}
-use lib.Dec.{ltb, leb, lit<}
+use lib.Dec.{ltb, lit<}
 use lib.Seq.{sets, sets-eq}
 use Rattle.bigendian.specs.BigEndian.{u32At}
 use Rattle.atoms.specs.Kinds.{stts, stsc, stsz, stco}
 use Rattle.atoms.proofs.Laws.{and-left, and-right}
-use Rattle.lists.specs.Lists.{sum, between, holder}
+use Rattle.lists.specs.Lists.{sum, holder}
 use Rattle.lists.proofs.Places.{holder-holds, holds-below, holder-only, holder-mono}
 use Rattle.runs.specs.Runs.{durations, sampleAt}
 use Rattle.runs.specs.declared.Found.{Found}
@@ -23,14 +23,13 @@ use Rattle.words.specs.Words.{sizes, chunkOffsets}
 use Rattle.chunks.specs.Chunks.{perChunk}
 use Rattle.chunks.proofs.Agreed.{samples-length}
 use Rattle.structure.specs.Track.{tableOf, samplesOf, chunksOf}
-use Rattle.structure.specs.Movie.{moovOf, movieScale}
 use Rattle.structure.specs.Rows.{orElse}
 use Rattle.structure.proofs.Callers.{none-else}
 use Rattle.track.specs.Track.{trackOf}
 use Rattle.track.specs.Refusals.{totalIn, beyond}
 use Rattle.track.proofs.Agreed.{agreed-tables}
 use Rattle.movie.specs.Rooms.{noRoom, filled, roomAfter}
-use Rattle.pairs.specs.Pairs.{touched, flat}
+use Rattle.pairs.specs.Pairs.{flat}
 use Rattle.pairs.specs.Walks.{pairsBetween, lengthsOf, countBetween, Putting}
 use Rattle.pairs.specs.declared.Pair.{Pair}
 use Rattle.pairs.proofs.Touched.{touched-count, touched-few, touched-sum, touched-fits, fits-sum}

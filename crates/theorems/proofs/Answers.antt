@@ -1,9 +1,9 @@
 -- The answers of a track that is asked and not refused, by index: what is answered of each number and time, and what an answer tells.
 -- Assumes nothing.
-use Prim.Native.Nat.{ℕ, zero, suc, _*_, _-_, _≤_, _<_}
+use Prim.Native.Nat.{ℕ, zero, suc, _-_, _≤_, _<_}
 use mathlib.Core.Path.{_≡_, refl}
 use mathlib.Core.Bool.{Bool, true, false, cond}
-use mathlib.Core.List.{List, [], _∷_}
+use mathlib.Core.List.{List}
 use native.Mathlib.Omega.{arith}
 use native.Mathlib.Decide.{decLe, decLt}
 use lib.ListN.{length}
@@ -12,7 +12,6 @@ use borrow.Author.Tests.{lt-ltb, le-ltb, le-leb, lt-leb, ltb-true, leb-true, eqb
 use Rattle.atoms.proofs.Laws.{and-left, and-right}
 use Rattle.lists.specs.Lists.{sum, holder}
 use Rattle.pairs.specs.Pairs.{flat}
-use Rattle.pairs.specs.declared.Pair.{Pair}
 use Rattle.edits.specs.declared.MediaTime.{MediaTime}
 use Rattle.structure.specs.Track.{samplesOf}
 use Rattle.structure.specs.Rows.{orElse}

@@ -1,19 +1,18 @@
 -- What holds of the lists of a track whose sample tables do not contradict each other: the clauses of refusal 9, one by one.
 -- Assumes nothing.
 use Prim.Native.Nat.{ℕ}
-use mathlib.Core.Path.{_≡_, sym, ap, _∙_}
-use mathlib.Core.Bool.{Bool, true, false, not, _&&_, _||_}
+use mathlib.Core.Path.{_≡_, ap, _∙_}
+use mathlib.Core.Bool.{true, false, not, _&&_}
 use mathlib.Core.List.{List}
 use lib.ListN.{length}
 use lib.Dec.{eqb}
 use borrow.Author.Tests.{eqb-true, not-false}
-use Rattle.atoms.specs.Kinds.{stts, ctts, stsc, stss}
+use Rattle.atoms.specs.Kinds.{stts, ctts, stsc}
 use Rattle.structure.specs.Track.{tableOf, samplesOf, chunksOf, descriptionsOf}
 use Rattle.structure.proofs.Callers.{or-left, or-right}
 use Rattle.lists.specs.Lists.{sum}
 use Rattle.runs.specs.Runs.{durations}
 use Rattle.runs.proofs.Sentences.{counted-length}
-use Rattle.words.specs.Words.{syncsAgree}
 use Rattle.chunks.specs.Chunks.{perChunk, dealsAgree, dealsContradict}
 use Rattle.chunks.proofs.Clauses.{agree-clauses}
 use Rattle.track.specs.Refusals.{miscounted, contradicts}

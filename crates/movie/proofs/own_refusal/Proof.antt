@@ -3,7 +3,6 @@
 use borrow.Author.Needs.{needs}
 use borrow.Author.Tests.{eq-eqb, ne-eqb}
 use Rattle.structure.specs.Rows.{first}
-use Rattle.track.specs.Refusals.{timedRows}
 use Rattle.movie.specs.Refusals.{sameIds, movieScaleIsZero, tableRows}
 use Rattle.movie.proofs.own_refusal.Statement.{statement}
 use Rattle.movie.proofs.own_refusal.Tie as tie

@@ -1,7 +1,7 @@
 -- `pairs::count_pairs` meets its contract; the loop's invariant: the pairs counted and those ahead are all of them.
 -- Assumes nothing.
 use borrow.Author.Needs.{needs}
-use mathlib.Core.Path.{_≡_, sym, _∙_}
+use mathlib.Core.Path.{sym, _∙_}
 use borrow.Author.Tests.{not-true, not-false}
 use lib.ListN.{length}
 use Rattle.chunks.specs.Cursors.{ahead}

@@ -1,6 +1,5 @@
 -- `pairs::is_past` meets its contract.
 -- Assumes nothing.
-use borrow.Author.Needs.{needs}
 use borrow.Author.Tests.{eq-eqb, ne-eqb}
 use Rattle.pairs.proofs.is_past.Statement.{statement}
 use Rattle.pairs.proofs.is_past.Tie as tie
