@@ -9,7 +9,7 @@ for name in slip_vectors slip_example; do
     "host/reference/target/debug/$name" > "$made/$name"
     cp "$made/$name" "crates/$name/stdout"
 done
-for pair in films:structure_vectors tables:tables_vectors movie_films:movie_vectors question_films:question_vectors; do
+for pair in films:structure_vectors tables:tables_vectors movie_films:movie_vectors question_films:question_vectors stretch_films:stretch_vectors; do
     name=${pair#*:}
     mkdir -p "$made/files/$name/data"
     "host/reference/target/debug/${pair%:*}" "$made/files/$name/data" "$made/files/$name/args" > "$made/files/$name/stdout"
@@ -22,3 +22,7 @@ host/reference/target/debug/listing "$made/files/listing" "$made/films"
 rm -rf crates/listing/data
 cp -r "$made/files/listing/." crates/listing
 cp "$made/films/"*.mov films
+# The example of the README reads one of them from its standard input.
+cp films/two-hoses.mov crates/hoses_example/stdin
+host/reference/target/debug/hoses_example < films/two-hoses.mov > "$made/hoses_example"
+cp "$made/hoses_example" crates/hoses_example/stdout

@@ -1,0 +1,64 @@
+//! The films of crates/stretch_vectors, the stretches and slips that they are asked for, and its lines, from the reference.
+//!
+//! Writes each film and its questions to the folder that is its first argument, and the names, one to a line, to the file that is its second:
+//! each film with its questions after it. The lines go to standard output. A question is five big-endian 32-bit numbers: its kind, a track ID,
+//! the media times a and b, and the length of the room lent. A film's name begins with the number that its maker means it to be refused with,
+//! and its maker may say some of its lines by hand: the reference must agree with both, so that a film which tests another thing than its name
+//! says is not kept by mistake.
+mod asks;
+mod base;
+mod chunks;
+mod durations;
+mod lines;
+mod paper;
+mod refused;
+mod sizes;
+mod slips;
+mod tracks;
+
+use base::{Film, Films};
+use reference::movie::refusal;
+
+/// The most bytes that the program reads of a film, and of the questions that it is asked.
+const FILM: usize = 131_584;
+const QUESTIONS: usize = 65_536;
+
+fn lines_of(film: &Film, name: &str) -> Vec<String> {
+    assert_eq!(refusal(&film.bytes), film.number, "{name}");
+    let lines: Vec<String> = film.asks.iter().map(|ask| lines::line(&film.bytes, ask)).collect();
+    for said in &film.said {
+        assert!(lines.contains(said), "{name}: not among the lines: {said}");
+    }
+    lines
+}
+
+fn main() {
+    let arguments: Vec<String> = std::env::args().collect();
+    let [_, folder, names] = &arguments[..] else {
+        panic!("stretch_films FOLDER NAMES");
+    };
+    let mut films = Films::new();
+    paper::films(&mut films);
+    chunks::films(&mut films);
+    durations::films(&mut films);
+    sizes::films(&mut films);
+    slips::films(&mut films);
+    tracks::films(&mut films);
+    refused::films(&mut films);
+
+    let mut args = String::new();
+    for film in films.list {
+        let name = format!("{}-{}", film.number, film.name);
+        let lines = lines_of(&film, &name);
+        let asks: Vec<u8> = film.asks.iter().flat_map(|ask| ask.bytes()).collect();
+        assert!(film.bytes.len() <= FILM && asks.len() <= QUESTIONS, "{name}");
+        std::fs::write(format!("{folder}/{name}.mov"), &film.bytes).unwrap();
+        std::fs::write(format!("{folder}/{name}.ask"), asks).unwrap();
+        args += &format!("{name}.mov\n{name}.ask\n");
+        println!("{name}.mov");
+        for line in lines {
+            println!("  {line}");
+        }
+    }
+    std::fs::write(names, args).unwrap();
+}
