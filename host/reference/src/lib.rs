@@ -1,5 +1,6 @@
 //! The paper's definitions a second time, written from document 01 alone and in the most literal way.
 pub mod film;
 pub mod hoses;
+pub mod made;
 pub mod movie;
 pub mod slip;

@@ -1,5 +1,6 @@
 //! The list of films, the two films that most others are made from, and the names of their atoms.
 use reference::film::*;
+pub use reference::made::empty_track;
 
 pub const STBL: &str = "moov trak mdia minf stbl";
 
@@ -53,19 +54,6 @@ pub fn small_track() -> Track {
 /// A sound track with the same tables and a description of 16 bytes.
 pub fn sound_track() -> Track {
     Track { id: 2, subtype: *b"soun", descriptions: vec![description(b"twos", 16)], ..small_track() }
-}
-
-/// A track without samples, chunks and descriptions.
-pub fn empty_track() -> Track {
-    Track {
-        duration: 0,
-        descriptions: vec![],
-        stts: vec![],
-        stsc: vec![],
-        stsz: Sizes::Each(vec![]),
-        stco: vec![],
-        ..w_track()
-    }
 }
 
 /// A track with every table and a profile.

@@ -5,7 +5,7 @@ use reference::film::*;
 
 /// So many tracks without samples.
 fn tracks(n: u32) -> Vec<Track> {
-    (1..=n).map(|id| Track { id, subtype: *b"text", ..empty_track() }).collect()
+    (1..=n).map(|id| Track { id, subtype: *b"text", ..empty_track(1) }).collect()
 }
 
 fn samples(films: &mut Films) {
@@ -35,7 +35,7 @@ pub fn films(films: &mut Films) {
         film
     });
     samples(films);
-    let edits = |n| Track { edits: Some(vec![(1, -1, 65536); n]), ..empty_track() };
+    let edits = |n| Track { edits: Some(vec![(1, -1, 65536); n]), ..empty_track(1) };
     films.track(0, "256-edits", edits(256));
     films.track(6, "257-edits", edits(257));
     let described =

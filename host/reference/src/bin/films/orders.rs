@@ -35,7 +35,7 @@ pub fn films(films: &mut Films) {
         film.remove(path("stco"));
     });
     films.node(5, "in-the-last-of-17-traks", {
-        let mut film = movie(&vec![empty_track(); 17]);
+        let mut film = movie(&vec![empty_track(1); 17]);
         film.resize("moov trak:16 tkhd", 83);
         film
     });

@@ -30,7 +30,7 @@ fn bodies(films: &mut Films) {
         films.small(number, &format!("hdlr-of-{size}-bytes"), |film| film.resize(path("hdlr"), size - 8));
     }
     for (number, size) in [(5, 19), (0, 20), (5, 21)] {
-        let mut film = movie(&[empty_track()]);
+        let mut film = movie(&[empty_track(1)]);
         film.resize(path("stsz"), size - 8);
         films.node(number, &format!("stsz-of-{size}-bytes-without-samples"), film);
     }
@@ -69,11 +69,15 @@ fn stsz_forms(films: &mut Films) {
     films.node(5, "stsz-table-too-short-by-one", with(0, 4, &[50; 3]));
     films.node(5, "stsz-table-too-long-by-one", with(0, 4, &[50; 5]));
     films.node(0, "stsz-table", with(0, 4, &[50; 4]));
-    films.track(0, "no-samples", empty_track());
-    films.track(0, "no-samples-common-size", Track { stsz: Sizes::Common(7, 0), ..empty_track() });
-    films.track(0, "no-samples-empty-ctts-and-stss", Track { ctts: Some(vec![]), stss: Some(vec![]), ..empty_track() });
+    films.track(0, "no-samples", empty_track(1));
+    films.track(0, "no-samples-common-size", Track { stsz: Sizes::Common(7, 0), ..empty_track(1) });
+    films.track(
+        0,
+        "no-samples-empty-ctts-and-stss",
+        Track { ctts: Some(vec![]), stss: Some(vec![]), ..empty_track(1) },
+    );
     films.node(5, "no-samples-common-size-and-table", {
-        let mut film = movie(&[empty_track()]);
+        let mut film = movie(&[empty_track(1)]);
         film.replace(path("stsz"), stsz_fields(7, 0, &[7]));
         film
     });

@@ -4,6 +4,7 @@
 //! they name, and the lines. Writes the films that the README shows to the folder that is its second.
 use reference::film::*;
 use reference::hoses::two_hoses;
+use reference::made::{edits, sound_track};
 use reference::movie::{listing, refusal};
 
 /// The most bytes that the program reads.
@@ -18,21 +19,8 @@ fn padded(length: usize) -> Vec<u8> {
 
 /// Three tracks that differ in each column.
 fn three_tracks() -> Vec<u8> {
-    let edits = |list: &[(u32, i32)]| Some(list.iter().map(|(duration, media)| (*duration, *media, 65536)).collect());
     let picture = Track { id: 300, edits: edits(&[(60, -1), (60, 24)]), ..w_track() };
-    let sound = Track {
-        id: 20,
-        subtype: *b"soun",
-        scale: 44100,
-        duration: 9,
-        descriptions: vec![description(b"twos", 16)],
-        stts: vec![(9, 1)],
-        stsc: vec![(1, 3, 1)],
-        stsz: Sizes::Common(4, 9),
-        stco: vec![900, 912, 924],
-        edits: edits(&[(10, -1)]),
-        ..w_track()
-    };
+    let sound = sound_track(20, [900, 912, 924]);
     // A subtype whose first digits are zeros, and the greatest ID.
     let unnamed = Track {
         id: u32::MAX,

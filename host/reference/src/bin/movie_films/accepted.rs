@@ -5,18 +5,7 @@ use reference::hoses::two_hoses;
 
 /// Tracks that differ in each number of the list.
 fn three_tracks() -> Vec<Track> {
-    let sound = Track {
-        subtype: *b"soun",
-        scale: 44100,
-        duration: 9,
-        descriptions: vec![description(b"twos", 16)],
-        stts: vec![(9, 1)],
-        stsc: vec![(1, 3, 1)],
-        stsz: Sizes::Common(4, 9),
-        stco: vec![0, 12, 24],
-        edits: edits(&[(10, -1)]),
-        ..track(20)
-    };
+    let sound = sound_track(20, [0, 12, 24]);
     let text = Track {
         subtype: *b"text",
         scale: 1000,

@@ -1,22 +1,10 @@
 //! The list of films, and the tracks that they are made from.
 use reference::film::*;
+pub use reference::made::{edits, empty_track, sound_track};
 
 /// A track with W's tables, whose bytes lie in any file that holds them.
 pub fn track(id: u32) -> Track {
     Track { id, stco: vec![0, 8], ..w_track() }
-}
-
-/// A track without samples, chunks and descriptions.
-pub fn empty_track(id: u32) -> Track {
-    Track {
-        duration: 0,
-        descriptions: vec![],
-        stts: vec![],
-        stsc: vec![],
-        stsz: Sizes::Each(vec![]),
-        stco: vec![],
-        ..track(id)
-    }
 }
 
 /// So many small tracks, with the IDs from 1 on.
@@ -37,11 +25,6 @@ pub fn movie(tracks: &[Track]) -> Node {
 /// The same with another time scale of the movie.
 pub fn scaled(scale: u32, tracks: &[Track]) -> Node {
     Movie { scale, tracks: tracks.to_vec(), ..w_movie() }.file()
-}
-
-/// Edits that show media, at rate 1.0.
-pub fn edits(list: &[(u32, i32)]) -> Option<Vec<(u32, i32, u32)>> {
-    Some(list.iter().map(|(duration, media)| (*duration, *media, 65536)).collect())
 }
 
 pub struct Film {

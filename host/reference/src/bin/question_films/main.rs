@@ -16,7 +16,7 @@ mod times;
 mod tracks;
 
 use base::Films;
-use reference::movie::refusal;
+use reference::made::Kept;
 
 fn main() {
     let arguments: Vec<String> = std::env::args().collect();
@@ -35,20 +35,11 @@ fn main() {
     let mut args = String::new();
     for film in films.list {
         let name = format!("{}-{}", film.number, film.name);
-        assert_eq!(refusal(&film.bytes), film.number, "{name}");
-        assert!(film.bytes.len() < 65_536, "{name}");
-        let lines: Vec<String> = film.asks.iter().map(|ask| lines::line(&film.bytes, ask)).collect();
-        for said in &film.said {
-            assert!(lines.contains(said), "{name}: not among the lines: {said}");
-        }
+        let lines = film.asks.iter().map(|ask| lines::line(&film.bytes, ask)).collect();
         let asks: Vec<u8> = film.asks.iter().flat_map(|ask| ask.bytes()).collect();
-        std::fs::write(format!("{folder}/{name}.mov"), &film.bytes).unwrap();
-        std::fs::write(format!("{folder}/{name}.ask"), asks).unwrap();
-        args += &format!("{name}.mov\n{name}.ask\n");
-        println!("{name}.mov");
-        for line in lines {
-            println!("  {line}");
-        }
+        assert!(film.bytes.len() < 65_536, "{name}");
+        let kept = Kept { name: &name, number: film.number, film: &film.bytes, asks, lines, said: &film.said };
+        args += &kept.store(folder);
     }
     std::fs::write(names, args).unwrap();
 }

@@ -154,13 +154,8 @@ fn many(films: &mut Films) {
     ]);
 }
 
-/// The moov last, in the 64-bit form, with what is skipped around it: offsets count from the file's beginning.
-fn moov_last(films: &mut Films) {
-    let body: Vec<u8> = (8..308).map(|i| u8::try_from(i % 251).unwrap()).collect();
-    let track = w_with(|track| track.stco = vec![8, 200]);
-    let moov = Node { size: Size::Wide, ..movie(&[track]).moov() };
-    let film = file(vec![atom("mdat", &body), atom("free", &[7; 5]), moov, atom("skip", &[])]);
-    let film = films.node(0, "moov-last-and-wide", film);
+fn wide(films: &mut Films) {
+    let film = films.node(0, "moov-last-and-wide", moov_last());
     film.sample(1, &[1, 2, 3, 4]).ends();
     film.says(&["sample 1 1: 0 24 0 sync 1 chunk 1 8 100, bytes 100 sum 5750"]);
 }
@@ -172,5 +167,5 @@ pub fn films(films: &mut Films) {
     sizes(films);
     durations(films);
     many(films);
-    moov_last(films);
+    wide(films);
 }

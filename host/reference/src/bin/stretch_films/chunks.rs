@@ -122,13 +122,8 @@ fn many(films: &mut Films) {
     ]);
 }
 
-/// The moov last, in the 64-bit form, with what is skipped around it: offsets count from the file's beginning.
-fn moov_last(films: &mut Films) {
-    let body: Vec<u8> = (8..308).map(|i| u8::try_from(i % 251).unwrap()).collect();
-    let track = w_with(|track| track.stco = vec![8, 200]);
-    let moov = Node { size: Size::Wide, ..movie(&[track]).moov() };
-    let film = file(vec![atom("mdat", &body), atom("free", &[7; 5]), moov, atom("skip", &[])]);
-    let film = films.node(0, "moov-last-and-wide", film);
+fn wide(films: &mut Films) {
+    let film = films.node(0, "moov-last-and-wide", moov_last());
     film.cut(1, &[(0, 120), (24, 73)]).ends();
     film.says(&["stretch 1 24 73 room 4: 2 pairs, 120 bytes: 108+50 200+70, rest untouched"]);
 }
@@ -139,5 +134,5 @@ pub fn films(films: &mut Films) {
     overlaps(films);
     beyond(films);
     many(films);
-    moov_last(films);
+    wide(films);
 }

@@ -16,21 +16,12 @@ mod sizes;
 mod slips;
 mod tracks;
 
-use base::{Film, Films};
-use reference::movie::refusal;
+use base::Films;
+use reference::made::Kept;
 
 /// The most bytes that the program reads of a film, and of the questions that it is asked.
 const FILM: usize = 131_584;
 const QUESTIONS: usize = 65_536;
-
-fn lines_of(film: &Film, name: &str) -> Vec<String> {
-    assert_eq!(refusal(&film.bytes), film.number, "{name}");
-    let lines: Vec<String> = film.asks.iter().map(|ask| lines::line(&film.bytes, ask)).collect();
-    for said in &film.said {
-        assert!(lines.contains(said), "{name}: not among the lines: {said}");
-    }
-    lines
-}
 
 fn main() {
     let arguments: Vec<String> = std::env::args().collect();
@@ -49,16 +40,11 @@ fn main() {
     let mut args = String::new();
     for film in films.list {
         let name = format!("{}-{}", film.number, film.name);
-        let lines = lines_of(&film, &name);
+        let lines = film.asks.iter().map(|ask| lines::line(&film.bytes, ask)).collect();
         let asks: Vec<u8> = film.asks.iter().flat_map(|ask| ask.bytes()).collect();
         assert!(film.bytes.len() <= FILM && asks.len() <= QUESTIONS, "{name}");
-        std::fs::write(format!("{folder}/{name}.mov"), &film.bytes).unwrap();
-        std::fs::write(format!("{folder}/{name}.ask"), asks).unwrap();
-        args += &format!("{name}.mov\n{name}.ask\n");
-        println!("{name}.mov");
-        for line in lines {
-            println!("  {line}");
-        }
+        let kept = Kept { name: &name, number: film.number, film: &film.bytes, asks, lines, said: &film.said };
+        args += &kept.store(folder);
     }
     std::fs::write(names, args).unwrap();
 }
