@@ -62,7 +62,7 @@ fn put_records(profile: &[u8], room: &mut [u32])
 }
 
 // The refusal before the room is looked at: ID 0 asks for the movie's own profile, and no track has it.
-fn id_refusal(file: &[u8], id: u32) -> u32
+pub fn id_refusal(file: &[u8], id: u32) -> u32
     ensures { λ r. ⌜ r ≡ cond (eqb id 0) (fileRefusal (now (file .entry))) (askRefusal (now (file .entry)) id) ⌝ }
 {
     if id == 0 {

@@ -116,20 +116,27 @@ in-range : (b : Bool) → _≡_ {A = ℕ} (cond b 0 15) 0 → b ≡ true
 in-range true e = refl
 in-range false e = absurd (omega arith)
 
-within-file : (s : List ℕ) (id n : ℕ) → sampleRefusal s id n ≡ 0
-    → sampleOf (trackOf (trackAsked s id)) (n - 1) .offset + sampleOf (trackOf (trackAsked s id)) (n - 1) .size ≤ length s
-unfolding sampleRefusal sampleOf trackOf beyond
-within-file s id n e =
-    let t = trackAsked s id in
+-- a question that is not refused asks for one of the track's samples
+in-track : (s : List ℕ) (id n : ℕ) → sampleRefusal s id n ≡ 0 → (askRefusal s id ≡ 0) × (n - 1 < samplesOf (trackAsked s id))
+unfolding sampleRefusal
+in-track s id n e =
     let q = none-else _ _ e in
-    let a = asked s id (q .0) .track in
-    let g = agreed-tables t (a .agree) in
     let r = in-range _ (q .1) in
     let lo = ltb-true 0 n (and-left _ _ r) in
-    let hi = leb-true n (samplesOf t) (and-right (ltb 0 n) _ r) in
+    let hi = leb-true n (samplesOf (trackAsked s id)) (and-right (ltb 0 n) _ r) in
+    (q .0, omega arith)
+
+within-file : (s : List ℕ) (id n : ℕ) → sampleRefusal s id n ≡ 0
+    → sampleOf (trackOf (trackAsked s id)) (n - 1) .offset + sampleOf (trackOf (trackAsked s id)) (n - 1) .size ≤ length s
+unfolding sampleOf trackOf beyond
+within-file s id n e =
+    let t = trackAsked s id in
+    let q = in-track s id n e in
+    let a = asked s id (q .0) .track in
+    let g = agreed-tables t (a .agree) in
     let ps = perChunk (tableOf stsc t) (chunksOf t) in
     let w = all-within (length s) ps (chunkOffsets (tableOf stco t)) (sizes (tableOf stsz t)) (not-false _ (a .within)) in
-    sample-within (length s) ps (chunkOffsets (tableOf stco t)) (sizes (tableOf stsz t)) (n - 1) w (omega (arith, g .dealt))
+    sample-within (length s) ps (chunkOffsets (tableOf stco t)) (sizes (tableOf stsz t)) (n - 1) w (omega (arith, g .dealt, q .1))
 
 bytes-within : (s : List ℕ) (id n : ℕ) → bytesStart (sampleAnswer s id n) + bytesLength (sampleAnswer s id n) ≤ length s
 unfolding sampleAnswer bytesStart bytesLength
@@ -162,3 +169,30 @@ found-part s id n r v a e = let q = found-bytes s id n r v a e in rw (q .0, q .1
 pub refused-part : (s : List ℕ) (id n : ℕ) (r : SampleAnswer) (k : ℕ) → Samples s id n r → r ≡ Refused k → take 0 (drop 0 s) ≡ sampleBytes s id n
 unfolding sampleBytes
 refused-part s id n r k a e = let q = refused-bytes s id n r k a e in rw (q .0, q .1)
+
+-- ---- the answer's numbers are low
+
+pub record Low (v : Sample) : Type 0 where
+  pub decode : v .decode < 4294967296
+  pub chunk : v .chunk ≤ 1048576
+  pub offset : v .offset ≤ 2147483647
+
+asked-low : (s : List ℕ) (id n : ℕ) → sampleRefusal s id n ≡ 0 → Low (sampleOf (trackOf (trackAsked s id)) (n - 1))
+unfolding sampleOf trackOf totalIn
+asked-low s id n e =
+    let t = trackAsked s id in
+    let q = in-track s id n e in
+    let a = asked s id (q .0) in
+    record {
+      decode = omega (arith, before-le (runs.durations (tableOf stts t)) (n - 1), a .track .total-fits);
+      chunk = omega (arith, chunk-known t (n - 1) (a .track .agree) (q .1), a .track .shape .few-chunks);
+      offset = omega (arith, within-file s id n e, a .file .shape .short);
+    }
+
+pub found-low : (s : List ℕ) (id n : ℕ) (r : SampleAnswer) (v : Sample) → Samples s id n r → r ≡ Found v → Low v
+unfolding sampleAnswer
+found-low s id n r v a e = go (eqb (sampleRefusal s id n) 0) refl (sym e ∙ a .answer)
+  where
+    go : (b : Bool) → eqb (sampleRefusal s id n) 0 ≡ b → Found v ≡ cond b (Found (sampleOf (trackOf (trackAsked s id)) (n - 1))) (Refused (sampleRefusal s id n)) → Low v
+    go true q d = let z : v ≡ sampleOf (trackOf (trackAsked s id)) (n - 1) = cc in rw z (asked-low s id n (eqb-true _ _ q))
+    go false q d = let z : _≡_ {A = ℕ} 0 1 = cc in absurd (omega arith)

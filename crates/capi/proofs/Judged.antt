@@ -1,0 +1,87 @@
+-- The numbers of the questions that fill room: each is given or refused, and its own refusal is the one before the room is looked at, then 16.
+-- Assumes nothing.
+use Prim.Native.Nat.{ℕ}
+use mathlib.Core.Path.{_≡_, refl}
+use mathlib.Core.List.{List, [], _∷_}
+use mathlib.Core.Bool.{Bool, true, false, cond}
+use lib.Dec.{eqb, ltb}
+use lib.ListN.{length}
+use Rattle.slip.specs.Slip.{Outcome, accepted, malformed, refused, numbersFor, roomFor}
+use Rattle.slip.specs.declared.Head.{Head}
+use Rattle.structure.specs.Rows.{orElse}
+use Rattle.structure.specs.Movie.{moovOf, tracksOf}
+use Rattle.track.specs.Track.{trackOf}
+use Rattle.movie.specs.Rooms.{noRoom, filled, roomAfter, refusedWith}
+use Rattle.movie.specs.TrackList.{listRefusal, listAnswer, numbersOf}
+use Rattle.movie.specs.declared.list.TrackList.the-variants as lists
+use Rattle.questions.specs.Asked.{trackAsked}
+use Rattle.questions.specs.Stretches.{stretchPairs, bytesIn, stretchRefusal, stretchAnswer, stretchNumbers}
+use Rattle.questions.specs.declared.stretches.StretchAnswer.the-variants as stretches
+use Rattle.questions.specs.Slips.{slipOfStretch, slipRefusal, slipAnswer, slipNumbers}
+use Rattle.questions.specs.declared.slips.SlipAnswer.the-variants as slips
+use Rattle.profiles.specs.Profiles.{keptOf, profileAsked, profileRefusal, profileAnswer, numbersOf as recordNumbers}
+use Rattle.profiles.specs.declared.ProfileAnswer.the-variants as profiles
+use Rattle.capi.specs.Places.{refusalIn}
+use Rattle.capi.specs.Numbers.{media, ofTrackList, ofStretch, ofProfile, ofSlipWriting, pairsOf, faultOf}
+use Rattle.capi.proofs.Answered.{judged, numbers-are}
+
+pub list-judged : (s room : List ℕ) → ofTrackList s room ≡ judged (listRefusal s room) (length (tracksOf (moovOf s)) ∷ [])
+unfolding listAnswer numbersOf
+list-judged s room = numbers-are numbersOf (lists.Tracks (length (tracksOf (moovOf s)))) lists.Refused _ refl (λ r. refl) (listRefusal s room)
+
+pub profile-judged : (s : List ℕ) (id : ℕ) (room : List ℕ) → ofProfile s id room ≡ judged (profileRefusal s id room) (length (keptOf (profileAsked s id)) ∷ [])
+unfolding profileAnswer recordNumbers
+profile-judged s id room = numbers-are recordNumbers (profiles.Records (length (keptOf (profileAsked s id)))) profiles.Refused _ refl (λ r. refl) (profileRefusal s id room)
+
+module _ (s : List ℕ) (id a b : ℕ) (room : List ℕ) where
+  pub stretch-judged : ofStretch s id a b room
+      ≡ judged (stretchRefusal s id (media a) (media b) room) (length (stretchPairs s id (media a) (media b)) ∷ bytesIn (trackOf (trackAsked s id)) (media a) (media b) ∷ [])
+  unfolding stretchAnswer stretchNumbers
+  stretch-judged =
+      numbers-are stretchNumbers (stretches.Pairs _ _) stretches.Refused _ refl (λ r. refl) (stretchRefusal s id (media a) (media b) room)
+
+  pub slip-judged : ofSlipWriting s id a b room ≡ judged (slipRefusal s id (media a) (media b) room) (length (slipOfStretch s id (media a) (media b)) ∷ [])
+  unfolding slipAnswer slipNumbers
+  slip-judged = numbers-are slipNumbers (slips.Written _) slips.Refused _ refl (λ r. refl) (slipRefusal s id (media a) (media b) room)
+
+-- ---- a slip that is read
+
+-- its numbers after the form; zeros where it is malformed
+abbrev pub headOf : Outcome → List ℕ
+headOf (accepted h pairs) = h .id ∷ h .scale ∷ h .a ∷ h .b ∷ h .pairs ∷ []
+headOf malformed = 0 ∷ 0 ∷ 0 ∷ 0 ∷ 0 ∷ []
+
+abbrev pub readRefusal : Outcome → List ℕ → ℕ
+readRefusal o room = orElse (faultOf o) (noRoom (pairsOf o) room)
+
+by-room : (short : Bool) (values : List ℕ) → cond short (refusedWith (length values) 16) (0 ∷ values) ≡ judged (cond short 16 0) values
+by-room true values = refl
+by-room false values = refl
+
+room-by : (short : Bool) (room new : List ℕ) → cond short room new ≡ cond (eqb (cond short 16 0) 0) new room
+room-by true room new = refl
+room-by false room new = refl
+
+pub read-judged : (o : Outcome) (room : List ℕ) → numbersFor (length room) o ≡ judged (readRefusal o room) (headOf o)
+unfolding numbersFor faultOf pairsOf noRoom orElse
+read-judged (accepted h pairs) room = by-room (ltb (length room) (length pairs)) _
+read-judged malformed room = refl
+
+pub read-room : (o : Outcome) (room : List ℕ) → roomFor room o ≡ roomAfter (readRefusal o room) (pairsOf o) room
+unfolding roomFor faultOf pairsOf noRoom orElse roomAfter filled
+read-room (accepted h pairs) room = room-by (ltb (length room) (length pairs)) room _
+read-room malformed room = refl
+
+-- a slip is malformed exactly if 17 is the first of its numbers
+fault-by : (short : Bool) (h : Head) → _≡_ {A = ℕ} 0 (cond (eqb (refusalIn (cond short (refused 16) (0 ∷ h .id ∷ h .scale ∷ h .a ∷ h .b ∷ h .pairs ∷ []))) 17) 17 0)
+fault-by true h = refl
+fault-by false h = refl
+
+pub fault-first : (o : Outcome) (k : ℕ) → faultOf o ≡ cond (eqb (refusalIn (numbersFor k o)) 17) 17 0
+unfolding faultOf numbersFor
+fault-first (accepted h pairs) k = fault-by (ltb k (length pairs)) h
+fault-first malformed k = refl
+
+pub head-length : (o : Outcome) → length (headOf o) ≡ 5
+head-length (accepted h pairs) = refl
+head-length malformed = refl

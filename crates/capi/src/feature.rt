@@ -1,0 +1,17 @@
+// A feature of a track, by its code.
+use super::places::hand;
+use questions::feature::FeatureAnswer;
+use questions::feature::feature_by_code;
+ghost use Rattle.capi.specs.Places.{Answers};
+ghost use Rattle.capi.specs.Numbers.{ofFeature};
+
+// The feature with that code of a track, in one place.
+#[no_mangle]
+pub extern "C" fn chaldoref_feature(file: &[u8], id: u32, code: u32, places: &mut [u64]) -> u32
+    ensures { λ r. ⌜ Answers (ofFeature (now (file .entry)) id code) (now (places .entry)) r (now (places .exit)) ⌝ }
+{
+    match feature_by_code(file, id, code) {
+        FeatureAnswer::Value(v) => hand(0, &[v as u64], places),
+        FeatureAnswer::Refused(r) => hand(r, &[0], places),
+    }
+}

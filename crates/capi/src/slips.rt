@@ -1,0 +1,72 @@
+// Slips written and read.
+use super::places::hand;
+use super::places::or_short;
+use edits::MediaTime;
+use questions::slips::SlipAnswer;
+use questions::slips::write_slip;
+use questions::stretches::span_refusal;
+use slip::SlipRead;
+use slip::read_slip;
+ghost use mathlib.Core.Path.{_≡_};
+ghost use Rattle.slip.specs.Slip.{slipIn};
+ghost use Rattle.questions.specs.Slips.{slipOfStretch};
+ghost use Rattle.capi.specs.Places.{Fills};
+ghost use Rattle.capi.specs.Numbers.{media, ofSlipWriting, ofSlipReading, pairsOf, faultOf};
+
+// Writes the slip of a track's stretch from a to b into the bytes, and in one place its length.
+#[no_mangle]
+pub extern "C" fn chaldoref_write_slip(
+    file: &[u8],
+    id: u32,
+    a: u32,
+    b: u32,
+    out: &mut [u8],
+    places: &mut [u64],
+) -> u32
+    ensures { λ r. ⌜ Fills (ofSlipWriting (now (file .entry)) id a b (now (out .entry))) (now (places .entry)) (slipOfStretch (now (file .entry)) id (media a) (media b)) (now (out .entry)) r (now (places .exit)) (now (out .exit)) ⌝ }
+{
+    if places.len() < 1 {
+        return or_short(span_refusal(file, id, a, b));
+    }
+    match write_slip(file, id, MediaTime(a), MediaTime(b), out) {
+        SlipAnswer::Written(n) => hand(0, &[n as u64], places),
+        SlipAnswer::Refused(r) => hand(r, &[0], places),
+    }
+}
+
+// Whether bytes are a slip: 0, or 17.
+fn slip_refusal(bytes: &[u8]) -> u32
+    ensures { λ r. ⌜ r ≡ faultOf (slipIn (now (bytes .entry))) ⌝ }
+{
+    let mut none = [0u32; 0];
+    match read_slip(bytes, &mut none) {
+        SlipRead::Accepted(_) => 0,
+        SlipRead::Malformed => 17,
+        SlipRead::NoRoom => 0,
+    }
+}
+
+// Reads a slip: its pairs in the room, and in five places track ID, scale, a, b and how many pairs.
+#[no_mangle]
+pub extern "C" fn chaldoref_read_slip(bytes: &[u8], room: &mut [u32], places: &mut [u64]) -> u32
+    ensures { λ r. ⌜ Fills (ofSlipReading (now (bytes .entry)) (now (room .entry))) (now (places .entry)) (pairsOf (slipIn (now (bytes .entry)))) (now (room .entry)) r (now (places .exit)) (now (room .exit)) ⌝ }
+{
+    if places.len() < 5 {
+        return or_short(slip_refusal(bytes));
+    }
+    match read_slip(bytes, room) {
+        SlipRead::Accepted(h) => hand(
+            0,
+            &[
+                h.id as u64,
+                h.scale as u64,
+                h.a as u64,
+                h.b as u64,
+                h.pairs as u64,
+            ],
+            places,
+        ),
+        SlipRead::Malformed => hand(17, &[0u64; 5], places),
+        SlipRead::NoRoom => hand(16, &[0u64; 5], places),
+    }
+}

@@ -1,0 +1,32 @@
+// The byte ranges of a stretch of media time.
+use super::places::hand;
+use super::places::or_short;
+use edits::MediaTime;
+use questions::stretches::StretchAnswer;
+use questions::stretches::span_refusal;
+use questions::stretches::stretch_of;
+ghost use Rattle.pairs.specs.Pairs.{flat};
+ghost use Rattle.questions.specs.Stretches.{stretchPairs};
+ghost use Rattle.capi.specs.Places.{Fills};
+ghost use Rattle.capi.specs.Numbers.{media, ofStretch};
+
+// The stretch of a track from a to b: a pair (offset, length) for each chunk touched in the room, and in two places how many pairs and the total of bytes.
+#[no_mangle]
+pub extern "C" fn chaldoref_stretch(
+    file: &[u8],
+    id: u32,
+    a: u32,
+    b: u32,
+    room: &mut [u32],
+    places: &mut [u64],
+) -> u32
+    ensures { λ r. ⌜ Fills (ofStretch (now (file .entry)) id a b (now (room .entry))) (now (places .entry)) (flat (stretchPairs (now (file .entry)) id (media a) (media b))) (now (room .entry)) r (now (places .exit)) (now (room .exit)) ⌝ }
+{
+    if places.len() < 2 {
+        return or_short(span_refusal(file, id, a, b));
+    }
+    match stretch_of(file, id, MediaTime(a), MediaTime(b), room) {
+        StretchAnswer::Pairs(n, bytes) => hand(0, &[n as u64, bytes], places),
+        StretchAnswer::Refused(r) => hand(r, &[0, 0], places),
+    }
+}

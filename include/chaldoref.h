@@ -1,0 +1,214 @@
+/*
+ * Chaldoref: a verified reader of QuickTime movie tables.
+ *
+ * Every function takes a whole movie file (or a slip) in lent memory and answers
+ * one question about it. The result is 0 where the question is answered, and the
+ * number of a refusal otherwise. No caller has to check anything first: any bytes,
+ * any numbers and any room get an answer or a refusal.
+ *
+ * A slice is a pointer and a length, counted in elements. Three kinds are lent:
+ *
+ *   file, slip   bytes that are read
+ *   room, out    what a list or a slip is written to: an answer fills the first
+ *                elements and leaves the rest; a refusal leaves all of them
+ *   places       what the answer's own numbers are written to, in the order given
+ *                with each function: an answer fills the first places, a refusal
+ *                fills the same ones with zeros, the rest is left
+ *
+ * Places fewer than a function names are refused 16 as room is, and then nothing
+ * at all is written. The order of refusals is: the file's (1 to 13), 14, 15 or 18,
+ * then 16; in reading a slip 17, then 16.
+ *
+ * Limits. A file has at most 2,147,483,647 bytes, a movie 16 tracks, a track
+ * 1,048,576 samples, 1,048,576 chunks, 256 edits and 64 sample descriptions, a
+ * profile 64 records; beyond them the file is refused 1 or 6. A slip has at most
+ * 1,048,576 pairs. No function allocates memory, and the stack it needs does not
+ * grow with the file: the walk of the atom tree is six levels deep.
+ *
+ * Threads. The functions keep no state: any number of threads may call any of them
+ * at once, also on the same file, as long as no two calls are lent the same room,
+ * out or places.
+ *
+ * What the host keeps to (the proofs assume it: docs/TRUST.md):
+ *   - no pointer is NULL, also where its length is 0; each is aligned for its type
+ *     and valid for its length, and no length is over PTRDIFF_MAX bytes;
+ *   - nothing writes to file or slip during a call;
+ *   - room, out and places overlap neither each other nor file or slip, and nothing
+ *     else reads or writes them during a call.
+ * Nothing of what is lent is kept after a call.
+ */
+#ifndef CHALDOREF_H
+#define CHALDOREF_H
+
+#include <stddef.h>
+#include <stdint.h>
+
+#ifdef __cplusplus
+extern "C" {
+#endif
+
+/* The refusals, by their numbers in document 01. Of a file the lowest number that
+   applies is given. */
+enum {
+    CHALDOREF_ANSWERED = 0,
+    CHALDOREF_FILE_TOO_LONG = 1,      /* longer than 2,147,483,647 bytes */
+    CHALDOREF_ATOM_SIZE = 2,          /* an atom's size is wrong, passes its parent's end, or 1 to 7 bytes remain */
+    CHALDOREF_ATOM_COUNT = 3,         /* an atom is absent or occurs too often */
+    CHALDOREF_LEAF_VERSION = 4,       /* a leaf that is read has a version other than 0 */
+    CHALDOREF_LEAF_SIZE = 5,          /* a leaf that is read, or a profile, hasn't its size */
+    CHALDOREF_OVER_LIMIT = 6,         /* too many tracks, samples, chunks, edits, descriptions or records */
+    CHALDOREF_TRACK_IDS = 7,          /* a track ID is 0 or occurs twice */
+    CHALDOREF_TIME_SCALE = 8,         /* a movie or media time scale is 0 */
+    CHALDOREF_TABLES = 9,             /* the sample tables contradict each other */
+    CHALDOREF_TOTAL_DURATION = 10,    /* sample or edit durations total over 4,294,967,295 */
+    CHALDOREF_STORED_DURATION = 11,   /* the mdhd duration is not the total of the sample durations */
+    CHALDOREF_PAST_END = 12,          /* a chunk's offset plus the sizes of its samples passes the file's end */
+    CHALDOREF_EDIT_LIST = 13,         /* an edit list is wrong */
+    CHALDOREF_NO_TRACK = 14,          /* no track has that ID */
+    CHALDOREF_OUTSIDE = 15,           /* the sample number, time or stretch lies outside */
+    CHALDOREF_NO_ROOM = 16,           /* the lent room or places are shorter than the answer */
+    CHALDOREF_MALFORMED_SLIP = 17,    /* a slip is malformed */
+    CHALDOREF_NOT_COMPUTED = 18       /* the feature cannot be computed */
+};
+
+/* How many places each function fills. */
+enum {
+    CHALDOREF_TRACK_LIST_PLACES = 1,
+    CHALDOREF_SAMPLE_PLACES = 8,
+    CHALDOREF_SAMPLE_BYTES_PLACES = 2,
+    CHALDOREF_SAMPLE_AT_PLACES = 1,
+    CHALDOREF_MEDIA_TIME_PLACES = 2,
+    CHALDOREF_STRETCH_PLACES = 2,
+    CHALDOREF_PROFILE_PLACES = 1,
+    CHALDOREF_FEATURE_PLACES = 1,
+    CHALDOREF_READ_SLIP_PLACES = 5,
+    CHALDOREF_WRITE_SLIP_PLACES = 1
+};
+
+/* How many numbers a track, a pair and a profile's record have in a room, and the most of each. */
+enum {
+    CHALDOREF_TRACK_NUMBERS = 7,
+    CHALDOREF_PAIR_NUMBERS = 2,
+    CHALDOREF_RECORD_NUMBERS = 3,
+    CHALDOREF_MAX_TRACKS = 16,
+    CHALDOREF_MAX_PAIRS = 1048576,
+    CHALDOREF_MAX_RECORDS = 64
+};
+
+/*
+ * The tracks of a movie, in file order. Refusals 1 to 13, 16.
+ * room: for each track ID, subtype (four characters as a big-endian number), media
+ *       time scale, total of the sample durations, number of samples, of chunks, of
+ *       edits; 7 * CHALDOREF_MAX_TRACKS numbers are always enough.
+ * places: 1: the number of tracks.
+ */
+uint32_t chaldoref_track_list(
+    const uint8_t *file, size_t file_len,
+    uint32_t *room, size_t room_len,
+    uint64_t *places, size_t places_len);
+
+/*
+ * Sample n of a track, numbered from 1. Refusals 1 to 13, 14, 15, 16.
+ * places: 8: decode time, duration, composition time (it may be negative), whether
+ *         the sample is a sync sample (1 or 0), sample description ID, chunk
+ *         (numbered from 1), offset in the file, size.
+ */
+uint32_t chaldoref_sample(
+    const uint8_t *file, size_t file_len,
+    uint32_t id, uint32_t n,
+    int64_t *places, size_t places_len);
+
+/*
+ * Where the bytes of sample n are: file + offset, as many as its length. Refusals 1 to 13, 14, 15, 16.
+ * places: 2: offset in the file, length.
+ */
+uint32_t chaldoref_sample_bytes(
+    const uint8_t *file, size_t file_len,
+    uint32_t id, uint32_t n,
+    uint64_t *places, size_t places_len);
+
+/*
+ * The sample at media time t: decode time <= t < decode time + duration. Refusals 1 to 13, 14, 15, 16.
+ * places: 1: the sample's number, from 1.
+ */
+uint32_t chaldoref_sample_at(
+    const uint8_t *file, size_t file_len,
+    uint32_t id, uint32_t t,
+    uint64_t *places, size_t places_len);
+
+/*
+ * Movie time t, in the movie's time scale, to media time, in the track's own. Refusals 1 to 13, 14, 15, 16.
+ * places: 2: 1 and the media time; or 0 and 0 where nothing is shown.
+ */
+uint32_t chaldoref_media_time(
+    const uint8_t *file, size_t file_len,
+    uint32_t id, uint32_t t,
+    uint64_t *places, size_t places_len);
+
+/*
+ * The stretch of a track from media time a to b (a < b <= total): all samples from
+ * the one at a to the one at b - 1, as byte ranges. Refusals 1 to 13, 14, 15, 16.
+ * room: for each chunk touched, in chunk order, offset in the file and length; twice
+ *       the track's number of chunks is always enough.
+ * places: 2: the number of pairs, the total of bytes.
+ */
+uint32_t chaldoref_stretch(
+    const uint8_t *file, size_t file_len,
+    uint32_t id, uint32_t a, uint32_t b,
+    uint32_t *room, size_t room_len,
+    uint64_t *places, size_t places_len);
+
+/*
+ * The stored profile of a track, or for id 0 of the movie. Refusals 1 to 13, 14 (not for id 0), 16.
+ * room: for each record with a code other than 0 part-ID, code, value;
+ *       3 * CHALDOREF_MAX_RECORDS numbers are always enough.
+ * places: 1: the number of records; 0 where there is no profile.
+ */
+uint32_t chaldoref_profile(
+    const uint8_t *file, size_t file_len,
+    uint32_t id,
+    uint32_t *room, size_t room_len,
+    uint64_t *places, size_t places_len);
+
+/* The features' codes: average video and audio bit rate, greatest picture, highest frame rate. */
+#define CHALDOREF_AVVB UINT32_C(0x61767662)
+#define CHALDOREF_AVAB UINT32_C(0x61766162)
+#define CHALDOREF_TVSZ UINT32_C(0x7476737a)
+#define CHALDOREF_VFPS UINT32_C(0x76667073)
+
+/*
+ * A feature of a track, by its four-character code. Refusals 1 to 13, 14, 18, 16.
+ * places: 1: the value: bits a second for avvb and avab; width * 65536 + height for
+ *         tvsz; frames a second * 65536 for vfps. Quotients are rounded up.
+ */
+uint32_t chaldoref_feature(
+    const uint8_t *file, size_t file_len,
+    uint32_t id, uint32_t code,
+    uint64_t *places, size_t places_len);
+
+/*
+ * Reads a slip. Refusals 17, 16.
+ * room: for each pair offset and length; as many numbers as the slip has bytes are always enough.
+ * places: 5: track ID, time scale, a, b, the number of pairs.
+ */
+uint32_t chaldoref_read_slip(
+    const uint8_t *slip, size_t slip_len,
+    uint32_t *room, size_t room_len,
+    uint64_t *places, size_t places_len);
+
+/*
+ * Writes the slip of a track's stretch from media time a to b. Refusals 1 to 13, 14, 15, 16.
+ * out: the slip; 24 + 10 * (the track's number of chunks) bytes are always enough.
+ * places: 1: the slip's length in bytes.
+ */
+uint32_t chaldoref_write_slip(
+    const uint8_t *file, size_t file_len,
+    uint32_t id, uint32_t a, uint32_t b,
+    uint8_t *out, size_t out_len,
+    uint64_t *places, size_t places_len);
+
+#ifdef __cplusplus
+}
+#endif
+
+#endif
