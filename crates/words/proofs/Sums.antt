@@ -16,13 +16,18 @@ use Rattle.words.proofs.Turns.{sizes-listed, sizes-common, length-words
 
 -- ---- listed
 
--- the part f that holds them: the first count numbers of t, which follows the first `from`
-module _ (part : List ℕ) (from to : ℕ) {t f : List ℕ} {count : ℕ} (p : t ≡ drop (from * 4) part) (q : count ≡ to - from) (e : f ≡ take (count * 4) t) where
-  pub listed-sum : sum (wordsIn f) ≡ between (wordsIn part) from to
-  listed-sum = rw (e, q, p) (ap sum (words-take (to - from) (drop (from * 4) part) ∙ ap (take (to - from)) (words-drop from part)))
+-- the part f that holds the first count numbers of t
+module _ (t : List ℕ) (count : ℕ) {f : List ℕ} (e : f ≡ take (count * 4) t) where
+  pub first-few : length f ≤ count * 4
+  first-few = omega (arith, ap length e, length-take (count * 4) t)
 
-  pub listed-few : length f ≤ (to - from) * 4
-  listed-few = omega (arith, ap length e, length-take (count * 4) t)
+  pub first-words : sum (wordsIn f) ≡ sum (take count (wordsIn t))
+  first-words = rw e (ap sum (words-take count t))
+
+-- the part t that follows the first `from` numbers
+pub listed-sum : (part : List ℕ) (from to : ℕ) {t : List ℕ} {count : ℕ} → t ≡ drop (from * 4) part → count ≡ to - from
+    → sum (take count (wordsIn t)) ≡ between (wordsIn part) from to
+listed-sum part from to p q = rw (q, p) (ap (λ l. sum (take (to - from) l)) (words-drop from part))
 
 -- ---- common
 

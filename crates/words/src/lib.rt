@@ -55,13 +55,18 @@ fn smaller(a: u32, b: u32) -> u32
     if a < b { a } else { b }
 }
 
+// The first `count` numbers of a part, added. The bound follows from the equation; callers need it to add more.
+pub fn first_sum(part: &[u8], count: u32) -> u64
+    ensures { λ r. ⌜ (r ≡ sum (take count (wordsIn (now (part .entry))))) × (r ≤ count * 4294967295) ⌝ }
+{
+    sum_words(front(part, (count as usize) * 4))
+}
+
 // The numbers from one index up to, not including, another, added.
 fn listed_between(part: &[u8], from: u32, to: u32) -> u64
     ensures { λ r. ⌜ (r ≡ between (wordsIn (now (part .entry))) from to) × (r ≤ (to - from) * 4294967295) ⌝ }
 {
-    let t = after(part, (from as usize) * 4);
-    let count = span(from, to);
-    sum_words(front(t, (count as usize) * 4))
+    first_sum(after(part, (from as usize) * 4), span(from, to))
 }
 
 // The size of a sample.
@@ -75,7 +80,7 @@ pub fn size_of(stsz: &[u8], index: u32) -> u32
     if index < u32_at(stsz, 16) { common } else { 0 }
 }
 
-// The sizes of the samples from one index up to, not including, another, added. The bound follows from the equation; callers need it to add more.
+// The sizes of the samples from one index up to, not including, another, added.
 pub fn bytes_between(stsz: &[u8], from: u32, to: u32) -> u64
     ensures { λ r. ⌜ (r ≡ between (sizes (now (stsz .entry))) from to) × (r ≤ (to - from) * 4294967295) ⌝ }
 {
