@@ -15,10 +15,10 @@ use Rattle.movie.specs.Rooms.{noRoom, filled, roomAfter, refusedWith}
 use Rattle.movie.specs.TrackList.{listRefusal, listAnswer, numbersOf}
 use Rattle.movie.specs.declared.list.TrackList.the-variants as lists
 use Rattle.questions.specs.Asked.{trackAsked}
-use Rattle.questions.specs.Stretches.{stretchPairs, bytesIn, stretchRefusal, stretchAnswer, stretchNumbers}
-use Rattle.questions.specs.declared.stretches.StretchAnswer.the-variants as stretches
-use Rattle.questions.specs.Slips.{slipOfStretch, slipRefusal, slipAnswer, slipNumbers}
-use Rattle.questions.specs.declared.slips.SlipAnswer.the-variants as slips
+use Rattle.stretch.specs.Stretches.{stretchPairs, bytesIn, stretchRefusal, stretchAnswer, stretchNumbers}
+use Rattle.stretch.specs.declared.StretchAnswer.the-variants as stretches
+use Rattle.stretch.specs.Slips.{slipOfStretch, slipRefusal, slipAnswer, slipNumbers}
+use Rattle.stretch.specs.declared.slips.SlipAnswer.the-variants as slips
 use Rattle.profiles.specs.Profiles.{keptOf, profileAsked, profileRefusal, profileAnswer, numbersOf as recordNumbers}
 use Rattle.profiles.specs.declared.ProfileAnswer.the-variants as profiles
 use Rattle.capi.specs.Places.{refusalIn}

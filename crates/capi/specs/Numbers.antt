@@ -12,8 +12,8 @@ use Rattle.questions.specs.Samples.{sampleAnswer, sampleNumbers}
 use Rattle.questions.specs.declared.samples.SampleAnswer.{SampleAnswer}
 use Rattle.questions.specs.declared.samples.SampleAnswer.the-variants.{Found, Refused}
 use Rattle.questions.specs.Times.{atAnswer, numberNumbers, mapAnswer, timeNumbers}
-use Rattle.questions.specs.Stretches.{stretchAnswer, stretchNumbers}
-use Rattle.questions.specs.Slips.{slipAnswer, slipNumbers}
+use Rattle.stretch.specs.Stretches.{stretchAnswer, stretchNumbers}
+use Rattle.stretch.specs.Slips.{slipAnswer, slipNumbers}
 use Rattle.questions.specs.Feature.{featureAnswer, featureNumbers}
 use Rattle.profiles.specs.Profiles.{profileAnswer, numbersOf as recordNumbers}
 

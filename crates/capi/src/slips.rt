@@ -2,14 +2,14 @@
 use super::places::hand;
 use super::places::or_short;
 use edits::MediaTime;
-use questions::slips::SlipAnswer;
-use questions::slips::write_slip;
-use questions::stretches::span_refusal;
 use slip::SlipRead;
 use slip::read_slip;
+use stretch::slips::SlipAnswer;
+use stretch::slips::write_slip;
+use stretch::span_refusal;
 ghost use mathlib.Core.Path.{_≡_};
 ghost use Rattle.slip.specs.Slip.{slipIn};
-ghost use Rattle.questions.specs.Slips.{slipOfStretch};
+ghost use Rattle.stretch.specs.Slips.{slipOfStretch};
 ghost use Rattle.capi.specs.Places.{Fills};
 ghost use Rattle.capi.specs.Numbers.{media, ofSlipWriting, ofSlipReading, pairsOf, faultOf};
 

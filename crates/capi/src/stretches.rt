@@ -2,11 +2,11 @@
 use super::places::hand;
 use super::places::or_short;
 use edits::MediaTime;
-use questions::stretches::StretchAnswer;
-use questions::stretches::span_refusal;
-use questions::stretches::stretch_of;
+use stretch::StretchAnswer;
+use stretch::span_refusal;
+use stretch::stretch_of;
 ghost use Rattle.pairs.specs.Pairs.{flat};
-ghost use Rattle.questions.specs.Stretches.{stretchPairs};
+ghost use Rattle.stretch.specs.Stretches.{stretchPairs};
 ghost use Rattle.capi.specs.Places.{Fills};
 ghost use Rattle.capi.specs.Numbers.{media, ofStretch};
 

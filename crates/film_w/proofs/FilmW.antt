@@ -33,8 +33,8 @@ use Rattle.slip.specs.Slip.{slipBytes}
 use Rattle.questions.specs.Asked.{askRefusal, trackAsked}
 use Rattle.questions.specs.Times.{atRefusal, atNumber, atAnswer}
 use Rattle.questions.specs.Samples.{sampleOf, sampleRefusal, sampleAnswer}
-use Rattle.questions.specs.Stretches.{firstIn, pastIn, pairsIn, bytesIn, stretchPairs, spanRefusal, stretchRefusal, stretchAnswer}
-use Rattle.questions.specs.Slips.{slipHead, slipOfStretch, slipRefusal, slipAnswer}
+use Rattle.stretch.specs.Stretches.{firstIn, pastIn, pairsIn, bytesIn, stretchPairs, spanRefusal, stretchRefusal, stretchAnswer}
+use Rattle.stretch.specs.Slips.{slipHead, slipOfStretch, slipRefusal, slipAnswer}
 use Rattle.film_w.specs.Bytes.{bytes}
 use Rattle.film_w.specs.Plain.{plain}
 use Rattle.film_w.specs.Cases.{cases, AllHold}

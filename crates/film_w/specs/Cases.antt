@@ -10,16 +10,16 @@ use Rattle.edits.specs.declared.MediaTime.{MediaTime}
 use Rattle.movie.specs.Rooms.{roomAfter}
 use Rattle.questions.specs.Times.{atAnswer}
 use Rattle.questions.specs.Samples.{sampleAnswer}
-use Rattle.questions.specs.Stretches.{stretchPairs, stretchRefusal, stretchAnswer}
-use Rattle.questions.specs.Slips.{slipOfStretch, slipRefusal, slipAnswer}
+use Rattle.stretch.specs.Stretches.{stretchPairs, stretchRefusal, stretchAnswer}
+use Rattle.stretch.specs.Slips.{slipOfStretch, slipRefusal, slipAnswer}
 use Rattle.questions.specs.declared.times.NumberAnswer.{NumberAnswer}
 use Rattle.questions.specs.declared.times.NumberAnswer.the-variants as times
 use Rattle.questions.specs.declared.samples.SampleAnswer.{SampleAnswer}
 use Rattle.questions.specs.declared.samples.SampleAnswer.the-variants as samples
-use Rattle.questions.specs.declared.stretches.StretchAnswer.{StretchAnswer}
-use Rattle.questions.specs.declared.stretches.StretchAnswer.the-variants as stretches
-use Rattle.questions.specs.declared.slips.SlipAnswer.{SlipAnswer}
-use Rattle.questions.specs.declared.slips.SlipAnswer.the-variants as slips
+use Rattle.stretch.specs.declared.StretchAnswer.{StretchAnswer}
+use Rattle.stretch.specs.declared.StretchAnswer.the-variants as stretches
+use Rattle.stretch.specs.declared.slips.SlipAnswer.{SlipAnswer}
+use Rattle.stretch.specs.declared.slips.SlipAnswer.the-variants as slips
 
 -- a question and its answer
 pub data Case : Type 0 where

@@ -3,10 +3,10 @@ use super::show;
 use edits::MediaTime;
 use questions::samples::SampleAnswer;
 use questions::samples::sample_by_number;
-use questions::slips::SlipAnswer;
-use questions::slips::write_slip;
 use slip::SlipRead;
 use slip::read_slip;
+use stretch::slips::SlipAnswer;
+use stretch::slips::write_slip;
 ghost use Prim.Native.Nat.{_≤_};
 
 // The bytes of a slip at most, and places for the pairs that so many bytes can have.

@@ -8,8 +8,8 @@ use movie::list::LINE;
 use movie::list::Line;
 use movie::list::TrackList;
 use movie::list::track_list;
-use questions::stretches::StretchAnswer;
-use questions::stretches::stretch_of;
+use stretch::StretchAnswer;
+use stretch::stretch_of;
 ghost use Prim.Native.Nat.{_≤_};
 
 // The track that films the second hose.

@@ -3,5 +3,3 @@ pub mod Computing
 pub mod Found
 pub mod Mapping
 pub mod Shift
-pub mod Slipping
-pub mod Spanning

@@ -1,8 +1,6 @@
 // The questions of one track: a sample by its number or by its media time, its bytes, movie time to media time, and features.
 pub mod feature;
 pub mod samples;
-pub mod slips;
-pub mod stretches;
 pub mod times;
 
 use movie::tracks::has_track;

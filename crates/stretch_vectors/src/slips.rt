@@ -6,13 +6,13 @@ use edits::MediaTime;
 use movie::list::LINE;
 use movie::list::TrackList;
 use movie::list::track_list;
-use questions::slips::SlipAnswer;
-use questions::slips::write_slip;
-use questions::stretches::StretchAnswer;
-use questions::stretches::stretch_of;
 use slip::Head;
 use slip::SlipRead;
 use slip::read_slip;
+use stretch::StretchAnswer;
+use stretch::slips::SlipAnswer;
+use stretch::slips::write_slip;
+use stretch::stretch_of;
 ghost use Prim.Native.Nat.{_≤_};
 
 // What every byte holds before a slip is asked for.

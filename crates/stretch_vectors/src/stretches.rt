@@ -2,8 +2,8 @@
 use super::Ask;
 use super::show;
 use edits::MediaTime;
-use questions::stretches::StretchAnswer;
-use questions::stretches::stretch_of;
+use stretch::StretchAnswer;
+use stretch::stretch_of;
 ghost use Prim.Native.Nat.{_≤_};
 
 // What every place holds before a stretch is asked for. No film is long enough for it to be in a pair.

@@ -20,11 +20,11 @@ use Rattle.movie.specs.Rooms.{noRoom}
 use Rattle.questions.specs.Asked.{askRefusal, trackAsked}
 use Rattle.questions.specs.Samples.{sampleOf, sampleRefusal, sampleAnswer}
 use Rattle.questions.specs.Times.{atRefusal, atNumber, atAnswer}
-use Rattle.questions.specs.Stretches.{bytesIn, stretchPairs, spanRefusal, stretchRefusal, stretchAnswer}
+use Rattle.stretch.specs.Stretches.{bytesIn, stretchPairs, spanRefusal, stretchRefusal, stretchAnswer}
 use Rattle.questions.specs.declared.samples.Sample.{Sample}
 use Rattle.questions.specs.declared.samples.SampleAnswer.the-variants.{Found, Refused}
 use Rattle.questions.specs.declared.times.NumberAnswer.the-variants as number
-use Rattle.questions.specs.declared.stretches.StretchAnswer.the-variants as stretch
+use Rattle.stretch.specs.declared.StretchAnswer.the-variants as stretch
 use Rattle.theorems.specs.Demand.{tables}
 
 -- the sample that was found has this index

@@ -13,7 +13,7 @@ use Rattle.structure.specs.Track.{samplesOf}
 use Rattle.questions.specs.Asked.{askRefusal, trackAsked}
 use Rattle.questions.specs.Samples.{sampleOf, sampleAnswer}
 use Rattle.questions.specs.Times.{atAnswer}
-use Rattle.questions.specs.Stretches.{firstIn, pastIn, bytesIn, stretchPairs}
+use Rattle.stretch.specs.Stretches.{firstIn, pastIn, bytesIn, stretchPairs}
 use Rattle.questions.specs.declared.samples.Sample.{Sample}
 use Rattle.questions.specs.declared.samples.SampleAnswer.the-variants.{Found}
 use Rattle.questions.specs.declared.times.NumberAnswer.the-variants as number
@@ -21,7 +21,7 @@ use Rattle.theorems.specs.Demand.{tables, HasTime, partIn, sizeIn, howMa
 use Rattle.theorems.proofs.Added.{sizes-added, parts-added}
 use Rattle.theorems.proofs.Dealt.{gets-of, gets-only, first-low, first-chunk, first-offset, next-offset}
 use Rattle.theorems.proofs.Lists.{Listed, listed}
-use Rattle.questions.proofs.Spanning.{flat-length}
+use Rattle.stretch.proofs.Spanning.{flat-length}
 use Rattle.theorems.proofs.Answers.{Told, found-is, none-is, past-is, found-told, at-is, at-outside, at-told, pairs-is, pairs-told}
 
 -- ---- what a sample's answer says of the lists

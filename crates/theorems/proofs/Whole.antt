@@ -27,18 +27,18 @@ use Rattle.track.specs.Track.{trackOf}
 use Rattle.track.specs.Refusals.{beyond}
 use Rattle.movie.specs.Rooms.{filled, roomAfter}
 use Rattle.questions.specs.Asked.{askRefusal, trackAsked}
-use Rattle.questions.specs.Stretches.{firstIn, pastIn, pairsIn, stretchPairs, Stretches}
-use Rattle.questions.specs.Slips.{slipHead, slipOfStretch, slipRefusal, slipAnswer, Slips}
-use Rattle.questions.specs.declared.stretches.StretchAnswer.{StretchAnswer}
-use Rattle.questions.specs.declared.stretches.StretchAnswer.the-variants as stretch
-use Rattle.questions.specs.declared.slips.SlipAnswer.{SlipAnswer}
-use Rattle.questions.specs.declared.slips.SlipAnswer.the-variants as slip
+use Rattle.stretch.specs.Stretches.{firstIn, pastIn, pairsIn, stretchPairs, Stretches}
+use Rattle.stretch.specs.Slips.{slipHead, slipOfStretch, slipRefusal, slipAnswer, Slips}
+use Rattle.stretch.specs.declared.StretchAnswer.{StretchAnswer}
+use Rattle.stretch.specs.declared.StretchAnswer.the-variants as stretch
+use Rattle.stretch.specs.declared.slips.SlipAnswer.{SlipAnswer}
+use Rattle.stretch.specs.declared.slips.SlipAnswer.the-variants as slip
 use Rattle.questions.proofs.Asking.{asked}
 use Rattle.theorems.specs.Demand.{tables}
 use Rattle.theorems.proofs.Bytes.{Bytes, scale-small, asked-id}
 use Rattle.pairs.proofs.Touched.{touched-few, some-touched, touched-fits, fits-below}
 use Rattle.theorems.proofs.Lists.{listed}
-use Rattle.questions.proofs.Spanning.{flat-length}
+use Rattle.stretch.proofs.Spanning.{flat-length}
 use Rattle.theorems.proofs.Answers.{Span, span-told, pairs-told}
 
 -- ---- what an answer that is not refused tells

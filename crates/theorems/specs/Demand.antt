@@ -9,12 +9,12 @@ use Rattle.track.specs.Track.{Track, trackOf}
 use Rattle.questions.specs.Asked.{trackAsked}
 use Rattle.questions.specs.Samples.{sampleAnswer}
 use Rattle.questions.specs.Times.{atAnswer}
-use Rattle.questions.specs.Stretches.{stretchAnswer}
+use Rattle.stretch.specs.Stretches.{stretchAnswer}
 use Rattle.questions.specs.declared.samples.Sample.{Sample}
 use Rattle.questions.specs.declared.samples.SampleAnswer.{SampleAnswer}
 use Rattle.questions.specs.declared.samples.SampleAnswer.the-variants.{Found, Refused}
 use Rattle.questions.specs.declared.times.NumberAnswer.the-variants as number
-use Rattle.questions.specs.declared.stretches.StretchAnswer.the-variants as stretch
+use Rattle.stretch.specs.declared.StretchAnswer.the-variants as stretch
 
 -- ---- the words of the claim
 

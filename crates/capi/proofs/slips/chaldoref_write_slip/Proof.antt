@@ -3,8 +3,8 @@
 use borrow.Author.Needs.{needs}
 use mathlib.Core.Path.{refl}
 use Rattle.capi.proofs.Answered.{too-few, fills, of-case}
-use Rattle.questions.specs.Stretches.{spanRefusal}
-use Rattle.questions.specs.Slips.{slipRefusal, slipNumbers}
+use Rattle.stretch.specs.Stretches.{spanRefusal}
+use Rattle.stretch.specs.Slips.{slipRefusal, slipNumbers}
 use Rattle.capi.proofs.Judged.{slip-judged}
 use Rattle.capi.proofs.slips.chaldoref_write_slip.Statement.{statement}
 use Rattle.capi.proofs.slips.chaldoref_write_slip.Tie as tie

@@ -3,7 +3,7 @@
 use borrow.Author.Needs.{needs}
 use mathlib.Core.Path.{refl}
 use Rattle.capi.proofs.Answered.{too-few, fills, of-case}
-use Rattle.questions.specs.Stretches.{spanRefusal, stretchRefusal, stretchNumbers}
+use Rattle.stretch.specs.Stretches.{spanRefusal, stretchRefusal, stretchNumbers}
 use Rattle.capi.proofs.Judged.{stretch-judged}
 use Rattle.capi.proofs.stretches.chaldoref_stretch.Statement.{statement}
 use Rattle.capi.proofs.stretches.chaldoref_stretch.Tie as tie

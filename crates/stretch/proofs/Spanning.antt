@@ -1,0 +1,287 @@
+-- The stretch question, from what the code has of the track: its samples, its pairs, and each of its answers.
+-- Assumes nothing.
+use Prim.Native.Nat.{ℕ, zero, suc, _+_, _*_, _-_, _/_, _≤_, _<_, max}
+use mathlib.Core.Path.{_≡_, refl, sym, ap, _∙_}
+use mathlib.Core.List.{List, [], _∷_, _++_}
+use mathlib.Core.Bool.{Bool, true, false, cond, _&&_}
+use native.Mathlib.Omega.{arith}
+use native.Mathlib.Nat.{zero-add, div-lt-iff-lt-mul}
+use borrow.Author.Tests.{eq-eqb, ne-eqb, lt-ltb, le-ltb, le-leb, lt-leb, not-false, ltb-true, leb-true}
+use lib.ListN.{length, drop}
+use lib.Dec.{eqb, ltb, leb, lit<}
+use lib.Seq.{sets, sets-eq}
+use Rattle.bigendian.specs.BigEndian.{u32At}
+use Rattle.atoms.specs.Kinds.{stts, stsc, stsz, stco}
+use Rattle.atoms.proofs.Laws.{and-left, and-right}
+use Rattle.lists.specs.Lists.{sum, holder}
+use Rattle.lists.proofs.Places.{holder-holds, holds-below, holder-only, holder-mono}
+use Rattle.runs.specs.Runs.{durations, sampleAt}
+use Rattle.runs.specs.declared.Found.{Found}
+use Rattle.runs.specs.declared.Found.the-variants.{At, Outside}
+use Rattle.runs.proofs.Sentences.{sample-holds, outside-told}
+use Rattle.words.specs.Words.{sizes, chunkOffsets}
+use Rattle.chunks.specs.Chunks.{perChunk}
+use Rattle.chunks.proofs.Agreed.{samples-length}
+use Rattle.structure.specs.Track.{tableOf, samplesOf, chunksOf}
+use Rattle.structure.specs.Rows.{orElse}
+use Rattle.structure.proofs.Callers.{none-else}
+use Rattle.track.specs.Track.{trackOf}
+use Rattle.track.specs.Refusals.{totalIn, beyond}
+use Rattle.track.proofs.Agreed.{agreed-tables}
+use Rattle.movie.specs.Rooms.{noRoom, filled, roomAfter}
+use Rattle.pairs.specs.Pairs.{flat}
+use Rattle.pairs.specs.Walks.{pairsBetween, lengthsOf, countBetween, Putting}
+use Rattle.pairs.specs.declared.Pair.{Pair}
+use Rattle.pairs.proofs.Touched.{touched-count, touched-few, touched-sum, touched-fits, fits-sum}
+use Rattle.questions.specs.Asked.{askRefusal, trackAsked}
+use Rattle.stretch.specs.Spans.{Usable, Spans, spanIn, spanAsked, spanPairs}
+use Rattle.stretch.specs.Stretches.{firstIn, pastIn, pairsIn, bytesIn, stretchPairs, spanAt, spanRefusal, stretchRefusal, stretchAnswer, stretchNumbers, Stretches}
+use Rattle.stretch.specs.declared.Span.{Span}
+use Rattle.stretch.specs.declared.Asked.{Asked}
+use Rattle.stretch.specs.declared.Asked.the-variants.{Samples}
+use Rattle.stretch.specs.declared.Asked.the-variants as asks
+use Rattle.stretch.specs.declared.StretchAnswer.the-variants.{Pairs, Refused}
+use Rattle.edits.specs.declared.MediaTime.{MediaTime}
+use Rattle.questions.proofs.Asking.{asked, table-fits}
+
+-- ---- the refusal
+
+in-span : (b : Bool) → _≡_ {A = ℕ} (cond b 0 15) 0 → b ≡ true
+in-span true e = refl
+in-span false e = absurd (omega arith)
+
+-- what a stretch that is not refused so far has
+pub record InSpan (s : List ℕ) (id a b : ℕ) : Type 0 where
+  pub asks : askRefusal s id ≡ 0
+  pub order : a < b
+  pub ends : b ≤ totalIn (trackAsked s id)
+
+pub in-span-of : (s : List ℕ) (id a b : ℕ) → spanAt s id a b ≡ 0 → InSpan s id a b
+unfolding totalIn trackOf
+in-span-of s id a b e =
+    let n = none-else _ _ e in
+    let h = in-span _ (n .1) in
+    record { asks = n .0; order = ltb-true a b (and-left _ _ h); ends = leb-true b _ (and-right (ltb a b) _ h) }
+
+-- ---- the track
+
+pub usable : (s t : List ℕ) (id : ℕ) → askRefusal s id ≡ 0 → t ≡ trackAsked s id → Usable t
+usable s t id e d =
+    let a = asked s id e in
+    rw d (record {
+      short = omega (arith, a .short, a .file .shape .short);
+      agree = a .track .agree;
+      few-samples = a .track .shape .few-samples;
+      few-chunks = a .track .shape .few-chunks;
+      limit = length s;
+      low = a .file .shape .short;
+      within = a .track .within;
+    })
+
+-- ---- the samples
+
+module _ (t x : List ℕ) (time : ℕ) (f : Found) (u : Usable t) (h : time < totalIn t) (d : x ≡ tableOf stts t) (g : f ≡ sampleAt (durations x) time) where
+  inside : time < sum (durations x)
+  unfolding totalIn
+  inside = rw d h
+
+  pub not-outside : f ≡ Outside → ⊥
+  not-outside e = let k = outside-told (durations x) time (sym g ∙ e) in let i = inside in omega arith
+
+  pub index-is : (i : ℕ) → f ≡ At i → (i ≡ holder (durations (tableOf stts t)) time) × (i < 1048576)
+  index-is i e =
+      let w = sample-holds (durations x) time i (sym g ∙ e) in
+      let b = holds-below (durations x) time i w in
+      let o = holder-only (durations x) time i w in
+      (o ∙ ap (λ (l : List ℕ). holder (durations l) time) d, omega (arith, b .1, u .few-samples, agreed-tables t (u .agree) .counted, ap (λ (l : List ℕ). length (durations l)) d))
+
+-- what is asked of a track, from the sample at b - 1
+pub span-empty : (t : List ℕ) (a b : ℕ) → b ≤ a → asks.Refused 15 ≡ spanIn t a b
+unfolding spanIn
+span-empty t a b h = rw (le-ltb a b h)
+
+module _ (t x : List ℕ) (a b : ℕ) (f : Found) (o : a < b) (d : x ≡ tableOf stts t) (g : f ≡ sampleAt (durations x) (b - 1)) where
+  pub span-outside : f ≡ Outside → asks.Refused 15 ≡ spanIn t a b
+  unfolding spanIn totalIn
+  span-outside e =
+      let k : sum (durations (tableOf stts t)) ≤ b - 1 = rw d at (outside-told (durations x) (b - 1) (sym g ∙ e)) in
+      rw (lt-ltb a b o, lt-leb b (sum (durations (tableOf stts t))) (omega arith))
+
+  module _ (i : ℕ) (e : f ≡ At i) where
+    pub last-inside : b - 1 < totalIn t
+    unfolding totalIn
+    last-inside = rw d at (holds-below (durations x) (b - 1) i (sample-holds (durations x) (b - 1) i (sym g ∙ e)) .0)
+
+    pub span-found : (from stop : ℕ) → from ≡ holder (durations (tableOf stts t)) a → i ≡ holder (durations (tableOf stts t)) (b - 1) → stop ≡ i + 1
+        → Samples (record { from = from; stop = stop }) ≡ spanIn t a b
+    unfolding spanIn
+    span-found from stop p q r =
+        let k = last-inside in
+        let z : stop ≡ suc (holder (durations (tableOf stts t)) (b - 1)) = omega (arith, q) in
+        rw (lt-ltb a b o, le-leb b (totalIn t) (omega arith), p, z)
+
+-- what is asked of a file: a refusal of its own, and samples where the stretch lies inside
+abbrev askedBy : ℕ → Bool → Span → Asked
+askedBy r within q = cond (eqb r 0) (cond within (Samples q) (asks.Refused 15)) (asks.Refused r)
+
+abbrev refusedBy : ℕ → Bool → ℕ
+refusedBy r within = cond (eqb r 0) (cond within 0 15) r
+
+by-refused : (r : ℕ) (within : Bool) (q : Span) (k : ℕ) → asks.Refused k ≡ askedBy r within q → (k ≡ refusedBy r within) × (k ≡ 0 → ⊥)
+by-refused zero true q k e = let z : _≡_ {A = ℕ} 0 1 = cc in absurd (omega arith)
+by-refused zero false q k e = let z : k ≡ 15 = cc in (z, λ y. omega arith)
+by-refused (suc n) within q k e =
+    let w = ne-eqb (suc n) 0 (λ y. omega arith) in
+    let d = rw w at e in
+    let z : k ≡ suc n = cc in
+    (rw w z, λ y. omega arith)
+
+by-samples : (r : ℕ) (within : Bool) (q p : Span) → Samples p ≡ askedBy r within q → (0 ≡ refusedBy r within) × (p ≡ q)
+by-samples zero true q p e = (refl, cc)
+by-samples zero false q p e = let z : _≡_ {A = ℕ} 0 1 = cc in absurd (omega arith)
+by-samples (suc n) within q p e =
+    let d = rw (ne-eqb (suc n) 0 (λ y. omega arith)) at e in
+    let z : _≡_ {A = ℕ} 0 1 = cc in
+    absurd (omega arith)
+
+module _ (s : List ℕ) (id a b : ℕ) where
+  pub asked-refused : (k : ℕ) → asks.Refused k ≡ spanAsked s id a b → (k ≡ spanAt s id a b) × (k ≡ 0 → ⊥)
+  unfolding spanAsked spanIn orElse totalIn trackOf
+  asked-refused k e = by-refused (askRefusal s id) (ltb a b && leb b (totalIn (trackAsked s id))) _ k e
+
+  pub asked-samples : (p : Span) → Samples p ≡ spanAsked s id a b → (0 ≡ spanAt s id a b) × Spans (trackAsked s id) a b p × InSpan s id a b
+  unfolding spanAsked spanIn orElse totalIn trackOf
+  asked-samples p e =
+      let w = by-samples (askRefusal s id) (ltb a b && leb b (totalIn (trackAsked s id))) _ p e in
+      (w .0, rw (w .1) (record { first = refl; past = refl }), in-span-of s id a b (sym (w .0)))
+
+-- ---- the pairs
+
+count-same : (stsc stsz stco : List ℕ) (chunks i j : ℕ) → countBetween stsc chunks i j ≡ length (pairsBetween stsc stsz stco chunks i j)
+unfolding countBetween
+count-same stsc stsz stco chunks i j = touched-count i j 0 (perChunk stsc chunks) [] [] (chunkOffsets stco) (sizes stsz)
+
+pub count-is : (t x o : List ℕ) (s : Span) (c n : ℕ) → x ≡ tableOf stsc t → o ≡ tableOf stco t → c ≡ u32At o 12 → n ≡ countBetween x c (s .from) (s .stop) → n ≡ length (spanPairs t s)
+unfolding spanPairs
+count-is t x o s c n e f g h =
+    let k : c ≡ chunksOf t = g ∙ rw f in
+    h ∙ rw (e, k) (count-same (tableOf stsc t) (tableOf stsz t) (tableOf stco t) (chunksOf t) (s .from) (s .stop))
+
+module _ (t : List ℕ) (s : Span) (u : Usable t) where
+  pub pairs-few : length (spanPairs t s) ≤ 1048576
+  unfolding spanPairs
+  pairs-few =
+      let ps = perChunk (tableOf stsc t) (chunksOf t) in
+      omega (
+        arith,
+        touched-few (s .from) (s .stop) 0 ps (chunkOffsets (tableOf stco t)) (sizes (tableOf stsz t)),
+        samples-length (tableOf stsc t) (chunksOf t) _ (agreed-tables t (u .agree) .deals),
+        u .few-chunks,
+      )
+
+  pub putting : (k : ℕ) → s .from ≤ s .stop → 2 * length (spanPairs t s) ≤ k → Putting (tableOf stsc t) (tableOf stsz t) (tableOf stco t) (chunksOf t) (s .from) (s .stop) k
+  unfolding spanPairs beyond
+  putting k o h =
+      let ps = perChunk (tableOf stsc t) (chunksOf t) in
+      let f = touched-fits (u .limit) (s .from) (s .stop) 0 ps (chunkOffsets (tableOf stco t)) (sizes (tableOf stsz t)) o (omega (arith, u .low)) (not-false _ (u .within)) in
+      record {
+        short = table-fits stsc t (tableOf stsc t) refl (u .short);
+        fits = f;
+        total = omega (arith, fits-sum (pairsBetween (tableOf stsc t) (tableOf stsz t) (tableOf stco t) (chunksOf t) (s .from) (s .stop)) f, pairs-few);
+        room = h;
+      }
+
+-- from what the code has of the tables
+module _ (t x z o : List ℕ) (s : Span) (c : ℕ) (ex : x ≡ tableOf stsc t) (ez : z ≡ tableOf stsz t) (eo : o ≡ tableOf stco t) (ec : c ≡ u32At o 12) where
+  pub between-is : pairsBetween x z o c (s .from) (s .stop) ≡ spanPairs t s
+  unfolding spanPairs
+  between-is = let k : c ≡ chunksOf t = ec ∙ rw eo in rw (ex, ez, eo, k)
+
+  pub may-put : (k : ℕ) → Usable t → s .from ≤ s .stop → 2 * length (spanPairs t s) ≤ k → Putting x z o c (s .from) (s .stop) k
+  may-put k u q h = let n : c ≡ chunksOf t = ec ∙ rw eo in rw (ex, ez, eo, n) (putting t s u k q h)
+
+-- ---- the stretch of the track that is asked
+
+module _ (s t : List ℕ) (id : ℕ) (a b : MediaTime) (w : InSpan s id (a .0) (b .0)) (d : t ≡ trackAsked s id) (p : Span) (q : Spans t (a .0) (b .0) p) where
+  ready : Usable t
+  ready = usable s t id (w .asks) d
+
+  pub pairs-are : spanPairs t p ≡ stretchPairs s id a b
+  unfolding spanPairs stretchPairs pairsIn firstIn pastIn trackOf
+  pairs-are = rw (q .first, q .past, d)
+
+  -- the samples are those of the track
+  bounds : (p .from < p .stop) × (p .stop ≤ samplesOf t)
+  unfolding totalIn
+  bounds =
+      let ds = durations (tableOf stts t) in
+      let o : b .0 ≤ sum ds = rw d (w .ends) in
+      let h = w .order in
+      let k = holds-below ds (b .0 - 1) (holder ds (b .0 - 1)) (holder-holds ds (b .0 - 1) (omega arith)) in
+      let m = holder-mono ds (a .0) (b .0 - 1) (omega arith) in
+      (omega (arith, q .first, q .past, m), omega (arith, q .past, k .1, agreed-tables t (ready .agree) .counted))
+
+  pub span-order : p .from ≤ p .stop
+  span-order = omega (arith, bounds .0)
+
+  -- the pairs' lengths are the sizes of the samples, added
+  pub bytes-are : sum (lengthsOf (spanPairs t p)) ≡ bytesIn (trackOf (trackAsked s id)) a b
+  unfolding spanPairs bytesIn firstIn pastIn trackOf
+  bytes-are =
+      let ps = perChunk (tableOf stsc t) (chunksOf t) in
+      let z = touched-sum (p .from) (p .stop) 0 ps (chunkOffsets (tableOf stco t)) (sizes (tableOf stsz t)) span-order (omega (arith, bounds .1, agreed-tables t (ready .agree) .dealt)) (omega arith) in
+      let e : max (p .from) 0 ≡ p .from = omega arith in
+      z ∙ rw e (rw (q .first, q .past, d))
+
+-- ---- the answers
+
+pub flat-length : (l : List Pair) → length (flat l) ≡ 2 * length l
+flat-length [] = refl
+flat-length (x ∷ l) = omega (arith, flat-length l)
+
+answered : (s : List ℕ) (id : ℕ) (a b : MediaTime) (room after : List ℕ) (r : ℕ) → stretchRefusal s id a b room ≡ r → (r ≡ 0 → ⊥) → after ≡ room → Stretches s id a b room (Refused r) after
+unfolding stretchAnswer stretchNumbers roomAfter
+answered s id a b room after r e n d = record { answer = rw (e, ne-eqb r 0 n); numbers = rw (e, ne-eqb r 0 n); places = rw (e, ne-eqb r 0 n) d }
+
+pub no-span : (s : List ℕ) (id : ℕ) (a b : MediaTime) (room : List ℕ) (r : ℕ) → r ≡ spanAt s id (a .0) (b .0) → (r ≡ 0 → ⊥) → Stretches s id a b room (Refused r) room
+unfolding stretchRefusal spanRefusal orElse
+no-span s id a b room r e n = answered s id a b room room r (first-of (spanAt s id (a .0) (b .0)) (sym e)) n refl
+  where
+    first-of : (x : ℕ) → x ≡ r → orElse x (noRoom (flat (stretchPairs s id a b)) room) ≡ r
+    first-of x q = rw (q, ne-eqb r 0 n)
+
+module _ (s t room : List ℕ) (id : ℕ) (a b : MediaTime) (r : ℕ) (e : r ≡ spanAt s id (a .0) (b .0)) (z : r ≡ 0) (d : t ≡ trackAsked s id) (p : Span) (q : Spans t (a .0) (b .0) p)
+    (n : ℕ) (c : n ≡ length (spanPairs t p)) where
+  spans : InSpan s id (a .0) (b .0)
+  spans = in-span-of s id (a .0) (b .0) (sym e ∙ z)
+
+  same-pairs : spanPairs t p ≡ stretchPairs s id a b
+  same-pairs = pairs-are s t id a b spans d p q
+
+  numbers-are : length (flat (stretchPairs s id a b)) ≡ 2 * n
+  numbers-are = omega (arith, flat-length (stretchPairs s id a b), ap length same-pairs, c)
+
+  then-room : stretchRefusal s id a b room ≡ noRoom (flat (stretchPairs s id a b)) room
+  unfolding stretchRefusal spanRefusal orElse
+  then-room = rw (← e, eq-eqb r 0 z)
+
+  pub no-room : length room / 2 < n → Stretches s id a b room (Refused 16) room
+  unfolding noRoom
+  no-room h =
+      let k = div-lt-iff-lt-mul {x = length room} {y = n} (lit< tt) .0 h in
+      answered s id a b room room 16 (then-room ∙ rw (lt-ltb (length room) (length (flat (stretchPairs s id a b))) (omega (arith, numbers-are)))) (λ y. omega arith) refl
+
+  pub whole-stretch : (bytes : ℕ) (after : List ℕ) → n ≤ length room / 2 → bytes ≡ sum (lengthsOf (spanPairs t p)) → after ≡ sets room 0 (flat (spanPairs t p))
+      → Stretches s id a b room (Pairs n bytes) after
+  unfolding noRoom stretchAnswer stretchNumbers roomAfter filled
+  whole-stretch bytes after h f g =
+      let k : stretchRefusal s id a b room ≡ 0 = then-room ∙ rw (le-ltb (length room) (length (flat (stretchPairs s id a b))) (omega (arith, numbers-are))) in
+      let m : n ≡ length (stretchPairs s id a b) = c ∙ ap length same-pairs in
+      let y : bytes ≡ bytesIn (trackOf (trackAsked s id)) a b = f ∙ bytes-are s t id a b spans d p q in
+      let l = flat (stretchPairs s id a b) in
+      let v : sets room 0 l ≡ l ++ drop (length l) room = rw (zero-add) at (sets-eq l room 0 (omega (arith, numbers-are))) in
+      record {
+        answer = rw (k, ← m, ← y);
+        numbers = rw (k, ← m, ← y);
+        places = rw k (g ∙ ap (λ (x : List Pair). sets room 0 (flat x)) same-pairs ∙ v);
+      }

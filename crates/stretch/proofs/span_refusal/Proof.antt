@@ -1,0 +1,26 @@
+-- `stretch::span_refusal` meets its contract: what is asked for has the refusal.
+-- Assumes nothing.
+use borrow.Author.Needs.{needs}
+use mathlib.Core.Path.{sym, _∙_}
+use Rattle.stretch.proofs.Spanning.{asked-refused, asked-samples}
+use Rattle.stretch.proofs.span_refusal.Statement.{statement}
+use Rattle.stretch.proofs.span_refusal.Tie as tie
+
+span-asked-requires : tie.Need-span-asked-requires
+span-asked-requires c κs = search needs
+
+enum-told : tie.Need-enum-told
+enum-told c = search needs
+
+enum-known-r : tie.Need-enum-known-r
+enum-known-r c = search needs
+
+returns : tie.Need-returns
+returns c = asked-samples _ _ _ _ _ (sym (c .enum-told .given .1) ∙ c .before .before .span-asked .ensures) .0
+
+returns-2 : tie.Need-returns-2
+returns-2 c = asked-refused _ _ _ _ _ (sym (c .before .r .given .1) ∙ c .before .before .before .span-asked .ensures) .0
+
+pub span-refusal-spec : {M : Type 1} → statement M
+span-refusal-spec =
+    tie.close (tie.spec span-asked-requires enum-told enum-known-r returns returns-2)

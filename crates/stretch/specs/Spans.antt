@@ -1,0 +1,57 @@
+-- The samples of a stretch by their indices, between the functions of the questions. These need not be believed: a proof shows that they come to the
+-- definitions of Stretches and Slips.
+use Prim.Native.Nat.{ℕ, suc, _-_, _^_, _≤_, _<_}
+use mathlib.Core.Path.{_≡_}
+use mathlib.Core.Bool.{false, cond, _&&_}
+use lib.Dec.{eqb, ltb, leb}
+use mathlib.Core.List.{List}
+use lib.ListN.{length}
+use Rattle.atoms.specs.Kinds.{stsc, stsz, stco, stts}
+use Rattle.lists.specs.Lists.{holder}
+use Rattle.runs.specs.Runs.{durations}
+use Rattle.structure.specs.Track.{tableOf, samplesOf, chunksOf}
+use Rattle.track.specs.Refusals.{contradicts, beyond, totalIn}
+use Rattle.pairs.specs.Walks.{pairsBetween}
+use Rattle.pairs.specs.declared.Pair.{Pair}
+use Rattle.movie.specs.Rooms.{noRoom, roomAfter}
+use Rattle.stretch.specs.declared.slips.SlipAnswer.{SlipAnswer}
+use Rattle.stretch.specs.declared.slips.SlipAnswer.the-variants.{Written, Refused}
+use Rattle.questions.specs.Asked.{askRefusal, trackAsked}
+use Rattle.stretch.specs.declared.Span.{Span}
+use Rattle.stretch.specs.declared.Asked.{Asked}
+use Rattle.stretch.specs.declared.Asked.the-variants.{Samples}
+use Rattle.stretch.specs.declared.Asked.the-variants as asks
+
+-- what the code asks of a track: that it is one of a file that is not refused
+pub record Usable (t : List ℕ) : Type 0 where
+  pub short : length t < 2 ^ 32
+  pub agree : contradicts t ≡ false
+  pub few-samples : samplesOf t ≤ 1048576
+  pub few-chunks : chunksOf t ≤ 1048576
+  pub limit : ℕ
+  pub low : limit ≤ 2147483647
+  pub within : beyond limit t ≡ false
+
+-- from the sample at a up to, not including, the one past that at b - 1
+pub record Spans (t : List ℕ) (a b : ℕ) (s : Span) : Type 0 where
+  pub first : s .from ≡ holder (durations (tableOf stts t)) a
+  pub past : s .stop ≡ suc (holder (durations (tableOf stts t)) (b - 1))
+
+-- what the stretch from a to b asks for: samples, or a refusal
+unfoldable pub spanIn : List ℕ → ℕ → ℕ → Asked
+spanIn t a b =
+    cond (ltb a b && leb b (totalIn t))
+    (Samples (record { from = holder (durations (tableOf stts t)) a; stop = suc (holder (durations (tableOf stts t)) (b - 1)) }))
+    (asks.Refused 15)
+
+unfoldable pub spanAsked : List ℕ → ℕ → ℕ → ℕ → Asked
+spanAsked s id a b = cond (eqb (askRefusal s id) 0) (spanIn (trackAsked s id) a b) (asks.Refused (askRefusal s id))
+
+-- the pairs of some samples of a track
+unfoldable pub spanPairs : List ℕ → Span → List Pair
+spanPairs t s = pairsBetween (tableOf stsc t) (tableOf stsz t) (tableOf stco t) (chunksOf t) (s .from) (s .stop)
+
+-- bytes put into the first places of what is lent, where they fit, or refused 16
+pub record PutSlip (bytes out : List ℕ) (r : SlipAnswer) (after : List ℕ) : Type 0 where
+  pub answer : r ≡ cond (eqb (noRoom bytes out) 0) (Written (length bytes)) (Refused (noRoom bytes out))
+  pub places : after ≡ roomAfter (noRoom bytes out) bytes out

@@ -1,0 +1,141 @@
+// The byte ranges of a stretch of media time, in lent 32-bit numbers; and its slip.
+pub mod slips;
+
+use atoms::kinds;
+use bigendian::u32_at;
+use edits::MediaTime;
+use pairs::count_pairs;
+use pairs::put_pairs;
+use questions::ask_refusal;
+use questions::track_asked;
+use runs::Found;
+use structure::trak::table;
+ghost use mathlib.Core.Path.{_≡_};
+ghost use Prim.Native.Nat.{_≤_, _<_, _*_};
+ghost use lib.ListN.{length};
+ghost use lib.Seq.{sets};
+ghost use Rattle.lists.specs.Lists.{sum, holder};
+ghost use Rattle.runs.specs.Runs.{durations};
+ghost use Rattle.atoms.specs.Kinds.{stts};
+ghost use Rattle.structure.specs.Track.{tableOf};
+ghost use Rattle.track.specs.Refusals.{totalIn};
+ghost use Rattle.pairs.specs.Pairs.{flat};
+ghost use Rattle.pairs.specs.Walks.{lengthsOf};
+ghost use Rattle.stretch.specs.Spans.{Usable, spanIn, spanAsked, spanPairs};
+ghost use Rattle.stretch.specs.Stretches.{spanAt, Stretches};
+
+// Samples by their indices: from the first up to, not including, `stop`.
+pub struct Span {
+    pub from: u32,
+    pub stop: u32,
+}
+
+// What a stretch asks for: its samples; or the number of the refusal that is given before the room is looked at.
+enum Asked {
+    Samples(Span),
+    Refused(u32),
+}
+
+// The index of the sample at a media time.
+fn index_at(trak: &[u8], t: u32) -> u32
+    requires { ⌜ Usable (now trak) × (t < totalIn (now trak)) ⌝ }
+    ensures { λ r. ⌜ (r ≡ holder (durations (tableOf stts (now (trak .entry)))) t) × (r < 1048576) ⌝ }
+{
+    match runs::sample_at(table(trak, kinds::STTS), t) {
+        Found::At(index) => index as u32,
+        Found::Outside => 0,
+    }
+}
+
+// The samples of the stretch from a to b of a track; 15 where it lies outside. That b is not above the total is known by the sample at b - 1, so that the
+// total need not be added first.
+fn span_in(trak: &[u8], a: u32, b: u32) -> Asked
+    requires { ⌜ Usable (now trak) ⌝ }
+    ensures { λ r. ⌜ r ≡ spanIn (now (trak .entry)) a b ⌝ }
+{
+    if b <= a {
+        return Asked::Refused(15);
+    }
+    match runs::sample_at(table(trak, kinds::STTS), b - 1) {
+        Found::At(last) => {
+            let from = index_at(trak, a);
+            let stop = last as u32 + 1;
+            Asked::Samples(Span { from, stop })
+        }
+        Found::Outside => Asked::Refused(15),
+    }
+}
+
+// What the stretch from a to b of a track of a file asks for.
+fn span_asked(file: &[u8], id: u32, a: u32, b: u32) -> Asked
+    ensures { λ r. ⌜ r ≡ spanAsked (now (file .entry)) id a b ⌝ }
+{
+    let refused = ask_refusal(file, id);
+    if refused != 0 {
+        return Asked::Refused(refused);
+    }
+    span_in(track_asked(file, id), a, b)
+}
+
+// The refusal before the room is looked at: the file's, 14, or 15; 0 where there is none.
+pub fn span_refusal(file: &[u8], id: u32, a: u32, b: u32) -> u32
+    ensures { λ r. ⌜ r ≡ spanAt (now (file .entry)) id a b ⌝ }
+{
+    match span_asked(file, id, a, b) {
+        Asked::Samples(_) => 0,
+        Asked::Refused(r) => r,
+    }
+}
+
+// How many chunks some samples of a track touch.
+fn count_in(trak: &[u8], s: Span) -> u64
+    requires { ⌜ Usable (now trak) ⌝ }
+    ensures { λ r. ⌜ r ≡ length (spanPairs (now (trak .entry)) s) ⌝ }
+{
+    let stsc = table(trak, kinds::STSC);
+    let chunks = u32_at(table(trak, kinds::STCO), 12);
+    count_pairs(stsc, chunks, s.from, s.stop)
+}
+
+// Puts the pairs of some samples of a track into the first places of the room, and answers their lengths, added.
+fn put_in(trak: &[u8], s: Span, room: &mut [u32]) -> u64
+    requires { ⌜ Usable (now trak) × (s .from ≤ s .stop) × (2 * length (spanPairs (now trak) s) ≤ length (now room)) ⌝ }
+    ensures { λ r. ⌜ (r ≡ sum (lengthsOf (spanPairs (now (trak .entry)) s))) × (now (room .exit) ≡ sets (now (room .entry)) 0 (flat (spanPairs (now (trak .entry)) s))) ⌝ }
+{
+    let stsc = table(trak, kinds::STSC);
+    let stsz = table(trak, kinds::STSZ);
+    let stco = table(trak, kinds::STCO);
+    put_pairs(stsc, stsz, stco, u32_at(stco, 12), s.from, s.stop, room)
+}
+
+// The answer of `stretch_of`: how many pairs, and the total of bytes; or the number of a refusal.
+pub enum StretchAnswer {
+    Pairs(usize, u64),
+    Refused(u32),
+}
+
+// The stretch of a track from a to b: a pair (offset, length) for each chunk touched, in the first places of the room. A refusal leaves the room as it is.
+pub fn stretch_of(
+    file: &[u8],
+    id: u32,
+    a: MediaTime,
+    b: MediaTime,
+    room: &mut [u32],
+) -> StretchAnswer
+    ensures { λ r. ⌜ Stretches (now (file .entry)) id a b (now (room .entry)) r (now (room .exit)) ⌝ }
+{
+    let first = a.0;
+    let last = b.0;
+    match span_asked(file, id, first, last) {
+        Asked::Refused(r) => StretchAnswer::Refused(r),
+        Asked::Samples(span) => {
+            let trak = track_asked(file, id);
+            let n = count_in(trak, span) as usize;
+            if room.len() / 2 < n {
+                return StretchAnswer::Refused(16);
+            }
+            let bytes = put_in(trak, span, room);
+            StretchAnswer::Pairs(n, bytes)
+        }
+    }
+}
