@@ -1,3 +1,4 @@
 pub mod Handing
 pub mod Answered
 pub mod Judged
+pub mod Part

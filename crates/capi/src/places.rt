@@ -35,10 +35,10 @@ pub fn hand_signed(refusal: u32, values: &[i64], places: &mut [i64]) -> u32
     if places.len() < values.len() {
         return or_short(refusal);
     }
-    let mut i = 0;
-    while i < values.len() {
-        places[i] = values[i];
-        i += 1;
+    let mut k = 0;
+    while k < values.len() {
+        places[k] = values[k];
+        k += 1;
     }
     refusal
 }

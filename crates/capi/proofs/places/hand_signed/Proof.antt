@@ -1,4 +1,4 @@
--- `capi::places::hand_signed` meets its contract; the loop's invariant: the values that are left, stored from i on, make what all of them make.
+-- `capi::places::hand_signed` meets its contract; the loop's invariant: the values that are left, stored from k on, make what all of them make.
 -- Assumes nothing.
 use borrow.Author.Needs.{needs}
 use Prim.Native.Nat.{_-_}
@@ -12,10 +12,10 @@ use Rattle.capi.proofs.places.hand_signed.Statement.{statement}
 use Rattle.capi.proofs.places.hand_signed.Tie as tie
 
 abbrev Inv-loop : tie.InvT-loop
-Inv-loop refusal values places₀ i₀ places i = Stored values places₀ places i
+Inv-loop refusal values places₀ k₀ places k = Stored values places₀ places k
 
 abbrev μ-loop : tie.MeasureT-loop
-μ-loop refusal values places₀ i₀ places i = length values - i
+μ-loop refusal values places₀ k₀ places k = length values - k
 
 or-short-requires : tie.Need-or-short-requires Inv-loop μ-loop
 or-short-requires c κs = search needs
@@ -38,8 +38,8 @@ mul-t12 c = search needs
 slice-set-from-places : tie.Need-slice-set-from-places Inv-loop μ-loop
 slice-set-from-places c = let l = c .before .before .loop in omega (arith, l .inv .same, c .before .before .before .if1 .left)
 
-add-i : tie.Need-add-i Inv-loop μ-loop
-add-i c = search needs
+add-k : tie.Need-add-k Inv-loop μ-loop
+add-k c = search needs
 
 loop-less : tie.Need-loop-less Inv-loop μ-loop
 loop-less c = omega arith
@@ -66,7 +66,7 @@ hand-signed-spec =
     shared-slice-copy-out-places
     mul-t12
     slice-set-from-places
-    add-i
+    add-k
     loop-less
     loop-again
     same-length
