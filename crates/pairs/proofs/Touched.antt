@@ -82,19 +82,19 @@ touched-few i j begin (p ∷ ps) cs zs = go (isTouched i j begin p) (touched-few
     go true h = omega arith
     go false h = omega arith
 
-none-between : (zs : List ℕ) (k : ℕ) → between zs k k ≡ 0
-none-between zs k = let e : k - k ≡ 0 = omega arith in rw e
+pub none-between : (zs : List ℕ) (i j : ℕ) → j ≤ i → between zs i j ≡ 0
+none-between zs i j h = let e : j - i ≡ 0 = omega arith in rw e
 
 -- the lengths are the sizes of the samples, added, where the chunks have them all
 pub touched-sum : (i j begin : ℕ) (ps cs zs : List ℕ) → i ≤ j → j ≤ begin + sum ps → begin ≤ j → sum (lengthsOf (touched i j begin ps cs zs)) ≡ between zs (max i begin) j
 unfolding pairOf
 touched-sum i j begin [] cs zs h g f =
     let e : max i begin ≡ j = omega arith in
-    rw e (sym (none-between zs j))
+    rw e (sym (none-between zs j j (omega arith)))
 touched-sum i j begin (p ∷ ps) cs zs h g f = elim (decLt begin j) [
   | no l ↦
       let e : max i begin ≡ j = omega arith in
-      rw (touched-none i j begin (p ∷ ps) cs zs (omega arith), e) (sym (none-between zs j))
+      rw (touched-none i j begin (p ∷ ps) cs zs (omega arith), e) (sym (none-between zs j j (omega arith)))
   | yes l ↦ elim (decLt i (begin + p)) [
     | no m ↦
         let e : max i (begin + p) ≡ max i begin = omega arith in

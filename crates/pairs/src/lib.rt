@@ -12,12 +12,12 @@ use words::chunk_offset;
 ghost use mathlib.Core.Path.{_≡_};
 ghost use mathlib.Core.Bool.{_||_};
 ghost use lib.Dec.{eqb, leb};
-ghost use Prim.Native.Nat.{_+_, _≤_, _<_, _^_, min, max};
+ghost use Prim.Native.Nat.{_+_, _*_, _-_, _≤_, _<_, _^_, min, max};
 ghost use lib.ListN.{length, getD};
 ghost use Rattle.words.specs.Words.{sizes, chunkOffsets};
 ghost use lib.Seq.{sets};
 ghost use mathlib.Core.List.{[], _∷_};
-ghost use Rattle.lists.specs.Lists.{sum};
+ghost use Rattle.lists.specs.Lists.{sum, between};
 ghost use Rattle.pairs.specs.Pairs.{pairOf, flat};
 ghost use Rattle.pairs.specs.Walks.{pairsBetween, lengthsOf, countBetween, Putting, StartsAt, placeAfter};
 
@@ -88,6 +88,16 @@ pub fn is_past(p: Place, stop: u32) -> bool
     stop as u64 <= p.begin
 }
 
+// The sizes of the samples of a chunk before the first one asked for, added. Most chunks have none, and then stsz isn't looked at.
+fn bytes_before(stsz: &[u8], begin: u32, first: u32) -> u64
+    ensures { λ r. ⌜ (r ≡ between (sizes (now (stsz .entry))) begin first) × (r ≤ (first - begin) * 4294967295) ⌝ }
+{
+    if first <= begin {
+        return 0;
+    }
+    bytes_between(stsz, begin, first)
+}
+
 // The pair of the chunk at a place.
 pub fn pair_at(stsz: &[u8], stco: &[u8], p: Place, from: u32, stop: u32) -> Pair
     requires { ⌜ p .begin < stop ⌝ }
@@ -98,7 +108,7 @@ pub fn pair_at(stsz: &[u8], stco: &[u8], p: Place, from: u32, stop: u32) -> Pair
     let begin = p.begin;
     let end = smaller(stop as u64, begin + per as u64) as u32;
     let first = larger(from, begin as u32);
-    let before = bytes_between(stsz, begin as u32, first);
+    let before = bytes_before(stsz, begin as u32, first);
     Pair {
         offset: chunk_offset(stco, p.chunk) as u64 + before,
         length: bytes_between(stsz, first, end),

@@ -23,11 +23,11 @@ cast-larger c = search needs
 larger-requires : tie.Need-larger-requires
 larger-requires c κs = search needs
 
-cast-bytes-between : tie.Need-cast-bytes-between
-cast-bytes-between c = search needs
+cast-bytes-before : tie.Need-cast-bytes-before
+cast-bytes-before c = search needs
 
-bytes-between-requires : tie.Need-bytes-between-requires
-bytes-between-requires c κs = search needs
+bytes-before-requires : tie.Need-bytes-before-requires
+bytes-before-requires c κs = search needs
 
 chunk-offset-requires : tie.Need-chunk-offset-requires
 chunk-offset-requires c κs = search needs
@@ -38,11 +38,11 @@ cast-t12 c = search needs
 add-t15 : tie.Need-add-t15
 add-t15 c = search needs
 
-bytes-between-requires-2 : tie.Need-bytes-between-requires-2
-bytes-between-requires-2 c κs = search needs
+bytes-between-requires : tie.Need-bytes-between-requires
+bytes-between-requires c κs = search needs
 
 returns : tie.Need-returns
-returns c = pair-made _ _ _ _ _ _ _ _ _ _ _ (c .before .before .before .before .smaller .ensures) (c .before .before .before .larger .ensures) (c .before .before .bytes-between .ensures .0) (c .bytes-between2 .ensures .0) (c .before .chunk-offset .ensures)
+returns c = pair-made _ _ _ _ _ _ _ _ _ _ _ (c .before .before .before .before .smaller .ensures) (c .before .before .before .larger .ensures) (c .before .before .bytes-before .ensures .0) (c .bytes-between .ensures .0) (c .before .chunk-offset .ensures)
 
 pub pair-at-spec : {M : Type 1} → statement M
 pair-at-spec =
@@ -54,10 +54,10 @@ pair-at-spec =
     cast-end
     cast-larger
     larger-requires
-    cast-bytes-between
-    bytes-between-requires
+    cast-bytes-before
+    bytes-before-requires
     chunk-offset-requires
     cast-t12
     add-t15
-    bytes-between-requires-2
+    bytes-between-requires
     returns)
