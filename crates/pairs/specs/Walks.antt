@@ -1,5 +1,5 @@
 -- Where a walk over the chunks of a stretch stands. These need not be believed: they are between the crate's own functions.
-use Prim.Native.Nat.{ℕ, _+_, _*_, _^_, _≤_, _<_}
+use Prim.Native.Nat.{ℕ, suc, _+_, _*_, _^_, _≤_, _<_, min}
 use mathlib.Core.Path.{_≡_}
 use mathlib.Core.List.{List, [], _∷_, map}
 use lib.ListN.{length, drop}
@@ -21,6 +21,10 @@ lengthsOf qs = map (λ q. q .length) qs
 -- how many: no offset and no size has a say in it
 unfoldable pub countBetween : List ℕ → ℕ → ℕ → ℕ → ℕ
 countBetween stsc chunks i j = length (touched i j 0 (perChunk stsc chunks) [] [])
+
+-- of chunks with so many samples each, how many begin no later than sample t: those up to its own, or all where it lies in none
+abbrev pub chunksTo : List ℕ → ℕ → ℕ
+chunksTo ps t = min (suc (holder ps t)) (length ps)
 
 -- both numbers of each pair fit 32 bits
 abbrev pub Fitting : List Pair → Type 0

@@ -15,11 +15,12 @@ ghost use lib.Dec.{eqb, leb};
 ghost use Prim.Native.Nat.{_+_, _*_, _-_, _≤_, _<_, _^_, min, max};
 ghost use lib.ListN.{length, getD};
 ghost use Rattle.words.specs.Words.{sizes, chunkOffsets};
+ghost use Rattle.chunks.specs.Chunks.{perChunk};
 ghost use lib.Seq.{sets};
 ghost use mathlib.Core.List.{[], _∷_};
 ghost use Rattle.lists.specs.Lists.{sum, between};
 ghost use Rattle.pairs.specs.Pairs.{pairOf, flat};
-ghost use Rattle.pairs.specs.Walks.{pairsBetween, lengthsOf, countBetween, Putting, StartsAt, placeAfter};
+ghost use Rattle.pairs.specs.Walks.{pairsBetween, lengthsOf, countBetween, chunksTo, Putting, StartsAt, placeAfter};
 
 // A range of bytes of the file.
 pub struct Pair {
@@ -115,18 +116,35 @@ pub fn pair_at(stsz: &[u8], stco: &[u8], p: Place, from: u32, stop: u32) -> Pair
     }
 }
 
-// How many pairs there are.
+// How many chunks begin no later than the sample with an index.
+fn chunks_to(stsc: &[u8], chunks: u32, index: u32) -> u64
+    requires { ⌜ length (now stsc) < 2 ^ 32 ⌝ }
+    ensures { λ r. ⌜ r ≡ chunksTo (perChunk (now (stsc .entry)) chunks) index ⌝ }
+{
+    let found = seek(stsc, chunks, index);
+    let chunk = found.chunk;
+    let c = found.cursor;
+    if c.remaining == 0 {
+        return chunk;
+    }
+    chunk + 1
+}
+
+// How many pairs there are: one for each chunk that begins by the last sample, without those before the first sample's.
 pub fn count_pairs(stsc: &[u8], chunks: u32, from: u32, stop: u32) -> u64
     requires { ⌜ length (now stsc) < 2 ^ 32 ⌝ }
     ensures { λ r. ⌜ r ≡ countBetween (now (stsc .entry)) chunks from stop ⌝ }
 {
-    let mut p = start_place(stsc, chunks, from);
-    let mut n: u64 = 0;
-    while !is_past(p, stop) {
-        n += 1;
-        p = next_place(stsc, chunks, p);
+    if stop == 0 {
+        return 0;
     }
-    n
+    let begun = chunks_to(stsc, chunks, stop - 1);
+    let found = seek(stsc, chunks, from);
+    let skipped = found.chunk;
+    if begun <= skipped {
+        return 0;
+    }
+    begun - skipped
 }
 
 // Puts a pair's two numbers into the room, from the place `at` on.

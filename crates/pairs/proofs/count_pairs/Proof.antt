@@ -1,62 +1,39 @@
--- `pairs::count_pairs` meets its contract; the loop's invariant: the pairs counted and those ahead are all of them.
+-- `pairs::count_pairs` meets its contract: the chunks that begin by the last sample, without those before the first sample's.
 -- Assumes nothing.
 use borrow.Author.Needs.{needs}
-use mathlib.Core.Path.{sym, _∙_}
-use borrow.Author.Tests.{not-true, not-false}
-use lib.ListN.{length}
-use Rattle.chunks.specs.Cursors.{ahead}
-use Rattle.pairs.proofs.Counting.{Counting, counting-start, counting-end, counting-turn, counting-less, place-fits, count-fits}
+use Rattle.pairs.proofs.Counting.{count-none, count-some, count-over}
 use Rattle.pairs.proofs.count_pairs.Statement.{statement}
 use Rattle.pairs.proofs.count_pairs.Tie as tie
 
-abbrev Inv-loop : tie.InvT-loop
-Inv-loop stsc chunks from stop p₀ n₀ p n = Counting stsc chunks from stop p n
+returns : tie.Need-returns
+returns c = count-none _ _ _ _ (c .if1 .taken)
 
-abbrev μ-loop : tie.MeasureT-loop
-μ-loop stsc chunks from stop p₀ n₀ p n = length (ahead stsc chunks (p .cursor))
+sub-chunks-to : tie.Need-sub-chunks-to
+sub-chunks-to c = search needs
 
-start-place-requires : tie.Need-start-place-requires Inv-loop μ-loop
-start-place-requires c κs = search needs
+chunks-to-requires : tie.Need-chunks-to-requires
+chunks-to-requires c κs = search needs
 
-loop-holds : tie.Need-loop-holds Inv-loop μ-loop
-loop-holds c = counting-start _ _ _ _ _ (c .start-place .ensures)
+seek-requires : tie.Need-seek-requires
+seek-requires c κs = search needs
 
-is-past-requires : tie.Need-is-past-requires Inv-loop μ-loop
-is-past-requires c κs = search needs
+returns-2 : tie.Need-returns-2
+returns-2 c = count-over _ _ _ _ (c .before .before .before .if1 .left) (c .before .before .chunks-to .ensures) (c .before .seek .ensures .place) (c .if2 .taken)
 
-add-n : tie.Need-add-n Inv-loop μ-loop
-add-n c =
-    let l = c .before .before .loop in
-    let k = c .before .before .before .before in
-    let f = count-fits _ _ _ _ _ (l .inv .place) (sym (c .before .is-past .ensures) ∙ not-true (c .before .is-past .result) (c .if1 .taken)) (k .before .pre) (k .before .fits .chunks .fits) (λ i. k .shared-slice-known .given i .fits) (l .n) (l .inv .few) in
-    record { fits = f }
+sub-result : tie.Need-sub-result
+sub-result c = search needs
 
-next-place-requires : tie.Need-next-place-requires Inv-loop μ-loop
-next-place-requires c κs =
-    let l = c .before .before .loop in
-    let k = c .before .before .before .before in
-    place-fits _ _ _ _ _ (l .inv .place) (sym (c .before .is-past .ensures) ∙ not-true (c .before .is-past .result) (c .if1 .taken)) (k .before .pre) (k .before .fits .chunks .fits) (λ i. k .shared-slice-known .given i .fits) (k .before .fits .stop .fits)
-
-loop-less : tie.Need-loop-less Inv-loop μ-loop
-loop-less c = counting-less _ _ _ _ _ _ (c .before .before .before .loop .inv) (sym (c .before .before .is-past .ensures) ∙ not-true (c .before .before .is-past .result) (c .before .if1 .taken)) _ (c .next-place .ensures)
-
-loop-again : tie.Need-loop-again Inv-loop μ-loop
-loop-again c = counting-turn _ _ _ _ _ _ (c .before .before .before .loop .inv) (sym (c .before .before .is-past .ensures) ∙ not-true (c .before .before .is-past .result) (c .before .if1 .taken)) _ (c .next-place .ensures)
-
-returns : tie.Need-returns Inv-loop μ-loop
-returns c = counting-end _ _ _ _ _ _ (c .before .before .loop .inv) (sym (c .before .is-past .ensures) ∙ not-false (c .before .is-past .result) (c .if1 .left))
+returns-3 : tie.Need-returns-3
+returns-3 c = count-some _ _ _ _ (c .before .before .before .if1 .left) (c .before .before .chunks-to .ensures) (c .before .seek .ensures .place)
 
 pub count-pairs-spec : {M : Type 1} → statement M
 count-pairs-spec =
     tie.close
     (tie.spec
-    Inv-loop
-    μ-loop
-    start-place-requires
-    loop-holds
-    is-past-requires
-    add-n
-    next-place-requires
-    loop-less
-    loop-again
-    returns)
+    returns
+    sub-chunks-to
+    chunks-to-requires
+    seek-requires
+    returns-2
+    sub-result
+    returns-3)
