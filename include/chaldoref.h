@@ -95,6 +95,12 @@ enum {
     CHALDOREF_MAX_RECORDS = 64
 };
 
+/* The most bytes that a slip has before its pairs, and for each pair. */
+enum {
+    CHALDOREF_SLIP_HEAD_BYTES = 24,
+    CHALDOREF_SLIP_PAIR_BYTES = 10
+};
+
 /*
  * The tracks of a movie, in file order. Refusals 1 to 13, 16.
  * room: for each track ID, subtype (four characters as a big-endian number), media
@@ -198,7 +204,8 @@ uint32_t chaldoref_read_slip(
 
 /*
  * Writes the slip of a track's stretch from media time a to b. Refusals 1 to 13, 14, 15, 16.
- * out: the slip; 24 + 10 * (the track's number of chunks) bytes are always enough.
+ * out: the slip; CHALDOREF_SLIP_HEAD_BYTES + CHALDOREF_SLIP_PAIR_BYTES * (the track's
+ *      number of chunks) bytes are always enough.
  * places: 1: the slip's length in bytes.
  */
 uint32_t chaldoref_write_slip(
