@@ -114,6 +114,11 @@ module _ (s : List ℕ) (chunks : ℕ) (c : Cursor) (k : ℕ) (h : k ≤ c .rema
     descriptions = past-ids ∙ ap (drop k) (v .descriptions) ∙ drop-drop k j (descriptionIds s chunks);
   }
 
+-- the run at which a cursor stands, and what follows it
+pub ahead-run : (s : List ℕ) (chunks : ℕ) (c : Cursor) → ahead s chunks c ≡ replicate (c .remaining) (c .per) ++ ahead s chunks (past (c .remaining) c)
+unfolding ahead
+ahead-run s chunks c = let z : c .remaining - c .remaining ≡ 0 = omega arith in rw z
+
 -- ---- the chunk at which a cursor stands
 
 replicate-cons : (n v : ℕ) (r : List ℕ) → 0 < n → replicate n v ++ r ≡ v ∷ (replicate (n - 1) v ++ r)

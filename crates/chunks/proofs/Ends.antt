@@ -1,42 +1,34 @@
--- Refusal 12: one turn of the walk, chunk by chunk, over stsc, stco and stsz together; and the sentence that the test computes.
+-- Refusal 12: one turn of the walk, run by run, over stsc, stco and stsz together; and the sentence that the test computes.
 -- Assumes nothing.
-use Prim.Native.Nat.{ℕ, zero, suc, _+_, _-_, _≤_, _<_, min}
+use Prim.Native.Nat.{ℕ, zero, suc, _+_, _-_, _*_, _≤_, _<_, min}
 use mathlib.Core.Path.{_≡_, refl, sym, ap, _∙_}
 use mathlib.Core.Bool.{Bool, true, false, cond}
 use mathlib.Core.List.{List, [], _∷_}
 use native.Mathlib.Omega.{arith}
 use native.Mathlib.Decide.{decLe}
 use lib.Dec.{ltb}
-use lib.ListN.{length, getD, take, drop, length-drop, drop-of-length-le}
-use lib.Seq.{take-all, drop-drop}
-use borrow.Author.Tests.{lt-ltb, le-ltb, ltb-false}
+use lib.ListN.{length, getD, take, drop, replicate, drop-of-length-le}
+use lib.Seq.{drop-drop}
+use borrow.Author.Tests.{le-ltb, ltb-false}
 use Rattle.bigendian.specs.BigEndian.{u32At}
 use Rattle.lists.specs.Lists.{sum, before, between, holder}
+use Rattle.lists.proofs.Laws.{length-run}
 use Rattle.lists.proofs.Places.{holds-below, holder-holds, between-split, between-one}
 use Rattle.words.specs.Words.{wordsIn, chunkOffsets}
 use Rattle.words.proofs.Turns.{offsets-in, words-drop}
 use Rattle.chunks.specs.Chunks.{perChunk, offsetOf, endWithin}
 use Rattle.chunks.specs.Cursors.{ahead, Stands, startCursor, readied, past}
 use Rattle.chunks.specs.declared.Cursor.{Cursor}
-use Rattle.chunks.proofs.Cursors.{start-samples, Same, ready-same, ahead-cons}
+use Rattle.chunks.proofs.Cursors.{start-samples, Same, ready-same, ahead-run}
+use Rattle.chunks.proofs.RunEnds.{run-then}
 
--- ---- a chunk's samples, up to the largest index
+-- ---- samples, up to the largest index
 
-module _ (zs : List ℕ) (few : length zs ≤ 4294967295) (begin per end : ℕ) (p : end ≡ min (begin + per) 4294967295) where
-  sizes-of : between zs begin end ≡ sum (take per (drop begin zs))
-  sizes-of = elim (decLe (begin + per) 4294967295) [
-    | yes l ↦ let e : end - begin ≡ per = omega arith in ap (λ (k : ℕ). sum (take k (drop begin zs))) e
-    | no l ↦
-        let a : length (drop begin zs) ≤ end - begin = omega (arith, length-drop begin zs) in
-        let b : length (drop begin zs) ≤ per = omega (arith, length-drop begin zs) in
-        ap sum (take-all (end - begin) (drop begin zs) a ∙ sym (take-all per (drop begin zs) b))
-  ]
-
-  sizes-after : drop per (drop begin zs) ≡ drop end zs
-  sizes-after = drop-drop per begin zs ∙ elim (decLe (begin + per) 4294967295) [
-    | yes l ↦ let e : begin + per ≡ end = omega arith in ap (λ (k : ℕ). drop k zs) e
-    | no l ↦ drop-of-length-le zs {i = begin + per} (omega arith) ∙ sym (drop-of-length-le zs {i = end} (omega arith))
-  ]
+sizes-after : (zs : List ℕ) → length zs ≤ 4294967295 → (begin count end : ℕ) → end ≡ min (begin + count) 4294967295 → drop count (drop begin zs) ≡ drop end zs
+sizes-after zs few begin count end p = drop-drop count begin zs ∙ elim (decLe (begin + count) 4294967295) [
+  | yes l ↦ let e : begin + count ≡ end = omega arith in ap (λ (k : ℕ). drop k zs) e
+  | no l ↦ drop-of-length-le zs {i = begin + count} (omega arith) ∙ sym (drop-of-length-le zs {i = end} (omega arith))
+]
 
 -- ---- the walk
 
@@ -59,32 +51,30 @@ ending-start limit stsc stco zs {chunks} k {t} p {i} {r} a e =
 pub ended : {limit : ℕ} {s : List ℕ} {chunks : ℕ} {zs t : List ℕ} {whole : Bool} {c : Cursor} {begin : ℕ} → Ending limit s chunks zs t whole c begin → c .remaining ≡ 0 → whole ≡ true
 ended {limit} {s} {chunks} {zs} {t} {whole} {c} {begin} w z = sym (w .same) ∙ rw (w .stands .no-samples z)
 
--- a chunk is ahead; its offset and its bytes as they are read
-module _ {limit : ℕ} {s : List ℕ} {chunks : ℕ} {zs t : List ℕ} {whole : Bool} {c : Cursor} {begin : ℕ} (w : Ending limit s chunks zs t whole c begin)
-    (few : length zs ≤ 4294967295) (z : c .remaining ≡ 0 → ⊥) {end : ℕ} (p : end ≡ min (begin + c .per) 4294967295) where
-  next : ahead s chunks c ≡ c .per ∷ ahead s chunks (past 1 c)
-  next = ahead-cons s chunks c (omega arith)
+-- a run is ahead, and whether its chunks end within the limit is known
+module _ {limit : ℕ} {s : List ℕ} {chunks : ℕ} {zs t : List ℕ} {whole : Bool} {c : Cursor} {begin : ℕ} (w : Ending limit s chunks zs t whole c begin) {within : Bool}
+    (b : within ≡ endWithin limit (replicate (c .remaining) (c .per)) (wordsIn t) (drop begin zs)) where
+  opened : whole ≡ cond within (endWithin limit (ahead s chunks (past (c .remaining) c)) (drop (c .remaining) (wordsIn t)) (drop (c .remaining * c .per) (drop begin zs))) false
+  opened =
+      sym (w .same) ∙ rw (ahead-run s chunks c, b) (run-then limit (c .remaining) (c .per) (ahead s chunks (past (c .remaining) c)) (wordsIn t) (drop begin zs))
 
-  module _ {base bytes : ℕ} (q : base ≡ getD (wordsIn t) 0 0) (b : bytes ≡ between zs begin end) where
-    opened : whole ≡ cond (ltb limit (base + bytes)) false (endWithin limit (ahead s chunks (past 1 c)) (drop 1 (wordsIn t)) (drop end zs))
-    opened = sym (w .same) ∙ rw (next, ← sizes-of zs few begin (c .per) end p, sizes-after zs few begin (c .per) end p, ← q, ← b)
+  pub passes : within ≡ false → whole ≡ false
+  passes h = opened ∙ rw h
 
-    pub passes : limit < base + bytes → whole ≡ false
-    passes h = opened ∙ rw (lt-ltb limit (base + bytes) h)
+  -- r is the cursor readied past the run, u the offsets that follow
+  module _ {i r : Cursor} (a : i ≡ past (c .remaining) c) (e : r ≡ readied s chunks i) where
+    again : Same s chunks (past (c .remaining) c) r
+    again = rw (e, a) (ready-same s chunks (past (c .remaining) c))
 
-    -- r is the cursor readied past the chunk, u the offsets that follow
-    module _ {i r : Cursor} (a : i ≡ past 1 c) (e : r ≡ readied s chunks i) {u : List ℕ} (o : u ≡ drop 4 t) where
-      again : Same s chunks (past 1 c) r
-      again = rw (e, a) (ready-same s chunks (past 1 c))
+    pub ending-next : within ≡ true → length zs ≤ 4294967295 → {u : List ℕ} → u ≡ drop (c .remaining * 4) t → {end : ℕ} → end ≡ min (begin + c .remaining * c .per) 4294967295 →
+        Ending limit s chunks zs u whole r end
+    ending-next h few o p = record {
+      stands = again .stands;
+      same = rw (o, words-drop (c .remaining) t, again .samples, ← sizes-after zs few begin (c .remaining * c .per) _ p) (sym (opened ∙ rw h));
+    }
 
-      pub ending-next : base + bytes ≤ limit → Ending limit s chunks zs u whole r end
-      ending-next h = record {
-        stands = again .stands;
-        same = rw (o, words-drop 1 t, again .samples) (sym (opened ∙ rw (le-ltb limit (base + bytes) h)));
-      }
-
-      pub ending-less : length (ahead s chunks r) < length (ahead s chunks c)
-      ending-less = omega (arith, ap length (again .samples), ap length next)
+    pub ending-less : (c .remaining ≡ 0 → ⊥) → length (ahead s chunks r) < length (ahead s chunks c)
+    ending-less z = omega (arith, ap length (again .samples), ap length (ahead-run s chunks c), length-run (c .per) (ahead s chunks (past (c .remaining) c)) (c .remaining))
 
 -- ---- the sentence: each chunk's offset plus the sizes of its samples is within the limit
 

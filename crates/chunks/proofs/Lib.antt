@@ -4,4 +4,5 @@ pub mod Cursors
 pub mod Ends
 pub mod FilmW
 pub mod Finding
+pub mod RunEnds
 pub mod Turns
