@@ -4,25 +4,25 @@ set -euo pipefail
 cd "$(dirname "$0")/.."
 made=$(mktemp -d)
 trap 'rm -r "$made"' EXIT
-cargo build --quiet --offline --manifest-path host/reference/Cargo.toml
+cargo build --quiet --offline --manifest-path host/Cargo.toml --package reference
 for name in slip_vectors slip_example; do
-    "host/reference/target/debug/$name" > "$made/$name"
+    "host/target/debug/$name" > "$made/$name"
     cp "$made/$name" "crates/$name/stdout"
 done
 for pair in films:structure_vectors tables:tables_vectors movie_films:movie_vectors question_films:question_vectors stretch_films:stretch_vectors; do
     name=${pair#*:}
     mkdir -p "$made/files/$name/data"
-    "host/reference/target/debug/${pair%:*}" "$made/files/$name/data" "$made/files/$name/args" > "$made/files/$name/stdout"
+    "host/target/debug/${pair%:*}" "$made/files/$name/data" "$made/files/$name/args" > "$made/files/$name/stdout"
     rm -rf "crates/$name/data"
     cp -r "$made/files/$name/." "crates/$name"
 done
 # The listing program also has a film on its standard input; the films of the README come with it.
 mkdir -p "$made/files/listing/data" "$made/films" films
-host/reference/target/debug/listing "$made/files/listing" "$made/films"
+host/target/debug/listing "$made/files/listing" "$made/films"
 rm -rf crates/listing/data
 cp -r "$made/files/listing/." crates/listing
 cp "$made/films/"*.mov films
 # The example of the README reads one of them from its standard input.
 cp films/two-hoses.mov crates/hoses_example/stdin
-host/reference/target/debug/hoses_example < films/two-hoses.mov > "$made/hoses_example"
+host/target/debug/hoses_example < films/two-hoses.mov > "$made/hoses_example"
 cp "$made/hoses_example" crates/hoses_example/stdout

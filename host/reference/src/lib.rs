@@ -2,5 +2,6 @@
 pub mod film;
 pub mod hoses;
 pub mod made;
+pub mod maker;
 pub mod movie;
 pub mod slip;

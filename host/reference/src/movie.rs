@@ -1,6 +1,6 @@
 //! The movie, from document 01: the atom tree, the refusals of a file, the sample tables, the questions and the features.
 //!
-//! Nothing here is quick or clever. The tree is built of owned atoms, each refusal is a function of its own, and the tables
+//! Nothing here is quick or clever. The tree is built whole, each refusal is a function of its own, and the tables
 //! are written out sample by sample before a question is asked. Sums are taken in 64 and 128 bits, where nothing wraps.
 pub mod atoms;
 pub mod features;

@@ -129,7 +129,7 @@ fn accepted(bytes: &[u8]) -> Option<Vec<u128>> {
     }
     let (form, id, scale, a, b, pairs) = (numbers[0], numbers[1], numbers[2], numbers[3], numbers[4], numbers[5]);
     // "the form is 1, ID and scale are not 0, a < b, there are 1 to 1,048,576 pairs"
-    let rules = form == 1 && id != 0 && scale != 0 && a < b && 1 <= pairs && pairs <= MOST_PAIRS;
+    let rules = form == 1 && id != 0 && scale != 0 && a < b && (1..=MOST_PAIRS).contains(&pairs);
     // "all present, and nothing follows"
     let all = u128::try_from(numbers.len()).unwrap() == 6 + 2 * pairs;
     if rules && all {

@@ -1,11 +1,11 @@
 //! "The atom tree": atoms cut out of the file, and the leaves that are read, by name.
 
-/// An atom. A container has its children and no body of its own, a leaf has its body and no children.
+/// An atom. A container has its children and no body of its own, a leaf has its body, which stays in the file, and no children.
 #[derive(Clone, Debug)]
-pub struct Atom {
+pub struct Atom<'f> {
     pub kind: [u8; 4],
-    pub body: Vec<u8>,
-    pub children: Vec<Atom>,
+    pub body: &'f [u8],
+    pub children: Vec<Atom<'f>>,
 }
 
 /// The big-endian number of so many bytes at a place. "All numbers are big-endian."
@@ -34,7 +34,7 @@ fn is_container(parent: &[u8; 4], kind: &[u8; 4]) -> bool {
 pub const FILE: &[u8; 4] = b"file";
 
 /// The atoms that fill their parent's bytes exactly; or nothing, where the file is refused 2.
-pub fn atoms(parent: &[u8; 4], bytes: &[u8]) -> Option<Vec<Atom>> {
+pub fn atoms<'f>(parent: &[u8; 4], bytes: &'f [u8]) -> Option<Vec<Atom<'f>>> {
     let mut found = Vec::new();
     let mut at = 0;
     while at < bytes.len() {
@@ -72,9 +72,9 @@ pub fn atoms(parent: &[u8; 4], bytes: &[u8]) -> Option<Vec<Atom>> {
         let body = &bytes[at + header..end];
         // "Every other atom is a leaf, even a container's type in the wrong place."
         found.push(if is_container(parent, &kind) {
-            Atom { kind, body: Vec::new(), children: atoms(&kind, body)? }
+            Atom { kind, body: &[], children: atoms(&kind, body)? }
         } else {
-            Atom { kind, body: body.to_vec(), children: Vec::new() }
+            Atom { kind, body, children: Vec::new() }
         });
         at = end;
     }
@@ -82,7 +82,7 @@ pub fn atoms(parent: &[u8; 4], bytes: &[u8]) -> Option<Vec<Atom>> {
 }
 
 /// The atoms of a type, in order.
-pub fn of_kind<'a>(atoms: &'a [Atom], kind: &[u8; 4]) -> Vec<&'a Atom> {
+pub fn of_kind<'a, 'f>(atoms: &'a [Atom<'f>], kind: &[u8; 4]) -> Vec<&'a Atom<'f>> {
     atoms.iter().filter(|atom| atom.kind == *kind).collect()
 }
 
@@ -145,7 +145,7 @@ pub struct MovieLeaves {
 }
 
 /// The one child of that type, or nothing where there is not exactly one.
-fn one<'a>(parent: &'a Atom, kind: &[u8; 4]) -> Option<&'a Atom> {
+fn one<'a, 'f>(parent: &'a Atom<'f>, kind: &[u8; 4]) -> Option<&'a Atom<'f>> {
     match of_kind(&parent.children, kind)[..] {
         [atom] => Some(atom),
         _ => None,
@@ -153,7 +153,7 @@ fn one<'a>(parent: &'a Atom, kind: &[u8; 4]) -> Option<&'a Atom> {
 }
 
 fn leaf(atom: &Atom) -> Leaf {
-    Leaf { body: atom.body.clone() }
+    Leaf { body: atom.body.to_vec() }
 }
 
 /// "the first 'prfl' child before its mvhd (tkhd); any other is skipped"

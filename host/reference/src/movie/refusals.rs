@@ -19,7 +19,7 @@ fn counts_are_wrong(parent: &[Atom], exactly_one: &[&[u8; 4]], at_most_one: &[&[
 }
 
 /// The children of each child of that type.
-fn inside<'a>(parent: &'a [Atom], kind: &[u8; 4]) -> Vec<&'a [Atom]> {
+fn inside<'a, 'f>(parent: &'a [Atom<'f>], kind: &[u8; 4]) -> Vec<&'a [Atom<'f>]> {
     of_kind(parent, kind).into_iter().map(|atom| &atom.children[..]).collect()
 }
 

@@ -128,7 +128,7 @@ fn tables(films: &mut Films) {
 /// What comes nearest to refusals 10 to 13.
 fn limits(films: &mut Films) {
     let most = Track { duration: u32::MAX, stts: vec![(3, 1 << 30), (1, (1 << 30) - 1)], ..track(1) };
-    films.tracks(0, "total-2-32-less-one", &[most.clone()]);
+    films.tracks(0, "total-2-32-less-one", std::slice::from_ref(&most));
     films.tracks(0, "two-totals-over-the-limit-together", &[most.clone(), Track { id: 2, ..most }]);
     films.one(0, "total-0-of-four-samples", |track| (track.duration, track.stts) = (0, vec![(4, 0)]));
     films.one(0, "edits-total-2-32-less-one", |track| track.edits = edits(&[(u32::MAX - 1, -1), (1, 0)]));

@@ -1,0 +1,244 @@
+/*
+ * Times the library's questions on made films against one pass over the same moov, and libavformat's open. The
+ * candidates take turns, round after round, so that noise falls on all alike; every answer is checked.
+ */
+#include "av.h"
+#include "chaldoref.h"
+#include "clock.h"
+#include "films.h"
+#include "pass.h"
+
+#include <stdbool.h>
+#include <stdio.h>
+#include <stdlib.h>
+#include <string.h>
+
+enum { ROUNDS = 150, AV_EVERY = 15, MOST = 24, ROOM = 2 * FILM_SAMPLES, OUT = 24 + 10 * FILM_SAMPLES };
+
+/* What is lent to every question; it isn't cleared between them. */
+static uint32_t room[ROOM];
+static uint8_t out[OUT];
+static volatile uint64_t sink;
+
+typedef bool ask(const struct film *f, const struct track_facts *t, double *ms);
+
+struct candidate {
+    const char *name;
+    ask *run;
+    const struct track_facts *track;
+    bool slow;
+    int times;
+    double ms[ROUNDS];
+};
+
+static bool ask_scalar(const struct film *f, const struct track_facts *t, double *ms)
+{
+    (void)t;
+    double begin = now_ms();
+    sink = scalar_pass(f->moov, f->moov_len);
+    *ms = now_ms() - begin;
+    return sink != 0;
+}
+
+static bool ask_vector(const struct film *f, const struct track_facts *t, double *ms)
+{
+    (void)t;
+    double begin = now_ms();
+    sink = vector_pass(f->moov, f->moov_len);
+    *ms = now_ms() - begin;
+    return sink == scalar_pass(f->moov, f->moov_len);
+}
+
+static bool is_line(const uint32_t *line, const struct track_facts *t)
+{
+    const uint32_t right[] = { t->id, t->subtype, t->scale, t->total, t->samples, t->chunks, 0 };
+    return memcmp(line, right, sizeof right) == 0;
+}
+
+static bool ask_track_list(const struct film *f, const struct track_facts *t, double *ms)
+{
+    (void)t;
+    uint64_t tracks;
+    double begin = now_ms();
+    uint32_t refused = chaldoref_track_list(f->bytes, f->len, room, ROOM, &tracks, 1);
+    *ms = now_ms() - begin;
+    bool right = refused == 0 && tracks == (uint64_t)f->tracks;
+    for (int i = 0; i < f->tracks; i++)
+        right = right && is_line(room + CHALDOREF_TRACK_NUMBERS * i, &f->track[i]);
+    return right;
+}
+
+static bool ask_stretch(const struct film *f, const struct track_facts *t, double *ms)
+{
+    uint64_t places[2], sum = 0;
+    double begin = now_ms();
+    uint32_t refused = chaldoref_stretch(f->bytes, f->len, t->id, 0, t->total, room, ROOM, places, 2);
+    *ms = now_ms() - begin;
+    for (uint32_t i = 0; i < t->chunks; i++)
+        sum += room[2 * i + 1];
+    return refused == 0 && places[0] == t->chunks && places[1] == t->bytes && sum == t->bytes;
+}
+
+static bool ask_sample(const struct film *f, const struct track_facts *t, double *ms)
+{
+    int64_t p[8];
+    double begin = now_ms();
+    uint32_t refused = chaldoref_sample(f->bytes, f->len, t->id, t->samples, p, 8);
+    *ms = now_ms() - begin;
+    return refused == 0 && p[0] == (int64_t)t->total - t->last_duration && p[1] == t->last_duration
+        && p[5] == t->chunks && p[6] == t->last_begin && p[7] == t->last_size;
+}
+
+static bool ask_sample_at(const struct film *f, const struct track_facts *t, double *ms)
+{
+    uint64_t n;
+    double begin = now_ms();
+    uint32_t refused = chaldoref_sample_at(f->bytes, f->len, t->id, t->total - 1, &n, 1);
+    *ms = now_ms() - begin;
+    return refused == 0 && n == t->samples;
+}
+
+static bool ask_write_slip(const struct film *f, const struct track_facts *t, double *ms)
+{
+    uint64_t len, places[5];
+    double begin = now_ms();
+    uint32_t refused = chaldoref_write_slip(f->bytes, f->len, t->id, 0, t->total, out, OUT, &len, 1);
+    *ms = now_ms() - begin;
+    return refused == 0 && chaldoref_read_slip(out, len, room, ROOM, places, 5) == 0
+        && places[3] == t->total && places[4] == t->chunks;
+}
+
+static bool ask_feature(const struct film *f, const struct track_facts *t, double *ms)
+{
+    uint64_t value;
+    double begin = now_ms();
+    uint32_t refused = chaldoref_feature(f->bytes, f->len, t->id, CHALDOREF_AVVB, &value, 1);
+    *ms = now_ms() - begin;
+    return refused == 0 && value == (8 * t->bytes * t->scale + t->total - 1) / t->total;
+}
+
+#ifdef WITH_AV
+static bool ask_open(const struct film *f, const struct track_facts *t, double *ms)
+{
+    (void)t;
+    long entries;
+    return av_read(f->bytes, f->len, false, &entries, ms) && entries == (long)f->tracks * FILM_SAMPLES;
+}
+
+static bool ask_info(const struct film *f, const struct track_facts *t, double *ms)
+{
+    (void)t;
+    long entries;
+    return av_read(f->bytes, f->len, true, &entries, ms) && entries == (long)f->tracks * FILM_SAMPLES;
+}
+#endif
+
+static int gather(struct candidate *c, const struct film *f)
+{
+    int n = 0;
+    c[n++] = (struct candidate){ .name = "scalar pass over the moov", .run = ask_scalar };
+    c[n++] = (struct candidate){ .name = "vector pass over the moov", .run = ask_vector };
+    c[n++] = (struct candidate){ .name = "track list", .run = ask_track_list };
+    for (int i = 0; i < f->tracks; i++)
+        c[n++] = (struct candidate){ .name = "whole stretch", .run = ask_stretch, .track = &f->track[i] };
+    c[n++] = (struct candidate){ .name = "last sample", .run = ask_sample, .track = f->track };
+    c[n++] = (struct candidate){ .name = "sample at the last time", .run = ask_sample_at, .track = f->track };
+    c[n++] = (struct candidate){ .name = "slip of the whole", .run = ask_write_slip, .track = f->track };
+    c[n++] = (struct candidate){ .name = "feature avvb", .run = ask_feature, .track = f->track };
+#ifdef WITH_AV
+    c[n++] = (struct candidate){ .name = "libavformat: open", .run = ask_open, .slow = true };
+    c[n++] = (struct candidate){ .name = "libavformat: find stream info", .run = ask_info, .slow = true };
+#endif
+    return n;
+}
+
+static void run_once(struct candidate *c, const struct film *f)
+{
+    double ms;
+    if (!c->run(f, c->track, &ms)) {
+        fprintf(stderr, "bench: wrong answer: %s, %s\n", f->name, c->name);
+        exit(1);
+    }
+    c->ms[c->times++] = ms;
+}
+
+static int ascending(const void *a, const void *b)
+{
+    double x = *(const double *)a, y = *(const double *)b;
+    return (x > y) - (x < y);
+}
+
+/* The first round warms the caches and the lent room's pages; it isn't counted. */
+static void measure(struct candidate *c, int n, const struct film *f)
+{
+    for (int round = 0; round <= ROUNDS; round++)
+        for (int i = 0; i < n; i++) {
+            if (!c[i].slow || round % AV_EVERY == 0)
+                run_once(&c[i], f);
+            if (round == 0)
+                c[i].times = 0;
+        }
+    for (int i = 0; i < n; i++)
+        qsort(c[i].ms, (size_t)c[i].times, sizeof(double), ascending);
+}
+
+static double least_of(const struct candidate *c, int n, ask *run)
+{
+    for (int i = 0; i < n; i++)
+        if (c[i].run == run)
+            return c[i].ms[0];
+    return 0;
+}
+
+/* Neither a pass nor libavformat. */
+static bool is_question(const struct candidate *c)
+{
+    return c->track != NULL || c->run == ask_track_list;
+}
+
+static void print_row(const struct candidate *c, double scalar, double vector, double open)
+{
+    char name[80];
+    if (c->run == ask_stretch)
+        snprintf(name, sizeof name, "%s, track %u", c->name, c->track->id);
+    else
+        snprintf(name, sizeof name, "%s", c->name);
+    printf("| %s | %.3f | %.3f | %.2f | %.2f |", name, c->ms[0], c->ms[c->times / 2], c->ms[0] / scalar, c->ms[0] / vector);
+    if (open > 0 && is_question(c))
+        printf(" %.1f |", open / c->ms[0]);
+    else if (open > 0)
+        printf(" |");
+    putchar('\n');
+}
+
+static void report(const struct candidate *c, int n, const struct film *f)
+{
+    double scalar = least_of(c, n, ask_scalar), vector = least_of(c, n, ask_vector), open = 0;
+#ifdef WITH_AV
+    open = least_of(c, n, ask_open);
+#endif
+    printf("\n### %s\n\n%s; moov %zu bytes, %u chunks a track.\n\n", f->name, f->tables, f->moov_len, f->track[0].chunks);
+    printf("| | least ms | median ms | × scalar pass | × vector pass |%s\n", open > 0 ? " times ahead of libavformat's open |" : "");
+    printf("|---|---:|---:|---:|---:|%s\n", open > 0 ? "---:|" : "");
+    for (int i = 0; i < n; i++)
+        print_row(&c[i], scalar, vector, open);
+}
+
+static void bench_film(int kind)
+{
+    static struct candidate c[MOST];
+    struct film f = make_film(kind);
+    int n = gather(c, &f);
+    measure(c, n, &f);
+    report(c, n, &f);
+    fflush(stdout);
+    free(f.bytes);
+}
+
+int main(int argc, char **argv)
+{
+    for (int kind = 0; kind < FILM_KINDS; kind++)
+        if (argc < 2 || atoi(argv[1]) == kind)
+            bench_film(kind);
+    return 0;
+}

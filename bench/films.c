@@ -1,0 +1,329 @@
+#include "films.h"
+
+#include <stdbool.h>
+#include <stdio.h>
+#include <stdlib.h>
+#include <string.h>
+
+enum { VIDE = 0x76696465, SOUN = 0x736f756e, MOVIE_SCALE = 600 };
+
+/* How the tables of a track are made. */
+struct plan {
+    uint32_t subtype, scale;
+    bool durations_differ; /* an stts entry for each sample */
+    bool offsets;          /* a ctts entry for each sample */
+    bool syncs;            /* an stss entry for every second sample */
+    uint32_t common_size;  /* 0: a size for each sample */
+    uint32_t (*deal)(uint32_t chunk, uint32_t begin);
+};
+
+struct writer {
+    uint8_t *bytes;
+    size_t len, room;
+};
+
+static void put(struct writer *w, const void *from, size_t n)
+{
+    if (w->room - w->len < n) {
+        w->room = 2 * (w->room + n);
+        w->bytes = realloc(w->bytes, w->room);
+        if (w->bytes == NULL) {
+            fputs("films: no memory\n", stderr);
+            exit(1);
+        }
+    }
+    memcpy(w->bytes + w->len, from, n);
+    w->len += n;
+}
+
+static void poke32(uint8_t *at, uint32_t n)
+{
+    for (int i = 0; i < 4; i++)
+        at[i] = (uint8_t)(n >> (24 - 8 * i));
+}
+
+static void put32(struct writer *w, uint32_t n)
+{
+    uint8_t four[4];
+    poke32(four, n);
+    put(w, four, 4);
+}
+
+static void zeros(struct writer *w, size_t n)
+{
+    static const uint8_t none[4096];
+    for (; n > sizeof none; n -= sizeof none)
+        put(w, none, sizeof none);
+    put(w, none, n);
+}
+
+/* An atom is opened with its kind and closed with its size. */
+static size_t open_atom(struct writer *w, const char *kind)
+{
+    size_t at = w->len;
+    put32(w, 0);
+    put(w, kind, 4);
+    return at;
+}
+
+static void close_atom(struct writer *w, size_t at)
+{
+    poke32(w->bytes + at, (uint32_t)(w->len - at));
+}
+
+/* A table with its number of entries still to be told. */
+static size_t open_table(struct writer *w, const char *kind)
+{
+    size_t at = open_atom(w, kind);
+    zeros(w, 8);
+    return at;
+}
+
+static void close_table(struct writer *w, size_t at, uint32_t entries)
+{
+    poke32(w->bytes + at + 12, entries);
+    close_atom(w, at);
+}
+
+/* Sizes of 1 to 3 bytes keep the mdat small; only the tables are measured. */
+static uint32_t size_of(const struct plan *p, uint32_t sample)
+{
+    return p->common_size != 0 ? p->common_size : 1 + sample % 3;
+}
+
+static uint32_t duration_of(const struct plan *p, uint32_t sample)
+{
+    return p->durations_differ ? 1000 + sample % 7 : 1001;
+}
+
+static uint32_t least(uint32_t a, uint32_t b)
+{
+    return a < b ? a : b;
+}
+
+static uint32_t dealt(const struct plan *p, uint32_t chunk, uint32_t begin)
+{
+    return least(p->deal(chunk, begin), FILM_SAMPLES - begin);
+}
+
+static void put_stts(struct writer *w, const struct plan *p, struct track_facts *f)
+{
+    size_t at = open_table(w, "stts");
+    uint32_t entries = p->durations_differ ? FILM_SAMPLES : 1;
+    for (uint32_t i = 0; i < entries; i++) {
+        put32(w, FILM_SAMPLES / entries);
+        put32(w, duration_of(p, i));
+        f->total += FILM_SAMPLES / entries * duration_of(p, i);
+    }
+    f->last_duration = duration_of(p, FILM_SAMPLES - 1);
+    close_table(w, at, entries);
+}
+
+static void put_ctts(struct writer *w)
+{
+    size_t at = open_table(w, "ctts");
+    for (uint32_t i = 0; i < FILM_SAMPLES; i++) {
+        put32(w, 1);
+        put32(w, i % 5 * 1000);
+    }
+    close_table(w, at, FILM_SAMPLES);
+}
+
+static void put_stss(struct writer *w)
+{
+    size_t at = open_table(w, "stss");
+    for (uint32_t i = 0; i < FILM_SAMPLES / 2; i++)
+        put32(w, 1 + 2 * i);
+    close_table(w, at, FILM_SAMPLES / 2);
+}
+
+static void put_stsz(struct writer *w, const struct plan *p, struct track_facts *f)
+{
+    size_t at = open_atom(w, "stsz");
+    put32(w, 0);
+    put32(w, p->common_size);
+    put32(w, FILM_SAMPLES);
+    for (uint32_t i = 0; i < FILM_SAMPLES; i++) {
+        if (p->common_size == 0)
+            put32(w, size_of(p, i));
+        f->bytes += size_of(p, i);
+    }
+    f->last_size = size_of(p, FILM_SAMPLES - 1);
+    close_atom(w, at);
+}
+
+static void put_stsc(struct writer *w, const struct plan *p, struct track_facts *f)
+{
+    size_t at = open_table(w, "stsc");
+    uint32_t entries = 0, before = 0, begin = 0, chunk = 0;
+    for (; begin < FILM_SAMPLES; chunk++) {
+        uint32_t per = dealt(p, chunk, begin);
+        if (per != before) {
+            put32(w, chunk + 1);
+            put32(w, per);
+            put32(w, 1);
+            entries++;
+        }
+        before = per;
+        begin += per;
+    }
+    f->chunks = chunk;
+    close_table(w, at, entries);
+}
+
+/* The chunks follow one another from `offset` on. */
+static void put_stco(struct writer *w, const struct plan *p, struct track_facts *f, uint32_t offset)
+{
+    size_t at = open_table(w, "stco");
+    uint32_t begin = 0, chunk = 0;
+    for (; begin < FILM_SAMPLES; chunk++) {
+        uint32_t end = begin + dealt(p, chunk, begin);
+        put32(w, offset);
+        for (; begin < end; begin++) {
+            f->last_begin = offset;
+            offset += size_of(p, begin);
+        }
+    }
+    close_table(w, at, chunk);
+}
+
+/* One description, of a codec that libavformat need not decode to know the stream. */
+static void put_stsd(struct writer *w, const struct plan *p)
+{
+    size_t at = open_table(w, "stsd");
+    size_t one = open_atom(w, p->subtype == VIDE ? "raw " : "sowt");
+    zeros(w, 6);
+    put(w, "\0\1", 2);
+    if (p->subtype == VIDE) {
+        zeros(w, 16);
+        put(w, "\0\20\0\20\0\110\0\0\0\110\0\0\0\0\0\0\0\1", 18);
+        zeros(w, 32);
+        put(w, "\0\30\377\377", 4);
+    } else {
+        zeros(w, 8);
+        put(w, "\0\1\0\20\0\0\0\0\273\200\0\0", 12);
+    }
+    close_atom(w, one);
+    close_table(w, at, 1);
+}
+
+static void put_stbl(struct writer *w, const struct plan *p, struct track_facts *f, uint32_t offset)
+{
+    size_t at = open_atom(w, "stbl");
+    put_stsd(w, p);
+    put_stts(w, p, f);
+    if (p->offsets)
+        put_ctts(w);
+    if (p->syncs)
+        put_stss(w);
+    put_stsc(w, p, f);
+    put_stsz(w, p, f);
+    put_stco(w, p, f, offset);
+    close_atom(w, at);
+}
+
+static void put_mdia(struct writer *w, const struct plan *p, struct track_facts *f, uint32_t offset)
+{
+    size_t mdia = open_atom(w, "mdia");
+    size_t mdhd = open_atom(w, "mdhd");
+    zeros(w, 24);
+    close_atom(w, mdhd);
+    size_t hdlr = open_atom(w, "hdlr");
+    zeros(w, 4);
+    put(w, "mhlr", 4);
+    put32(w, p->subtype);
+    zeros(w, 13);
+    close_atom(w, hdlr);
+    size_t minf = open_atom(w, "minf");
+    put_stbl(w, p, f, offset);
+    close_atom(w, minf);
+    close_atom(w, mdia);
+    poke32(w->bytes + mdhd + 20, p->scale);
+    poke32(w->bytes + mdhd + 24, f->total);
+}
+
+static struct track_facts put_trak(struct writer *w, const struct plan *p, uint32_t id, uint32_t offset)
+{
+    struct track_facts f = { .id = id, .subtype = p->subtype, .scale = p->scale, .samples = FILM_SAMPLES };
+    size_t trak = open_atom(w, "trak");
+    size_t tkhd = open_atom(w, "tkhd");
+    put32(w, 15);
+    zeros(w, 80);
+    poke32(w->bytes + tkhd + 20, id);
+    close_atom(w, tkhd);
+    put_mdia(w, p, &f, offset);
+    close_atom(w, trak);
+    return f;
+}
+
+/* Chunks of 10, then 20, then 30 samples: few entries of stsc. */
+static uint32_t in_thirds(uint32_t chunk, uint32_t begin)
+{
+    (void)chunk;
+    return begin < FILM_SAMPLES / 3 ? 10 : begin < FILM_SAMPLES / 3 * 2 ? 20 : 30;
+}
+
+/* No chunk like the one before: an entry of stsc for each. */
+static uint32_t ten_or_twenty(uint32_t chunk, uint32_t begin)
+{
+    (void)begin;
+    return chunk % 2 == 0 ? 10 : 20;
+}
+
+static uint32_t one_or_two(uint32_t chunk, uint32_t begin)
+{
+    (void)begin;
+    return chunk % 2 == 0 ? 1 : 2;
+}
+
+static uint32_t one(uint32_t chunk, uint32_t begin)
+{
+    (void)chunk, (void)begin;
+    return 1;
+}
+
+static const struct plan typical = { VIDE, 30000, false, false, false, 0, in_thirds };
+static const struct plan sound = { SOUN, 48000, false, false, false, 0, in_thirds };
+static const struct plan full = { VIDE, 30000, true, true, true, 0, ten_or_twenty };
+static const struct plan short_chunks = { VIDE, 30000, true, true, true, 0, one_or_two };
+static const struct plan lone = { VIDE, 30000, false, false, false, 2, one };
+
+static const struct {
+    const char *name, *tables;
+    const struct plan *plans[FILM_TRACKS];
+} kinds[FILM_KINDS] = {
+    { "one track", "stts one run, stsz per sample, stsc few entries, chunks of 10 to 30 samples", { &typical, NULL } },
+    { "two tracks", "two tracks like that", { &typical, &sound } },
+    { "full tables", "stts, ctts and stsz per sample, stss every second sample, stsc an entry for each chunk, of 10 and 20 samples in turn", { &full, NULL } },
+    { "full tables, short chunks", "the same with chunks of 1 and 2 samples in turn", { &short_chunks, NULL } },
+    { "one sample a chunk", "stts one run, a common size, stsc one entry, 1,000,000 chunks", { &lone, NULL } },
+};
+
+/* ftyp, mdat, moov: with the mdat first the chunks' offsets are known when stco is written. */
+struct film make_film(int kind)
+{
+    struct film film = { .name = kinds[kind].name, .tables = kinds[kind].tables };
+    struct writer w = { 0 };
+    size_t ftyp = open_atom(&w, "ftyp");
+    put(&w, "qt  \0\0\0\0qt  ", 12);
+    close_atom(&w, ftyp);
+    size_t mdat = open_atom(&w, "mdat");
+    uint32_t data = (uint32_t)w.len;
+    zeros(&w, 3 * FILM_SAMPLES);
+    close_atom(&w, mdat);
+    size_t moov = open_atom(&w, "moov");
+    size_t mvhd = open_atom(&w, "mvhd");
+    zeros(&w, 100);
+    poke32(w.bytes + mvhd + 20, MOVIE_SCALE);
+    close_atom(&w, mvhd);
+    for (; film.tracks < FILM_TRACKS && kinds[kind].plans[film.tracks] != NULL; film.tracks++) {
+        uint32_t id = (uint32_t)film.tracks + 1;
+        film.track[film.tracks] = put_trak(&w, kinds[kind].plans[film.tracks], id, data);
+    }
+    close_atom(&w, moov);
+    film.bytes = w.bytes;
+    film.len = w.len;
+    film.moov = w.bytes + moov;
+    film.moov_len = w.len - moov;
+    return film;
+}

@@ -1,0 +1,67 @@
+//! A verified reader of QuickTime movie tables.
+//!
+//! It tells which tracks a movie holds, which bytes of the file show which time of a track, and it writes and reads
+//! *slips*, the receipts that file which bytes of film belong to which stretch of time. The reader itself is the proved
+//! library `libchaldoref.a`, written in Rattle; this crate gives it Rust's types and judges nothing on its own. The
+//! rules are those of the project's document 01, and so are the words of each [`Refusal`].
+//!
+//! ```
+//! use chaldoref::{MediaTime, Movie, Refusal, Slip, TrackId};
+//!
+//! # std::env::set_current_dir("../..")?;
+//! let file = std::fs::read("films/w.mov")?;
+//! let movie = Movie::open(&file)?;
+//! let track = movie.tracks()[0];
+//! assert_eq!((track.id, track.subtype.to_string().as_str()), (TrackId(1), "vide"));
+//!
+//! // The sample shown at media time 24, and its own bytes, which are not copied.
+//! let n = movie.sample_at(track.id, MediaTime(24))?;
+//! assert_eq!((n, movie.sample_bytes(track.id, n)?.len()), (2, 50));
+//!
+//! // The bytes of a stretch of film time, one range for each chunk that it touches.
+//! let stretch = movie.stretch(track.id, MediaTime(24)..MediaTime(73))?;
+//! assert_eq!((stretch.pairs.len(), stretch.bytes), (2, 120));
+//!
+//! // The slip that files them, read back without the movie.
+//! let slip = Slip::read(&movie.write_slip(track.id, MediaTime(24)..MediaTime(73))?)?;
+//! assert_eq!((slip.film_time(), slip.pairs), (49, stretch.pairs));
+//!
+//! // Whatever cannot be answered is refused by number.
+//! assert_eq!(movie.sample_at(track.id, track.total), Err(Refusal::Outside));
+//! assert_eq!(Refusal::Outside.number(), 15);
+//! # Ok::<(), Box<dyn std::error::Error>>(())
+//! ```
+//!
+//! # What a question costs
+//!
+//! The library keeps no state and allocates nothing. Each question judges the whole file again before it answers, in
+//! time that grows with the movie's tables (the `moov` atom) and not with the film's own bytes: for a million samples
+//! some hundredths of a second. A question about one sample so costs as much as [`Movie::open`]; to have the bytes of
+//! many samples ask for one [`Movie::stretch`], and not for each sample.
+//!
+//! # Memory
+//!
+//! A [`Movie`] borrows the file and copies none of it. [`Movie::stretch`], [`Movie::write_slip`], [`Movie::profile`]
+//! and [`Slip::read`] allocate their answers; [`Movie::stretch_into`] and [`Movie::write_slip_into`] fill lent room
+//! instead. A file that is mapped into memory must not change while it is borrowed, as for every `&[u8]`.
+//!
+//! # Building
+//!
+//! The build links `libchaldoref.a` from the folder that the environment variable `CHALDOREF_LIB_DIR` names, or from
+//! where `host/build-library` puts it.
+#![deny(missing_docs)]
+#![deny(unsafe_code, clippy::undocumented_unsafe_blocks)]
+
+#[allow(unsafe_code)]
+mod ffi;
+mod movie;
+#[allow(missing_docs)]
+pub mod raw;
+mod refusal;
+mod slip;
+mod units;
+
+pub use movie::{Feature, Movie, ProfileRecord, Sample, Shown, Stretch, StretchSize, Track, MAX_FILE_BYTES};
+pub use refusal::Refusal;
+pub use slip::Slip;
+pub use units::{ByteRange, FourCC, MediaTime, MovieTime, TrackId};

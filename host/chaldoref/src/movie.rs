@@ -1,0 +1,329 @@
+//! Movies and the questions about them.
+use crate::ffi::{self, broken, promised};
+use crate::refusal::Refusal;
+use crate::units::{ByteRange, FourCC, MediaTime, MovieTime, TrackId};
+use std::fmt;
+use std::ops::Range;
+
+/// The most bytes that an accepted file has. A longer one is [`Refusal::FileTooLong`].
+pub const MAX_FILE_BYTES: u64 = 2_147_483_647;
+
+/// The most tracks that a movie has, and the most records that a profile has.
+const MAX_TRACKS: usize = 16;
+const MAX_RECORDS: usize = 64;
+
+/// A track of the track list.
+#[repr(C)]
+#[derive(Clone, Copy, Debug, Default, PartialEq, Eq, Hash)]
+pub struct Track {
+    /// Its ID, which no other track of the movie has.
+    pub id: TrackId,
+    /// What its handler says it is, such as `vide` or `soun`.
+    pub subtype: FourCC,
+    /// The time scale of its media: units a second.
+    pub scale: u32,
+    /// The total of its samples' durations, which is where its media ends.
+    pub total: MediaTime,
+    /// The number of its samples.
+    pub samples: u32,
+    /// The number of its chunks.
+    pub chunks: u32,
+    /// The number of its edits; 0 without an edit list.
+    pub edits: u32,
+}
+
+impl Track {
+    /// The length of an output that is enough for the slip of any stretch of this track.
+    pub fn slip_room(&self) -> usize {
+        24 + 10 * self.chunks as usize
+    }
+}
+
+/// A sample of a track.
+#[derive(Clone, Copy, Debug, PartialEq, Eq, Hash)]
+pub struct Sample {
+    /// Where it starts: the total of the durations before it.
+    pub decode: MediaTime,
+    /// How long it lasts; it may be 0.
+    pub duration: u32,
+    /// When it is shown: the decode time plus the sample's offset, which may be negative.
+    pub composition: i64,
+    /// Whether it is a sync sample.
+    pub sync: bool,
+    /// The ID of its sample description, from 1.
+    pub description: u32,
+    /// The number of its chunk, from 1.
+    pub chunk: u32,
+    /// The place of its first byte in the file.
+    pub offset: u32,
+    /// The number of its bytes; it may be 0.
+    pub size: u32,
+}
+
+/// What a track shows at a movie time.
+#[derive(Clone, Copy, Debug, PartialEq, Eq, Hash)]
+pub enum Shown {
+    /// The media at that time.
+    At(MediaTime),
+    /// Nothing: the movie time falls in an empty edit.
+    Nothing,
+}
+
+/// The bytes of a stretch of a track.
+#[derive(Clone, Debug, PartialEq, Eq, Hash)]
+pub struct Stretch {
+    /// One range for each chunk touched, in chunk order.
+    pub pairs: Vec<ByteRange>,
+    /// The total of their lengths.
+    pub bytes: u64,
+}
+
+/// How much of lent room a stretch has filled, and its bytes.
+#[derive(Clone, Copy, Debug, PartialEq, Eq, Hash)]
+pub struct StretchSize {
+    /// The number of ranges, which are the first of the room.
+    pub pairs: usize,
+    /// The total of their lengths.
+    pub bytes: u64,
+}
+
+/// A record of a stored profile.
+#[repr(C)]
+#[derive(Clone, Copy, Debug, Default, PartialEq, Eq, Hash)]
+pub struct ProfileRecord {
+    /// The part-ID.
+    pub part: u32,
+    /// The feature's code.
+    pub code: FourCC,
+    /// The feature's value as the file has it; nothing checks it.
+    pub value: u32,
+}
+
+/// The features that can be computed.
+#[derive(Clone, Copy, Debug, PartialEq, Eq, Hash)]
+pub enum Feature {
+    /// `avvb`, of video: bits a second over the whole media, rounded up.
+    AverageVideoBitRate,
+    /// `avab`, of sound: bits a second over the whole media, rounded up.
+    AverageAudioBitRate,
+    /// `tvsz`, of video: the greatest width × 65536 + the greatest height.
+    GreatestPicture,
+    /// `vfps`, of video: frames a second × 65536, rounded up, for the shortest sample.
+    HighestFrameRate,
+}
+
+impl Feature {
+    /// Every feature that can be computed.
+    pub const ALL: [Feature; 4] = [
+        Feature::AverageVideoBitRate,
+        Feature::AverageAudioBitRate,
+        Feature::GreatestPicture,
+        Feature::HighestFrameRate,
+    ];
+
+    /// Its four-character code.
+    pub const fn code(self) -> FourCC {
+        match self {
+            Feature::AverageVideoBitRate => FourCC::from_bytes(*b"avvb"),
+            Feature::AverageAudioBitRate => FourCC::from_bytes(*b"avab"),
+            Feature::GreatestPicture => FourCC::from_bytes(*b"tvsz"),
+            Feature::HighestFrameRate => FourCC::from_bytes(*b"vfps"),
+        }
+    }
+}
+
+impl From<Feature> for FourCC {
+    fn from(feature: Feature) -> FourCC {
+        feature.code()
+    }
+}
+
+/// A movie file that the reader has accepted.
+///
+/// It borrows the file's bytes and keeps the track list beside them. See the [crate](crate) for what a question costs.
+/// Each question gets the library's own answer, also for an ID that no track has ([`Refusal::NoTrack`]); no refusal 1
+/// to 13 comes after [`Movie::open`].
+#[derive(Clone)]
+pub struct Movie<'a> {
+    file: &'a [u8],
+    tracks: [Track; MAX_TRACKS],
+    count: usize,
+}
+
+impl<'a> Movie<'a> {
+    /// Judges a whole movie file and reads its track list. Refusals 1 to 13.
+    pub fn open(file: &'a [u8]) -> Result<Movie<'a>, Refusal> {
+        let mut tracks = [Track::default(); MAX_TRACKS];
+        let [count] = ffi::track_list(file, &mut tracks)?;
+        Ok(Movie { file, tracks, count: promised(count) })
+    }
+
+    /// The file's bytes.
+    pub fn file(&self) -> &'a [u8] {
+        self.file
+    }
+
+    /// The tracks, in file order. There may be none, and there are 16 at most.
+    pub fn tracks(&self) -> &[Track] {
+        &self.tracks[..self.count]
+    }
+
+    /// The track with that ID, if there is one.
+    pub fn track(&self, id: TrackId) -> Option<&Track> {
+        self.tracks().iter().find(|track| track.id == id)
+    }
+
+    /// Sample `n` of a track, numbered from 1. Refusals 14, 15.
+    ///
+    /// ```
+    /// use chaldoref::{MediaTime, Movie, TrackId};
+    ///
+    /// # std::env::set_current_dir("../..")?;
+    /// let file = std::fs::read("films/w.mov")?;
+    /// let sample = Movie::open(&file)?.sample(TrackId(1), 4)?;
+    /// assert_eq!((sample.decode, sample.duration), (MediaTime(72), 48));
+    /// assert_eq!((sample.chunk, sample.offset, sample.size), (2, 900, 70));
+    /// # Ok::<(), Box<dyn std::error::Error>>(())
+    /// ```
+    pub fn sample(&self, id: TrackId, n: u32) -> Result<Sample, Refusal> {
+        let [decode, duration, composition, sync, description, chunk, offset, size] = ffi::sample(self.file, id.0, n)?;
+        Ok(Sample {
+            decode: MediaTime(promised(decode)),
+            duration: promised(duration),
+            composition,
+            sync: sync == 1,
+            description: promised(description),
+            chunk: promised(chunk),
+            offset: promised(offset),
+            size: promised(size),
+        })
+    }
+
+    /// The bytes of sample `n` of a track, numbered from 1, as they stand in the file. Refusals 14, 15.
+    pub fn sample_bytes(&self, id: TrackId, n: u32) -> Result<&'a [u8], Refusal> {
+        let [offset, length] = ffi::sample_bytes(self.file, id.0, n)?;
+        let range = ByteRange { offset: promised(offset), length: promised(length) };
+        Ok(range.of(self.file).unwrap_or_else(|| broken()))
+    }
+
+    /// The number of the sample at a media time: the one with decode time ≤ `t` < decode time plus duration.
+    /// Refusals 14, 15.
+    pub fn sample_at(&self, id: TrackId, t: MediaTime) -> Result<u32, Refusal> {
+        let [n] = ffi::sample_at(self.file, id.0, t.0)?;
+        Ok(promised(n))
+    }
+
+    /// What a track shows at a movie time, which goes through the track's edit list if it has one. Refusals 14, 15.
+    ///
+    /// ```
+    /// use chaldoref::{MediaTime, Movie, MovieTime, Shown, TrackId};
+    ///
+    /// # std::env::set_current_dir("../..")?;
+    /// let file = std::fs::read("films/w.mov")?;
+    /// let movie = Movie::open(&file)?;
+    /// assert_eq!(movie.media_time(TrackId(1), MovieTime(60))?, Shown::At(MediaTime(60)));
+    /// # Ok::<(), Box<dyn std::error::Error>>(())
+    /// ```
+    pub fn media_time(&self, id: TrackId, t: MovieTime) -> Result<Shown, Refusal> {
+        match ffi::media_time(self.file, id.0, t.0)? {
+            [0, _] => Ok(Shown::Nothing),
+            [_, media] => Ok(Shown::At(MediaTime(promised(media)))),
+        }
+    }
+
+    /// The bytes of a track from one media time up to another: all samples from the one at the start to the one just
+    /// before the end. Refusals 14, 15.
+    pub fn stretch(&self, id: TrackId, time: Range<MediaTime>) -> Result<Stretch, Refusal> {
+        let mut pairs = vec![ByteRange::default(); self.chunks(id)];
+        let size = self.stretch_into(id, time, &mut pairs)?;
+        pairs.truncate(size.pairs);
+        pairs.shrink_to_fit();
+        Ok(Stretch { pairs, bytes: size.bytes })
+    }
+
+    /// The same into lent room, of which the first ranges are filled. As many as the track has chunks are always
+    /// enough. Refusals 14, 15, 16; then the room keeps its contents.
+    ///
+    /// ```
+    /// use chaldoref::{ByteRange, MediaTime, Movie, Refusal, TrackId};
+    ///
+    /// # std::env::set_current_dir("../..")?;
+    /// let file = std::fs::read("films/w.mov")?;
+    /// let movie = Movie::open(&file)?;
+    /// let mut room = [ByteRange::default(); 2];
+    /// let size = movie.stretch_into(TrackId(1), MediaTime(24)..MediaTime(25), &mut room)?;
+    /// assert_eq!((&room[..size.pairs], size.bytes), (&[ByteRange { offset: 1100, length: 50 }][..], 50));
+    /// let short = movie.stretch_into(TrackId(1), MediaTime(0)..MediaTime(120), &mut room[..1]);
+    /// assert_eq!(short, Err(Refusal::NoRoom));
+    /// # Ok::<(), Box<dyn std::error::Error>>(())
+    /// ```
+    pub fn stretch_into(
+        &self,
+        id: TrackId,
+        time: Range<MediaTime>,
+        room: &mut [ByteRange],
+    ) -> Result<StretchSize, Refusal> {
+        let [pairs, bytes] = ffi::stretch(self.file, id.0, time.start.0, time.end.0, room)?;
+        Ok(StretchSize { pairs: promised(pairs), bytes })
+    }
+
+    /// The slip of a stretch. Refusals 14, 15.
+    pub fn write_slip(&self, id: TrackId, time: Range<MediaTime>) -> Result<Vec<u8>, Refusal> {
+        let mut out = vec![0; self.track(id).map_or(0, Track::slip_room)];
+        let length = self.write_slip_into(id, time, &mut out)?;
+        out.truncate(length);
+        out.shrink_to_fit();
+        Ok(out)
+    }
+
+    /// The same into lent bytes; the slip's length is returned. [`Track::slip_room`] bytes are always enough.
+    /// Refusals 14, 15, 16; then the bytes keep their contents.
+    pub fn write_slip_into(&self, id: TrackId, time: Range<MediaTime>, out: &mut [u8]) -> Result<usize, Refusal> {
+        let [length] = ffi::write_slip(self.file, id.0, time.start.0, time.end.0, out)?;
+        Ok(promised(length))
+    }
+
+    /// The stored profile of a track: its records with a code other than 0, in order; none where there is no profile.
+    /// `TrackId(0)`, which no track has, asks for the movie's own. Refusal 14.
+    pub fn profile(&self, id: TrackId) -> Result<Vec<ProfileRecord>, Refusal> {
+        let mut records = [ProfileRecord::default(); MAX_RECORDS];
+        let [count] = ffi::profile(self.file, id.0, &mut records)?;
+        Ok(records[..promised(count)].to_vec())
+    }
+
+    /// The movie's own stored profile.
+    pub fn movie_profile(&self) -> Vec<ProfileRecord> {
+        // No refusal is left for ID 0: the file is accepted and the room enough.
+        self.profile(TrackId(0)).unwrap_or_else(|_| broken())
+    }
+
+    /// A feature computed from a track's tables, by its [`Feature`] or any four-character code. Refusals 14, 18; every
+    /// code but the four of [`Feature`] is refused 18.
+    ///
+    /// ```
+    /// use chaldoref::{Feature, FourCC, Movie, Refusal, TrackId};
+    ///
+    /// # std::env::set_current_dir("../..")?;
+    /// let file = std::fs::read("films/w.mov")?;
+    /// let movie = Movie::open(&file)?;
+    /// assert_eq!(movie.feature(TrackId(1), Feature::AverageVideoBitRate)?, 8800);
+    /// assert_eq!(movie.feature(TrackId(1), FourCC::from_bytes(*b"vfmt")), Err(Refusal::NotComputed));
+    /// # Ok::<(), Box<dyn std::error::Error>>(())
+    /// ```
+    pub fn feature(&self, id: TrackId, code: impl Into<FourCC>) -> Result<u32, Refusal> {
+        let [value] = ffi::feature(self.file, id.0, code.into().0)?;
+        Ok(promised(value))
+    }
+
+    /// The number of a track's chunks; 0 where no track has that ID, for which the library needs no room to say so.
+    fn chunks(&self, id: TrackId) -> usize {
+        self.track(id).map_or(0, |track| track.chunks as usize)
+    }
+}
+
+impl fmt::Debug for Movie<'_> {
+    /// The tracks and the file's length; the file itself would be no help.
+    fn fmt(&self, f: &mut fmt::Formatter<'_>) -> fmt::Result {
+        f.debug_struct("Movie").field("file_bytes", &self.file.len()).field("tracks", &self.tracks()).finish()
+    }
+}

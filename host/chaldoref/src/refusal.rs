@@ -1,0 +1,119 @@
+//! The refusals of document 01.
+use std::error::Error;
+use std::fmt;
+
+/// Why a question is not answered: one of the refusals of document 01, whose words [`Display`](fmt::Display) gives.
+///
+/// Of a file the lowest number that applies is given; then comes 14, then 15 or 18, then 16. In reading a slip 17 comes
+/// before 16.
+#[non_exhaustive]
+#[derive(Clone, Copy, Debug, PartialEq, Eq, PartialOrd, Ord, Hash)]
+pub enum Refusal {
+    /// 1: the file is longer than 2,147,483,647 bytes.
+    FileTooLong = 1,
+    /// 2: an atom's size is wrong, passes its parent's end, or too few bytes for an atom remain.
+    AtomSize = 2,
+    /// 3: an atom is absent or occurs too often. Also for bytes that are no movie at all.
+    AtomCount = 3,
+    /// 4: an atom that is read has a version other than 0.
+    LeafVersion = 4,
+    /// 5: an atom that is read, or a profile, hasn't its size.
+    LeafSize = 5,
+    /// 6: there are too many tracks, samples, chunks, edits, descriptions or profile records.
+    OverLimit = 6,
+    /// 7: a track ID is 0 or occurs twice.
+    TrackIds = 7,
+    /// 8: a movie or media time scale is 0.
+    TimeScale = 8,
+    /// 9: the sample tables contradict each other.
+    Tables = 9,
+    /// 10: sample or edit durations total over 4,294,967,295.
+    TotalDuration = 10,
+    /// 11: the stored duration of a track's media is not the total of its samples' durations.
+    StoredDuration = 11,
+    /// 12: a chunk passes the file's end.
+    PastEnd = 12,
+    /// 13: an edit list is wrong.
+    EditList = 13,
+    /// 14: no track has that ID.
+    NoTrack = 14,
+    /// 15: the sample number, time or stretch lies outside.
+    Outside = 15,
+    /// 16: the lent room is shorter than the answer.
+    NoRoom = 16,
+    /// 17: a slip is malformed.
+    MalformedSlip = 17,
+    /// 18: the feature cannot be computed.
+    NotComputed = 18,
+}
+
+impl Refusal {
+    /// Every refusal, in the order of their numbers.
+    pub const ALL: [Refusal; 18] = [
+        Refusal::FileTooLong,
+        Refusal::AtomSize,
+        Refusal::AtomCount,
+        Refusal::LeafVersion,
+        Refusal::LeafSize,
+        Refusal::OverLimit,
+        Refusal::TrackIds,
+        Refusal::TimeScale,
+        Refusal::Tables,
+        Refusal::TotalDuration,
+        Refusal::StoredDuration,
+        Refusal::PastEnd,
+        Refusal::EditList,
+        Refusal::NoTrack,
+        Refusal::Outside,
+        Refusal::NoRoom,
+        Refusal::MalformedSlip,
+        Refusal::NotComputed,
+    ];
+
+    /// The refusal's number in document 01, from 1.
+    pub const fn number(self) -> u32 {
+        self as u32
+    }
+
+    /// The refusal with that number, if there is one.
+    pub fn from_number(number: u32) -> Option<Refusal> {
+        Refusal::ALL.into_iter().find(|refusal| refusal.number() == number)
+    }
+
+    /// When document 01 gives this refusal, in its own words.
+    const fn words(self) -> &'static str {
+        match self {
+            Refusal::FileTooLong => "the file is longer than 2,147,483,647 bytes",
+            Refusal::AtomSize => {
+                "an atom's size is wrong, passes its parent's end, or 1 to 7 bytes (under 16 for a 64-bit size) remain"
+            }
+            Refusal::AtomCount => "an atom is absent or occurs too often",
+            Refusal::LeafVersion => "a read leaf has a body whose first byte is not 0",
+            Refusal::LeafSize => "a read leaf or profile hasn't its size",
+            Refusal::OverLimit => {
+                "over 16 tracks, or in one track over 1,048,576 samples or chunks, 256 edits or 64 descriptions; \
+                 in one profile over 64 records"
+            }
+            Refusal::TrackIds => "a track ID is 0 or occurs twice",
+            Refusal::TimeScale => "a movie or media time scale is 0",
+            Refusal::Tables => "sample tables contradict each other",
+            Refusal::TotalDuration => "the sample durations, or a track's edit durations, total over 4,294,967,295",
+            Refusal::StoredDuration => "the mdhd duration is not the total of the sample durations",
+            Refusal::PastEnd => "a chunk's offset plus the sizes of its samples passes the file's end",
+            Refusal::EditList => "an edit list is wrong",
+            Refusal::NoTrack => "no track has that ID",
+            Refusal::Outside => "the sample number is not in 1 to N, or the time or stretch lies outside",
+            Refusal::NoRoom => "the lent room is shorter than the answer",
+            Refusal::MalformedSlip => "a slip is malformed",
+            Refusal::NotComputed => "the feature cannot be computed",
+        }
+    }
+}
+
+impl fmt::Display for Refusal {
+    fn fmt(&self, f: &mut fmt::Formatter<'_>) -> fmt::Result {
+        f.pad(self.words())
+    }
+}
+
+impl Error for Refusal {}

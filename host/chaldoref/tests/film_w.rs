@@ -1,0 +1,216 @@
+//! Every case of document 01, "Film W" and "Misreadings to shut out", that a caller can put.
+use chaldoref::{
+    ByteRange, Feature, FourCC, MediaTime, Movie, MovieTime, Refusal, Sample, Shown, Slip, Stretch, StretchSize, Track,
+    TrackId,
+};
+use reference::film::{self, w, w_movie, w_track, Sizes};
+use std::ops::Range;
+
+const ONE: TrackId = TrackId(1);
+const SLIP: [u8; 13] = [0x01, 0x01, 0xd8, 0x04, 0x18, 0x49, 0x02, 0xcc, 0x08, 0x32, 0x84, 0x07, 0x46];
+
+/// W with another track.
+fn with_track(track: film::Track) -> Vec<u8> {
+    film::Movie { tracks: vec![track], ..w_movie() }.file_of(4096).bytes()
+}
+
+fn media(a: u32, b: u32) -> Range<MediaTime> {
+    MediaTime(a)..MediaTime(b)
+}
+
+fn pair(offset: u32, length: u32) -> ByteRange {
+    ByteRange { offset, length }
+}
+
+fn opened(file: &[u8]) -> Movie<'_> {
+    Movie::open(file).unwrap()
+}
+
+#[test]
+fn the_stored_film_is_w() {
+    assert_eq!(std::fs::read("../../films/w.mov").unwrap(), w().bytes());
+}
+
+#[test]
+fn tracks() {
+    let file = w().bytes();
+    let track = Track {
+        id: ONE,
+        subtype: FourCC::from_bytes(*b"vide"),
+        scale: 600,
+        total: MediaTime(120),
+        samples: 4,
+        chunks: 2,
+        edits: 0,
+    };
+    let movie = opened(&file);
+    assert_eq!(movie.tracks(), [track]);
+    assert_eq!(movie.track(ONE), Some(&track));
+    assert_eq!(movie.track(TrackId(2)), None);
+    assert_eq!(movie.file(), file);
+}
+
+#[test]
+fn times() {
+    let file = w().bytes();
+    let at = |t| opened(&file).sample_at(ONE, MediaTime(t));
+    for (t, n) in [(0, 1), (23, 1), (24, 2), (72, 4), (119, 4)] {
+        assert_eq!(at(t), Ok(n), "time {t}");
+    }
+    assert_eq!(at(120), Err(Refusal::Outside));
+}
+
+#[test]
+fn samples() {
+    let file = w().bytes();
+    let movie = opened(&file);
+    let third = Sample {
+        decode: MediaTime(48),
+        duration: 24,
+        composition: 48,
+        sync: true,
+        description: 1,
+        chunk: 1,
+        offset: 1150,
+        size: 0,
+    };
+    assert_eq!(movie.sample(ONE, 3), Ok(third));
+    let fourth =
+        Sample { decode: MediaTime(72), duration: 48, composition: 72, chunk: 2, offset: 900, size: 70, ..third };
+    assert_eq!(movie.sample(ONE, 4), Ok(fourth));
+    for n in [0, 5] {
+        assert_eq!(movie.sample(ONE, n), Err(Refusal::Outside));
+        assert_eq!(movie.sample_bytes(ONE, n), Err(Refusal::Outside));
+    }
+}
+
+#[test]
+fn sample_bytes_are_a_part_of_the_file() {
+    let file = w().bytes();
+    let bytes = opened(&file).sample_bytes(ONE, 2).unwrap();
+    // They outlive the movie that was asked, and were not copied.
+    assert!(std::ptr::eq(bytes, &file[1100..1150]));
+    assert!(std::ptr::eq(opened(&file).sample_bytes(ONE, 3).unwrap(), &file[1150..1150]));
+}
+
+#[test]
+fn stretches() {
+    let file = w().bytes();
+    let movie = opened(&file);
+    let part = Stretch { pairs: vec![pair(1100, 50), pair(900, 70)], bytes: 120 };
+    assert_eq!(movie.stretch(ONE, media(24, 73)), Ok(part));
+    let whole = Stretch { pairs: vec![pair(1000, 150), pair(900, 70)], bytes: 220 };
+    assert_eq!(movie.stretch(ONE, media(0, 120)), Ok(whole));
+    for outside in [media(24, 24), media(25, 24), media(0, 121), media(120, 121)] {
+        assert_eq!(movie.stretch(ONE, outside), Err(Refusal::Outside));
+    }
+}
+
+#[test]
+fn stretches_into_lent_room() {
+    let file = w().bytes();
+    let movie = opened(&file);
+    let mut room = [pair(7, 7); 3];
+    assert_eq!(movie.stretch_into(ONE, media(24, 73), &mut room[..1]), Err(Refusal::NoRoom));
+    assert_eq!(movie.stretch_into(ONE, media(24, 24), &mut room), Err(Refusal::Outside));
+    assert_eq!(room, [pair(7, 7); 3]);
+    assert_eq!(movie.stretch_into(ONE, media(24, 73), &mut room), Ok(StretchSize { pairs: 2, bytes: 120 }));
+    assert_eq!(room, [pair(1100, 50), pair(900, 70), pair(7, 7)]);
+}
+
+#[test]
+fn slips() {
+    let file = w().bytes();
+    let movie = opened(&file);
+    assert_eq!(movie.write_slip(ONE, media(24, 73)).unwrap(), SLIP);
+    assert_eq!(movie.write_slip(ONE, media(24, 24)), Err(Refusal::Outside));
+    let mut out = [9; 14];
+    assert_eq!(movie.write_slip_into(ONE, media(24, 73), &mut out[..12]), Err(Refusal::NoRoom));
+    assert_eq!(out, [9; 14]);
+    assert_eq!(movie.write_slip_into(ONE, media(24, 73), &mut out), Ok(13));
+    assert_eq!((&out[..13], out[13]), (&SLIP[..], 9));
+    assert_eq!(movie.tracks()[0].slip_room(), 44);
+}
+
+#[test]
+fn slips_are_read_back() {
+    let slip = Slip::read(&SLIP).unwrap();
+    let pairs = vec![pair(1100, 50), pair(900, 70)];
+    assert_eq!(slip, Slip { id: ONE, scale: 600, a: MediaTime(24), b: MediaTime(73), pairs });
+    assert_eq!((slip.film_time(), slip.bytes()), (49, 120));
+    for end in 0..SLIP.len() {
+        assert_eq!(Slip::read(&SLIP[..end]), Err(Refusal::MalformedSlip), "{end} bytes");
+    }
+    let mut more = SLIP.to_vec();
+    more.push(0);
+    assert_eq!(Slip::read(&more), Err(Refusal::MalformedSlip));
+}
+
+#[test]
+fn features() {
+    let file = w().bytes();
+    let movie = opened(&file);
+    assert_eq!(movie.feature(ONE, Feature::AverageVideoBitRate), Ok(8800));
+    assert_eq!(movie.feature(ONE, Feature::AverageAudioBitRate), Err(Refusal::NotComputed));
+    assert_eq!(movie.feature(ONE, Feature::GreatestPicture), Ok(320 << 16 | 240));
+    assert_eq!(movie.feature(ONE, Feature::HighestFrameRate), Ok(0x0019_0000));
+    assert_eq!(movie.feature(ONE, FourCC::from_bytes(*b"mvbr")), Err(Refusal::NotComputed));
+    let track = film::Track { scale: 30000, duration: 1001 + 3 * 2002, stts: vec![(3, 2002), (1, 1001)], ..w_track() };
+    assert_eq!(opened(&with_track(track)).feature(ONE, Feature::HighestFrameRate), Ok(0x001d_f854));
+}
+
+#[test]
+fn edits() {
+    let edited = |media_time| {
+        let edits = vec![(60, -1, 65536), (60, media_time, 65536)];
+        with_track(film::Track { edits: Some(edits), ..w_track() })
+    };
+    let file = edited(24);
+    let movie = opened(&file);
+    assert_eq!(movie.media_time(ONE, MovieTime(59)), Ok(Shown::Nothing));
+    assert_eq!(movie.media_time(ONE, MovieTime(60)), Ok(Shown::At(MediaTime(24))));
+    assert_eq!(movie.media_time(ONE, MovieTime(119)), Ok(Shown::At(MediaTime(83))));
+    assert_eq!(movie.media_time(ONE, MovieTime(120)), Err(Refusal::Outside));
+    assert_eq!(movie.tracks()[0].edits, 2);
+    assert_eq!(Movie::open(&edited(61)).err(), Some(Refusal::EditList));
+    assert!(Movie::open(&edited(60)).is_ok());
+}
+
+#[test]
+fn refusals_of_w() {
+    let track = film::Track { duration: 121, ..w_track() };
+    assert_eq!(Movie::open(&with_track(track)).err(), Some(Refusal::StoredDuration));
+    for (offset, refusal) in [(4027, Some(Refusal::PastEnd)), (4026, None)] {
+        let track = film::Track { stco: vec![1000, offset], ..w_track() };
+        assert_eq!(Movie::open(&with_track(track)).err(), refusal);
+    }
+    assert_eq!(Movie::open(&[]).err(), Some(Refusal::AtomCount));
+}
+
+#[test]
+fn misreadings() {
+    // "The last stsc entry applied to one chunk and not to all that remain."
+    let three = film::Track {
+        stts: vec![(5, 24)],
+        stsz: Sizes::Each(vec![100, 50, 0, 70, 8]),
+        stco: vec![1000, 900, 2000],
+        ..w_track()
+    };
+    let fifth = opened(&with_track(three)).sample(ONE, 5).unwrap();
+    assert_eq!((fifth.chunk, fifth.offset), (3, 2000));
+    // "A zero-duration sample returned for the time at which it stands."
+    let still = with_track(film::Track { stts: vec![(1, 0), (1, 60), (1, 0), (1, 60)], ..w_track() });
+    assert_eq!([0, 59, 60, 119].map(|t| opened(&still).sample_at(ONE, MediaTime(t))), [2, 2, 4, 4].map(Ok));
+    // "Media time -1 read as 4,294,967,295."
+    let empty = with_track(film::Track { edits: Some(vec![(1, -1, 65536)]), ..w_track() });
+    assert_eq!(opened(&empty).media_time(ONE, MovieTime(0)), Ok(Shown::Nothing));
+}
+
+#[test]
+fn a_composition_time_may_be_negative() {
+    let track = film::Track { ctts: Some(vec![(1, -5), (3, 7)]), stss: Some(vec![2]), ..w_track() };
+    let file = with_track(track);
+    let [first, second] = [1, 2].map(|n| opened(&file).sample(ONE, n).unwrap());
+    assert_eq!((first.composition, first.sync), (-5, false));
+    assert_eq!((second.composition, second.sync), (31, true));
+}

@@ -1,0 +1,204 @@
+//! The arguments: which command, which film, and the numbers asked.
+use crate::failure::Failure;
+use crate::help;
+use crate::input;
+use crate::syntax::{Command, Opt, BYTES, JSON};
+use chaldoref::{FourCC, MediaTime, MovieTime, TrackId};
+use std::ffi::{OsStr, OsString};
+use std::ops::Range;
+
+/// What the arguments ask for: a text such as the help, or an answer.
+pub enum Parsed {
+    Text(String),
+    Run(Request),
+}
+
+/// A question to a film, or a slip to read.
+pub struct Request {
+    pub file: OsString,
+    pub ask: Ask,
+    pub json: bool,
+}
+
+pub enum Ask {
+    Tracks,
+    Sample { track: TrackId, n: u32, bytes: bool },
+    At { track: TrackId, time: MediaTime },
+    Map { track: TrackId, time: MovieTime },
+    Stretch { track: TrackId, time: Range<MediaTime>, bytes: bool },
+    Slip { track: TrackId, time: Range<MediaTime>, out: Option<OsString> },
+    ReadSlip { hex: bool },
+    Features { track: TrackId, code: Option<FourCC> },
+    Profile { track: Option<TrackId> },
+}
+
+pub fn parse(words: impl IntoIterator<Item = OsString>) -> Result<Parsed, Failure> {
+    let mut words = words.into_iter();
+    let first = words.next().ok_or_else(|| Failure::Usage("no command is named".into(), help::usage()))?;
+    match first.to_str() {
+        Some("-h" | "--help") => Ok(Parsed::Text(help::help())),
+        Some("-V" | "--version") => Ok(Parsed::Text(help::version())),
+        Some("help") => match words.next() {
+            Some(name) => Ok(Parsed::Text(command(&name)?.help())),
+            None => Ok(Parsed::Text(help::help())),
+        },
+        _ => Words::sort(command(&first)?, words),
+    }
+}
+
+fn command(name: &OsStr) -> Result<&'static Command, Failure> {
+    let found = name.to_str().and_then(Command::named);
+    found.ok_or_else(|| Failure::Usage(format!("there is no command {}", quoted(name)), help::usage()))
+}
+
+/// An argument as messages quote it.
+fn quoted(word: &OsStr) -> String {
+    format!("'{}'", input::shown(word))
+}
+
+/// The words after a command, sorted into operands and options.
+pub struct Words {
+    command: &'static Command,
+    operands: Vec<OsString>,
+    flags: Vec<&'static str>,
+    /// The value of -o.
+    pub out: Option<OsString>,
+}
+
+impl Words {
+    fn sort(command: &'static Command, mut rest: impl Iterator<Item = OsString>) -> Result<Parsed, Failure> {
+        let mut words = Words { command, operands: Vec::new(), flags: Vec::new(), out: None };
+        while let Some(word) = rest.next() {
+            match word.to_str() {
+                Some("-h" | "--help") => return Ok(Parsed::Text(command.help())),
+                Some("--") => words.operands.extend(rest.by_ref()),
+                // A dash alone is standard input or output.
+                Some("-") => words.operands.push(word),
+                _ if word.as_encoded_bytes().starts_with(b"-") => words.option(&word, &mut rest)?,
+                _ => words.operands.push(word),
+            }
+        }
+        words.request().map(Parsed::Run)
+    }
+
+    fn option(&mut self, word: &OsStr, rest: &mut impl Iterator<Item = OsString>) -> Result<(), Failure> {
+        let Some(option) = self.command.options.iter().find(|option| word == option.flag) else {
+            return Err(self.wrong(format!("{} has no option {}", self.command.name, quoted(word))));
+        };
+        match option.value {
+            None => self.flags.push(option.flag),
+            Some(value) => {
+                let given = rest.next().ok_or_else(|| self.wrong(format!("{} needs {value}", option.flag)))?;
+                self.out = Some(given);
+            }
+        }
+        Ok(())
+    }
+
+    fn request(mut self) -> Result<Request, Failure> {
+        let most = self.command.operands.len();
+        let least = self.command.operands.iter().filter(|name| !name.starts_with('[')).count();
+        if let Some(surplus) = self.operands.get(most) {
+            return Err(self.wrong(format!("{} is one argument too many", quoted(surplus))));
+        }
+        if self.operands.len() < least {
+            return Err(self.wrong(format!("{} is missing", self.command.operands[self.operands.len()])));
+        }
+        let json = self.has(&JSON);
+        if json && (self.has(&BYTES) || self.out.is_some()) {
+            return Err(self.wrong("--json goes with neither --bytes nor -o".into()));
+        }
+        let ask = (self.command.ask)(&self)?;
+        Ok(Request { file: self.operands.swap_remove(0), ask, json })
+    }
+
+    pub fn has(&self, option: &Opt) -> bool {
+        self.flags.contains(&option.flag)
+    }
+
+    pub fn number(&self, place: usize) -> Result<u32, Failure> {
+        let word = &self.operands[place];
+        number(word).ok_or_else(|| self.misfit(place, "a number from 0 to 4294967295"))
+    }
+
+    pub fn track(&self, place: usize) -> Result<TrackId, Failure> {
+        self.number(place).map(TrackId)
+    }
+
+    pub fn media_time(&self, place: usize) -> Result<MediaTime, Failure> {
+        self.number(place).map(MediaTime)
+    }
+
+    /// Two media times, one after the other.
+    pub fn stretch(&self, place: usize) -> Result<Range<MediaTime>, Failure> {
+        Ok(self.media_time(place)?..self.media_time(place + 1)?)
+    }
+
+    pub fn movie_time(&self, place: usize) -> Result<MovieTime, Failure> {
+        self.number(place).map(MovieTime)
+    }
+
+    pub fn code(&self, place: usize) -> Result<FourCC, Failure> {
+        code(&self.operands[place]).ok_or_else(|| self.misfit(place, "four characters, or a number after 0x"))
+    }
+
+    /// An operand that may be left out.
+    pub fn if_given<T>(
+        &self,
+        place: usize,
+        read: impl Fn(&Words, usize) -> Result<T, Failure>,
+    ) -> Result<Option<T>, Failure> {
+        (place < self.operands.len()).then(|| read(self, place)).transpose()
+    }
+
+    fn misfit(&self, place: usize, wanted: &str) -> Failure {
+        let name = self.command.operands[place].trim_matches(['[', ']']);
+        self.wrong(format!("{name} is {wanted}, and not {}", quoted(&self.operands[place])))
+    }
+
+    fn wrong(&self, message: String) -> Failure {
+        Failure::Usage(message, self.command.usage())
+    }
+}
+
+/// A number below 2^32: decimal digits, or hex digits after 0x.
+fn number(word: &OsStr) -> Option<u32> {
+    let text = word.to_str()?;
+    let (digits, radix) = text.strip_prefix("0x").map_or((text, 10), |hex| (hex, 16));
+    // from_str_radix would take a sign as well.
+    let plain = digits.chars().all(|c| c.is_digit(radix));
+    u32::from_str_radix(digits, radix).ok().filter(|_| plain)
+}
+
+/// A four-character code: its characters, or its number after 0x.
+fn code(word: &OsStr) -> Option<FourCC> {
+    if let Ok(characters) = word.as_encoded_bytes().try_into() {
+        return Some(FourCC::from_bytes(characters));
+    }
+    number(word).filter(|_| word.as_encoded_bytes().starts_with(b"0x")).map(FourCC)
+}
+
+#[cfg(test)]
+mod tests {
+    use super::*;
+
+    #[test]
+    fn numbers() {
+        for (text, n) in [("0", 0), ("007", 7), ("4294967295", u32::MAX), ("0xFFffFFff", u32::MAX), ("0x0", 0)] {
+            assert_eq!(number(OsStr::new(text)), Some(n), "{text}");
+        }
+        for text in ["", "0x", "-1", "+1", "0x+1", " 1", "1 ", "1.0", "4294967296", "0x100000000", "0X1", "a", "１"] {
+            assert_eq!(number(OsStr::new(text)), None, "{text}");
+        }
+    }
+
+    #[test]
+    fn codes() {
+        assert_eq!(code(OsStr::new("avvb")), Some(FourCC::from_bytes(*b"avvb")));
+        assert_eq!(code(OsStr::new("0x61767662")), Some(FourCC::from_bytes(*b"avvb")));
+        assert_eq!(code(OsStr::new("0x01")), Some(FourCC::from_bytes(*b"0x01")));
+        for text in ["", "avv", "avvbb", "12345", "0x100000000"] {
+            assert_eq!(code(OsStr::new(text)), None, "{text}");
+        }
+    }
+}

@@ -1,0 +1,171 @@
+//! Tracks, samples, times, features and profiles.
+use super::{scale, seconds, Answer};
+use crate::failure::Failure;
+use crate::json::{document, Object, Value};
+use crate::table::{self, number, text};
+use chaldoref::{Feature, FourCC, MediaTime, Movie, MovieTime, ProfileRecord, Refusal, Shown, Track, TrackId};
+use std::io;
+
+pub fn tracks(movie: &Movie, to: Answer) -> Result<(), Failure> {
+    if to.json {
+        return Ok(document(to.out, |o| o.list("tracks", movie.tracks(), track_fields).map(drop))?);
+    }
+    let columns = [
+        number("id"),
+        text("subtype"),
+        number("scale"),
+        number("total"),
+        number("seconds"),
+        number("samples"),
+        number("chunks"),
+        number("edits"),
+    ];
+    let row = |t: &Track| {
+        let numbers = [t.scale, t.total.0, t.samples, t.chunks, t.edits].map(|n| n.to_string());
+        let [scale, total, samples, chunks, edits] = numbers;
+        let subtype = t.subtype.to_string();
+        [t.id.to_string(), subtype, scale, total, seconds(t.total, t.scale), samples, chunks, edits]
+    };
+    Ok(table::write(to.out, columns, movie.tracks(), row)?)
+}
+
+fn track_fields(o: &mut Object, t: &Track) -> io::Result<()> {
+    o.put("id", t.id.0)?.put("subtype", t.subtype.to_string())?.put("scale", t.scale)?;
+    o.put("total", t.total.0)?.put("samples", t.samples)?.put("chunks", t.chunks)?.put("edits", t.edits)?;
+    Ok(())
+}
+
+pub fn sample(movie: &Movie, track: TrackId, n: u32, to: Answer) -> Result<(), Failure> {
+    let s = movie.sample(track, n)?;
+    if to.json {
+        return Ok(document(to.out, |o| {
+            o.put("track", track.0)?.put("sample", n)?.put("decode", s.decode.0)?.put("duration", s.duration)?;
+            o.put("composition", s.composition)?.put("sync", s.sync)?.put("description", s.description)?;
+            o.put("chunk", s.chunk)?.put("offset", s.offset)?.put("size", s.size)?;
+            Ok(())
+        })?);
+    }
+    let columns = [
+        number("sample"),
+        number("decode"),
+        number("seconds"),
+        number("duration"),
+        number("composition"),
+        text("sync"),
+        number("description"),
+        number("chunk"),
+        number("offset"),
+        number("size"),
+    ];
+    let start = seconds(s.decode, scale(movie, track)?);
+    let sync = if s.sync { "yes" } else { "no" };
+    let [n, decode, duration] = [n, s.decode.0, s.duration].map(|n| n.to_string());
+    let [description, chunk, offset, size] = [s.description, s.chunk, s.offset, s.size].map(|n| n.to_string());
+    let composition = s.composition.to_string();
+    let row = [n, decode, start, duration, composition, sync.into(), description, chunk, offset, size];
+    Ok(table::write(to.out, columns, &[row], |row| row.clone())?)
+}
+
+pub fn sample_bytes(movie: &Movie, track: TrackId, n: u32, to: Answer) -> Result<(), Failure> {
+    Ok(to.out.write_all(movie.sample_bytes(track, n)?)?)
+}
+
+pub fn at(movie: &Movie, track: TrackId, time: MediaTime, to: Answer) -> Result<(), Failure> {
+    let n = movie.sample_at(track, time)?;
+    if to.json {
+        return Ok(document(to.out, |o| {
+            o.put("track", track.0)?.put("media_time", time.0)?.put("sample", n).map(drop)
+        })?);
+    }
+    let row = [time.to_string(), seconds(time, scale(movie, track)?), n.to_string()];
+    let columns = [number("media time"), number("seconds"), number("sample")];
+    Ok(table::write(to.out, columns, &[row], |row| row.clone())?)
+}
+
+pub fn map(movie: &Movie, track: TrackId, time: MovieTime, to: Answer) -> Result<(), Failure> {
+    let media = match movie.media_time(track, time)? {
+        Shown::At(media) => Some(media),
+        Shown::Nothing => None,
+    };
+    if to.json {
+        return Ok(document(to.out, |o| {
+            o.put("track", track.0)?.put("movie_time", time.0)?.put("media_time", media.map(|t| t.0)).map(drop)
+        })?);
+    }
+    let scale = scale(movie, track)?;
+    let [shown, start] = match media {
+        Some(media) => [media.to_string(), seconds(media, scale)],
+        None => ["nothing".into(), "-".into()],
+    };
+    let columns = [number("movie time"), number("media time"), number("seconds")];
+    Ok(table::write(to.out, columns, &[[time.to_string(), shown, start]], |row| row.clone())?)
+}
+
+/// All four features; that one of them cannot be computed is an answer here.
+pub fn features(movie: &Movie, track: TrackId, to: Answer) -> Result<(), Failure> {
+    let mut values = Vec::new();
+    for feature in Feature::ALL {
+        match movie.feature(track, feature) {
+            Err(refusal) if refusal != Refusal::NotComputed => return Err(refusal.into()),
+            value => values.push((feature.code(), value)),
+        }
+    }
+    print_features(track, &values, to)
+}
+
+pub fn feature(movie: &Movie, track: TrackId, code: FourCC, to: Answer) -> Result<(), Failure> {
+    let value = movie.feature(track, code)?;
+    print_features(track, &[(code, Ok(value))], to)
+}
+
+fn print_features(track: TrackId, values: &[(FourCC, Result<u32, Refusal>)], to: Answer) -> Result<(), Failure> {
+    if to.json {
+        return Ok(document(to.out, |o| {
+            o.put("track", track.0)?.list("features", values, |o, (code, value)| {
+                let refused = value.err().map(Refusal::number);
+                o.put("code", code.to_string())?.put("value", value.ok())?.put("refused", refused).map(drop)
+            })?;
+            Ok(())
+        })?);
+    }
+    let columns = [text("code"), number("value"), text("meaning")];
+    let row = |(code, value): &(FourCC, Result<u32, Refusal>)| {
+        let [value, meaning] = match value {
+            Ok(value) => [value.to_string(), meaning(*code, *value)],
+            Err(refusal) => [format!("refused {}", refusal.number()), refusal.to_string()],
+        };
+        [code.to_string(), value, meaning]
+    };
+    Ok(table::write(to.out, columns, values, row)?)
+}
+
+/// What a feature's number says.
+fn meaning(code: FourCC, value: u32) -> String {
+    match Feature::ALL.into_iter().find(|feature| feature.code() == code) {
+        Some(Feature::AverageVideoBitRate | Feature::AverageAudioBitRate) => format!("{value} bits a second"),
+        Some(Feature::GreatestPicture) => format!("{} x {} pixels", value >> 16, value & 0xffff),
+        Some(Feature::HighestFrameRate) => format!("{:.3} frames a second", f64::from(value) / 65536.0),
+        None => String::new(),
+    }
+}
+
+pub fn profile(movie: &Movie, track: Option<TrackId>, to: Answer) -> Result<(), Failure> {
+    let records = match track {
+        Some(track) => movie.profile(track)?,
+        None => movie.movie_profile(),
+    };
+    if to.json {
+        return Ok(document(to.out, |o| {
+            let track = track.map_or(Value::Null, |track| track.0.into());
+            o.put("track", track)?.list("records", &records, record_fields).map(drop)
+        })?);
+    }
+    let columns = [number("part"), text("code"), number("value"), text("hex")];
+    let row =
+        |r: &ProfileRecord| [r.part.to_string(), r.code.to_string(), r.value.to_string(), format!("{:#010x}", r.value)];
+    Ok(table::write(to.out, columns, &records, row)?)
+}
+
+fn record_fields(o: &mut Object, r: &ProfileRecord) -> io::Result<()> {
+    o.put("part", r.part)?.put("code", r.code.to_string())?.put("value", r.value).map(drop)
+}

@@ -1,0 +1,96 @@
+//! Stretches of film as byte ranges, and the slips that file them.
+use super::{scale, seconds, Answer};
+use crate::failure::Failure;
+use crate::input::STANDARD;
+use crate::json::{document, Object};
+use crate::table::{self, number};
+use chaldoref::{ByteRange, MediaTime, Movie, Slip, TrackId};
+use std::ffi::OsStr;
+use std::fs;
+use std::io::{self, Write};
+use std::ops::Range;
+use std::os::unix::fs::MetadataExt;
+
+pub fn stretch(movie: &Movie, track: TrackId, time: &Range<MediaTime>, to: Answer) -> Result<(), Failure> {
+    let stretch = movie.stretch(track, time.clone())?;
+    if to.json {
+        return Ok(document(to.out, |o| {
+            o.put("track", track.0)?.put("a", time.start.0)?.put("b", time.end.0)?;
+            o.list("pairs", &stretch.pairs, pair_fields)?.put("bytes", stretch.bytes).map(drop)
+        })?);
+    }
+    print_pairs(&stretch.pairs, stretch.bytes, to.out)?;
+    // A stretch that ends before it starts is refused.
+    let film_time = MediaTime(time.end.0 - time.start.0);
+    Ok(writeln!(to.out, "film time {film_time} ({} seconds)", seconds(film_time, scale(movie, track)?))?)
+}
+
+/// The film's own bytes, range after range.
+pub fn stretch_bytes(movie: &Movie, track: TrackId, time: &Range<MediaTime>, to: Answer) -> Result<(), Failure> {
+    for pair in movie.stretch(track, time.clone())?.pairs {
+        // A film in which a chunk passes the end is refused 12.
+        to.out.write_all(pair.of(movie.file()).expect("the ranges of a stretch lie within its film"))?;
+    }
+    Ok(())
+}
+
+pub fn slip(movie: &Movie, track: TrackId, time: &Range<MediaTime>, to: Answer) -> Result<(), Failure> {
+    let slip = movie.write_slip(track, time.clone())?;
+    if to.json {
+        let hex: String = slip.iter().map(|byte| format!("{byte:02x}")).collect();
+        return Ok(document(to.out, |o| {
+            o.put("track", track.0)?.put("a", time.start.0)?.put("b", time.end.0)?.put("slip", hex).map(drop)
+        })?);
+    }
+    for (i, byte) in slip.iter().enumerate() {
+        write!(to.out, "{}{byte:02X}", if i > 0 { " " } else { "" })?;
+    }
+    Ok(to.out.write_all(b"\n")?)
+}
+
+/// Writes a slip's bytes to the file of that name, which must not be the film.
+pub fn write_out(slip: &[u8], name: &OsStr, film: &OsStr, to: Answer) -> Result<(), Failure> {
+    if name == STANDARD {
+        return Ok(to.out.write_all(slip)?);
+    }
+    let written = if same_file(name, film) {
+        Err(io::Error::new(io::ErrorKind::AlreadyExists, "this is the film itself"))
+    } else {
+        fs::write(name, slip)
+    };
+    written.map_err(|error| Failure::NotWritten(name.to_owned(), error))
+}
+
+/// Whether two names are names of one file. A file that is not there yet is no other's.
+fn same_file(name: &OsStr, other: &OsStr) -> bool {
+    let place = |name| fs::metadata(name).map(|file| (file.dev(), file.ino()));
+    matches!((place(name), place(other)), (Ok(one), Ok(two)) if one == two)
+}
+
+pub fn read_slip(bytes: &[u8], to: Answer) -> Result<(), Failure> {
+    let slip = Slip::read(bytes)?;
+    if to.json {
+        return Ok(document(to.out, |o| {
+            o.put("track", slip.id.0)?.put("scale", slip.scale)?.put("a", slip.a.0)?.put("b", slip.b.0)?;
+            o.list("pairs", &slip.pairs, pair_fields)?.put("bytes", slip.bytes()).map(drop)
+        })?);
+    }
+    let columns = [number("track"), number("scale"), number("a"), number("b"), number("film time"), number("seconds")];
+    let film_time = MediaTime(slip.film_time());
+    let [track, scale, a, b, time] = [slip.id.0, slip.scale, slip.a.0, slip.b.0, film_time.0].map(|n| n.to_string());
+    let row = [track, scale, a, b, time, seconds(film_time, slip.scale)];
+    table::write(to.out, columns, &[row], |row| row.clone())?;
+    writeln!(to.out)?;
+    Ok(print_pairs(&slip.pairs, slip.bytes(), to.out)?)
+}
+
+fn pair_fields(o: &mut Object, pair: &ByteRange) -> io::Result<()> {
+    o.put("offset", pair.offset)?.put("length", pair.length).map(drop)
+}
+
+fn print_pairs(pairs: &[ByteRange], bytes: u64, out: &mut dyn Write) -> io::Result<()> {
+    let row = |pair: &ByteRange| [pair.offset.to_string(), pair.length.to_string()];
+    table::write(out, [number("offset"), number("length")], pairs, row)?;
+    let s = if pairs.len() == 1 { "" } else { "s" };
+    writeln!(out, "{} range{s}, {bytes} bytes", pairs.len())
+}

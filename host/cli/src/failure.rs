@@ -1,0 +1,78 @@
+//! What ends a command without an answer: its message and its exit status.
+use crate::input;
+use chaldoref::Refusal;
+use std::ffi::OsString;
+use std::io;
+use std::process::ExitCode;
+
+const REFUSED: u8 = 1;
+const BAD_USAGE: u8 = 2;
+
+pub enum Failure {
+    /// What is wrong with the arguments, and how they are to be.
+    Usage(String, String),
+    /// The film or slip could not be read.
+    Input(io::Error),
+    /// The film, the question or the slip was refused.
+    Refused(Refusal),
+    /// The file of that name could not be written.
+    NotWritten(OsString, io::Error),
+    /// Standard output could not be written.
+    Output(io::Error),
+}
+
+impl From<Refusal> for Failure {
+    fn from(refusal: Refusal) -> Failure {
+        Failure::Refused(refusal)
+    }
+}
+
+impl From<io::Error> for Failure {
+    fn from(error: io::Error) -> Failure {
+        Failure::Output(error)
+    }
+}
+
+impl Failure {
+    /// Whoever reads standard output has seen enough, which is no failure.
+    fn is_broken_pipe(&self) -> bool {
+        matches!(self, Failure::Output(error) if error.kind() == io::ErrorKind::BrokenPipe)
+    }
+
+    pub fn status(&self) -> ExitCode {
+        match self {
+            Failure::Refused(_) => ExitCode::from(REFUSED),
+            _ if self.is_broken_pipe() => ExitCode::SUCCESS,
+            _ => ExitCode::from(BAD_USAGE),
+        }
+    }
+
+    /// What standard error is told of it, the file being the one that was read.
+    pub fn message(&self, file: &str) -> String {
+        match self {
+            Failure::Usage(wrong, usage) => format!("chaldoref: {wrong}\n{usage}"),
+            Failure::Input(error) => format!("chaldoref: {file}: {error}\n"),
+            Failure::Refused(refusal) => {
+                format!("chaldoref: {file}: refused {}: {refusal}\n{}", refusal.number(), hint(*refusal))
+            }
+            Failure::NotWritten(name, error) => format!("chaldoref: {}: {error}\n", input::shown(name)),
+            Failure::Output(_) if self.is_broken_pipe() => String::new(),
+            Failure::Output(error) => format!("chaldoref: standard output: {error}\n"),
+        }
+    }
+}
+
+/// A second line for the refusals that films from ffmpeg meet.
+fn hint(refusal: Refusal) -> &'static str {
+    match refusal {
+        Refusal::LeafVersion => {
+            "chaldoref: hint: atoms are read in version 0 alone; ffmpeg writes a ctts of version 1 with \
+             -movflags negative_cts_offsets\n"
+        }
+        Refusal::EditList => {
+            "chaldoref: hint: for films with B-frames ffmpeg writes an edit list that ends past their samples; \
+             with -use_editlist 0 it writes none\n"
+        }
+        _ => "",
+    }
+}

@@ -1,0 +1,154 @@
+//! JSON documents, written as they are made: a list of a million pairs is never held as text.
+use std::fmt;
+use std::io::{self, Write};
+
+/// A value that is no object and no list.
+pub enum Value {
+    Null,
+    Bool(bool),
+    Number(i128),
+    Text(String),
+}
+
+impl From<bool> for Value {
+    fn from(value: bool) -> Value {
+        Value::Bool(value)
+    }
+}
+
+impl From<u32> for Value {
+    fn from(value: u32) -> Value {
+        Value::Number(value.into())
+    }
+}
+
+impl From<u64> for Value {
+    fn from(value: u64) -> Value {
+        Value::Number(value.into())
+    }
+}
+
+impl From<i64> for Value {
+    fn from(value: i64) -> Value {
+        Value::Number(value.into())
+    }
+}
+
+impl From<String> for Value {
+    fn from(value: String) -> Value {
+        Value::Text(value)
+    }
+}
+
+impl<T: Into<Value>> From<Option<T>> for Value {
+    fn from(value: Option<T>) -> Value {
+        value.map_or(Value::Null, Into::into)
+    }
+}
+
+impl fmt::Display for Value {
+    fn fmt(&self, f: &mut fmt::Formatter<'_>) -> fmt::Result {
+        match self {
+            Value::Null => f.write_str("null"),
+            Value::Bool(value) => value.fmt(f),
+            Value::Number(value) => value.fmt(f),
+            Value::Text(text) => quoted(text, f),
+        }
+    }
+}
+
+/// A string with its marks; what JSON asks to be escaped is.
+fn quoted(text: &str, f: &mut fmt::Formatter<'_>) -> fmt::Result {
+    f.write_str("\"")?;
+    for c in text.chars() {
+        match c {
+            '"' | '\\' => write!(f, "\\{c}")?,
+            '\0'..='\x1f' => write!(f, "\\u{:04x}", u32::from(c))?,
+            _ => write!(f, "{c}")?,
+        }
+    }
+    f.write_str("\"")
+}
+
+/// An object whose fields are being written.
+pub struct Object<'w> {
+    out: &'w mut dyn Write,
+    empty: bool,
+}
+
+/// A document: one object, on a line of its own.
+pub fn document(out: &mut dyn Write, fields: impl FnOnce(&mut Object) -> io::Result<()>) -> io::Result<()> {
+    object(out, fields)?;
+    out.write_all(b"\n")
+}
+
+fn object(out: &mut dyn Write, fields: impl FnOnce(&mut Object) -> io::Result<()>) -> io::Result<()> {
+    out.write_all(b"{")?;
+    fields(&mut Object { out, empty: true })?;
+    out.write_all(b"}")
+}
+
+impl Object<'_> {
+    /// A field. The object is handed back for the next one.
+    pub fn put(&mut self, key: &'static str, value: impl Into<Value>) -> io::Result<&mut Self> {
+        self.key(key)?;
+        write!(self.out, "{}", value.into())?;
+        Ok(self)
+    }
+
+    /// A field that is a list of objects.
+    pub fn list<T>(
+        &mut self,
+        key: &'static str,
+        items: &[T],
+        fields: impl Fn(&mut Object, &T) -> io::Result<()>,
+    ) -> io::Result<&mut Self> {
+        self.key(key)?;
+        self.out.write_all(b"[")?;
+        for (i, item) in items.iter().enumerate() {
+            if i > 0 {
+                self.out.write_all(b",")?;
+            }
+            object(self.out, |object| fields(object, item))?;
+        }
+        self.out.write_all(b"]")?;
+        Ok(self)
+    }
+
+    fn key(&mut self, key: &'static str) -> io::Result<()> {
+        let comma = if self.empty { "" } else { "," };
+        self.empty = false;
+        write!(self.out, "{comma}\"{key}\":")
+    }
+}
+
+#[cfg(test)]
+mod tests {
+    use super::*;
+
+    fn written(fields: impl FnOnce(&mut Object) -> io::Result<()>) -> String {
+        let mut out = Vec::new();
+        document(&mut out, fields).unwrap();
+        String::from_utf8(out).unwrap()
+    }
+
+    #[test]
+    fn documents() {
+        assert_eq!(written(|_| Ok(())), "{}\n");
+        let all = written(|o| {
+            o.put("a", -1i64)?.put("b", u64::MAX)?.put("c", true)?.put("d", None::<u32>)?;
+            o.list("e", &[1u32, 2], |o, n| o.put("n", *n).map(drop))?.list("f", &[(); 0], |_, _| Ok(()))?;
+            Ok(())
+        });
+        assert_eq!(
+            all,
+            "{\"a\":-1,\"b\":18446744073709551615,\"c\":true,\"d\":null,\"e\":[{\"n\":1},{\"n\":2}],\"f\":[]}\n"
+        );
+    }
+
+    #[test]
+    fn text_is_escaped() {
+        let text = Value::from(String::from("a\"b\\c\n\0\u{7f}é"));
+        assert_eq!(text.to_string(), "\"a\\\"b\\\\c\\u000a\\u0000\u{7f}é\"");
+    }
+}

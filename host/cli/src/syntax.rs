@@ -1,0 +1,96 @@
+//! The commands: what each takes, and what it asks.
+use crate::args::{Ask, Words};
+use crate::failure::Failure;
+
+/// An option of a command, with its value's name if it takes one.
+pub struct Opt {
+    pub flag: &'static str,
+    pub value: Option<&'static str>,
+    pub about: &'static str,
+}
+
+/// A command. Operands in brackets may be left out.
+pub struct Command {
+    pub name: &'static str,
+    pub operands: &'static [&'static str],
+    pub options: &'static [&'static Opt],
+    pub about: &'static str,
+    pub ask: fn(&Words) -> Result<Ask, Failure>,
+}
+
+pub const JSON: Opt = Opt { flag: "--json", value: None, about: "print one JSON document" };
+pub const BYTES: Opt = Opt { flag: "--bytes", value: None, about: "write the film's own bytes instead" };
+pub const HEX: Opt = Opt { flag: "--hex", value: None, about: "read hex text and not raw bytes" };
+pub const OUT: Opt = Opt { flag: "-o", value: Some("OUT"), about: "write raw bytes to OUT; - is standard output" };
+
+pub static COMMANDS: [Command; 9] = [
+    Command {
+        name: "tracks",
+        operands: &["FILE"],
+        options: &[&JSON],
+        about: "the tracks of a movie, in file order",
+        ask: |_| Ok(Ask::Tracks),
+    },
+    Command {
+        name: "sample",
+        operands: &["FILE", "TRACK", "N"],
+        options: &[&BYTES, &JSON],
+        about: "sample N of a track, numbered from 1",
+        ask: |words| Ok(Ask::Sample { track: words.track(1)?, n: words.number(2)?, bytes: words.has(&BYTES) }),
+    },
+    Command {
+        name: "at",
+        operands: &["FILE", "TRACK", "MEDIA-TIME"],
+        options: &[&JSON],
+        about: "the number of the sample at a media time",
+        ask: |words| Ok(Ask::At { track: words.track(1)?, time: words.media_time(2)? }),
+    },
+    Command {
+        name: "map",
+        operands: &["FILE", "TRACK", "MOVIE-TIME"],
+        options: &[&JSON],
+        about: "the media time that a track shows at a movie time",
+        ask: |words| Ok(Ask::Map { track: words.track(1)?, time: words.movie_time(2)? }),
+    },
+    Command {
+        name: "stretch",
+        operands: &["FILE", "TRACK", "A", "B"],
+        options: &[&BYTES, &JSON],
+        about: "the byte ranges of a track from media time A up to B",
+        ask: |words| Ok(Ask::Stretch { track: words.track(1)?, time: words.stretch(2)?, bytes: words.has(&BYTES) }),
+    },
+    Command {
+        name: "slip",
+        operands: &["FILE", "TRACK", "A", "B"],
+        options: &[&OUT, &JSON],
+        about: "the slip of a track from media time A up to B, in hex",
+        ask: |words| Ok(Ask::Slip { track: words.track(1)?, time: words.stretch(2)?, out: words.out.clone() }),
+    },
+    Command {
+        name: "read-slip",
+        operands: &["FILE"],
+        options: &[&HEX, &JSON],
+        about: "what a slip says",
+        ask: |words| Ok(Ask::ReadSlip { hex: words.has(&HEX) }),
+    },
+    Command {
+        name: "features",
+        operands: &["FILE", "TRACK", "[CODE]"],
+        options: &[&JSON],
+        about: "the features avvb, avab, tvsz and vfps of a track, or that of one code",
+        ask: |words| Ok(Ask::Features { track: words.track(1)?, code: words.if_given(2, Words::code)? }),
+    },
+    Command {
+        name: "profile",
+        operands: &["FILE", "[TRACK]"],
+        options: &[&JSON],
+        about: "the stored profile of a movie, or of a track",
+        ask: |words| Ok(Ask::Profile { track: words.if_given(1, Words::track)? }),
+    },
+];
+
+impl Command {
+    pub fn named(name: &str) -> Option<&'static Command> {
+        COMMANDS.iter().find(|command| command.name == name)
+    }
+}

@@ -1,0 +1,194 @@
+//! Whole outputs of each command, for people and for machines.
+mod common;
+
+use common::{answers, run, run_on, Folder, Ran};
+use reference::film::{self, w_movie, w_track};
+use reference::made::{sound_track, w_with};
+
+const SLIP: &str = "01 01 D8 04 18 49 02 CC 08 32 84 07 46\n";
+const SLIP_BYTES: [u8; 13] = [0x01, 0x01, 0xd8, 0x04, 0x18, 0x49, 0x02, 0xcc, 0x08, 0x32, 0x84, 0x07, 0x46];
+
+/// A film of those tracks.
+fn film_of(tracks: Vec<film::Track>) -> Vec<u8> {
+    film::Movie { tracks, ..w_movie() }.file_of(4096).bytes()
+}
+
+#[track_caller]
+fn answers_on(film: &[u8], args: &[&str], out: &str) {
+    assert_eq!(run_on(film, args), Ran { out: out.into(), err: String::new(), status: 0 }, "{args:?}");
+}
+
+#[test]
+fn tracks() {
+    answers(
+        "tracks films/w.mov",
+        "id  subtype  scale  total  seconds  samples  chunks  edits\n \
+          1  vide       600    120    0.200        4       2      0\n",
+    );
+    answers(
+        "tracks films/w.mov --json",
+        "{\"tracks\":[{\"id\":1,\"subtype\":\"vide\",\"scale\":600,\"total\":120,\"samples\":4,\"chunks\":2,\
+         \"edits\":0}]}\n",
+    );
+}
+
+#[test]
+fn tracks_with_odd_subtypes() {
+    let named = |id, subtype: &[u8; 4]| w_with(|track| (track.id, track.subtype) = (id, *subtype));
+    let film = film_of(vec![named(1, b"a\"\\b"), named(4_000_000_000, b"\0\x01ab"), sound_track(7, [8, 16, 24])]);
+    answers_on(
+        &film,
+        &["tracks", "-"],
+        "        id  subtype     scale  total  seconds  samples  chunks  edits\n         \
+                  1  a\"\\b          600    120    0.200        4       2      0\n\
+         4000000000  0x00016162    600    120    0.200        4       2      0\n         \
+                  7  soun        44100      9    0.000        9       3      1\n",
+    );
+    let json = run_on(&film, &["tracks", "-", "--json"]).out;
+    assert!(json.contains("\"id\":1,\"subtype\":\"a\\\"\\\\b\","), "{json}");
+    assert!(json.contains("\"id\":4000000000,\"subtype\":\"0x00016162\","), "{json}");
+}
+
+#[test]
+fn no_tracks() {
+    answers_on(&film_of(vec![]), &["tracks", "-"], "id  subtype  scale  total  seconds  samples  chunks  edits\n");
+    answers_on(&film_of(vec![]), &["tracks", "-", "--json"], "{\"tracks\":[]}\n");
+}
+
+#[test]
+fn samples() {
+    answers(
+        "sample films/w.mov 1 3",
+        "sample  decode  seconds  duration  composition  sync  description  chunk  offset  size\n     \
+              3      48    0.080        24           48  yes             1      1    1150     0\n",
+    );
+    answers(
+        "sample --json films/w.mov 1 4",
+        "{\"track\":1,\"sample\":4,\"decode\":72,\"duration\":48,\"composition\":72,\"sync\":true,\"description\":1,\
+         \"chunk\":2,\"offset\":900,\"size\":70}\n",
+    );
+    let film = film_of(vec![film::Track { ctts: Some(vec![(4, -7)]), stss: Some(vec![]), ..w_track() }]);
+    answers_on(
+        &film,
+        &["sample", "-", "1", "1"],
+        "sample  decode  seconds  duration  composition  sync  description  chunk  offset  size\n     \
+              1       0    0.000        24           -7  no              1      1    1000   100\n",
+    );
+}
+
+#[test]
+fn bytes() {
+    answers("sample films/two-hoses.mov 2 3 --bytes", "hose 2 picture 3");
+    answers("sample films/w.mov 1 3 --bytes", "");
+    answers("stretch --bytes films/two-hoses.mov 2 24 96", "hose 2 picture 2hose 2 picture 3hose 2 picture 4");
+}
+
+#[test]
+fn times() {
+    answers("at films/w.mov 1 24", "media time  seconds  sample\n        24    0.040       2\n");
+    answers("at films/w.mov 0x1 0x77 --json", "{\"track\":1,\"media_time\":119,\"sample\":4}\n");
+    answers("map films/w.mov 1 60", "movie time  media time  seconds\n        60          60    0.100\n");
+    answers("map films/w.mov 1 60 --json", "{\"track\":1,\"movie_time\":60,\"media_time\":60}\n");
+}
+
+#[test]
+fn times_in_edits() {
+    let edits = Some(vec![(60, -1, 65536), (60, 24, 65536)]);
+    let film = film_of(vec![film::Track { edits, ..w_track() }]);
+    answers_on(&film, &["map", "-", "1", "59"], "movie time  media time  seconds\n        59     nothing        -\n");
+    answers_on(&film, &["map", "-", "1", "59", "--json"], "{\"track\":1,\"movie_time\":59,\"media_time\":null}\n");
+    answers_on(&film, &["map", "-", "1", "119"], "movie time  media time  seconds\n       119          83    0.138\n");
+}
+
+#[test]
+fn stretches() {
+    answers(
+        "stretch films/w.mov 1 24 73",
+        "offset  length\n  1100      50\n   900      70\n2 ranges, 120 bytes\nfilm time 49 (0.082 seconds)\n",
+    );
+    answers(
+        "stretch films/w.mov 1 0 1",
+        "offset  length\n  1000     100\n1 range, 100 bytes\nfilm time 1 (0.002 seconds)\n",
+    );
+    answers(
+        "stretch films/w.mov 1 0 120 --json",
+        "{\"track\":1,\"a\":0,\"b\":120,\"pairs\":[{\"offset\":1000,\"length\":150},{\"offset\":900,\"length\":70}],\
+         \"bytes\":220}\n",
+    );
+}
+
+#[test]
+fn slips() {
+    answers("slip films/w.mov 1 24 73", SLIP);
+    answers(
+        "slip films/w.mov 1 24 73 --json",
+        "{\"track\":1,\"a\":24,\"b\":73,\"slip\":\"0101d804184902cc0832840746\"}\n",
+    );
+    let folder = Folder::new("slips");
+    let path = folder.path("w.slip");
+    let name = path.to_str().unwrap();
+    answers(&format!("slip films/w.mov 1 24 73 -o {name}"), "");
+    assert_eq!(std::fs::read(&path).unwrap(), SLIP_BYTES);
+    let raw = common::program(&["slip", "films/w.mov", "1", "24", "73", "-o", "-"]).output().unwrap();
+    assert_eq!(raw.stdout, SLIP_BYTES);
+    assert_eq!(run(&["read-slip", name]), run_on(SLIP.as_bytes(), &["read-slip", "--hex", "-"]));
+}
+
+#[test]
+fn slips_read() {
+    answers_on(
+        &SLIP_BYTES,
+        &["read-slip", "-"],
+        "track  scale   a   b  film time  seconds\n    1    600  24  73         49    0.082\n\n\
+         offset  length\n  1100      50\n   900      70\n2 ranges, 120 bytes\n",
+    );
+    answers_on(
+        b"0101D804\n184902 CC08\t32 840746",
+        &["read-slip", "--hex", "--json", "-"],
+        "{\"track\":1,\"scale\":600,\"a\":24,\"b\":73,\"pairs\":[{\"offset\":1100,\"length\":50},\
+         {\"offset\":900,\"length\":70}],\"bytes\":120}\n",
+    );
+}
+
+#[test]
+fn features() {
+    answers(
+        "features films/w.mov 1",
+        "code       value  meaning\n\
+         avvb        8800  8800 bits a second\n\
+         avab  refused 18  the feature cannot be computed\n\
+         tvsz    20971760  320 x 240 pixels\n\
+         vfps     1638400  25.000 frames a second\n",
+    );
+    answers(
+        "features films/w.mov 1 --json",
+        "{\"track\":1,\"features\":[{\"code\":\"avvb\",\"value\":8800,\"refused\":null},\
+         {\"code\":\"avab\",\"value\":null,\"refused\":18},{\"code\":\"tvsz\",\"value\":20971760,\"refused\":null},\
+         {\"code\":\"vfps\",\"value\":1638400,\"refused\":null}]}\n",
+    );
+    answers("features films/w.mov 1 avvb", "code  value  meaning\navvb   8800  8800 bits a second\n");
+    answers(
+        "features films/w.mov 1 0x76667073 --json",
+        "{\"track\":1,\"features\":[{\"code\":\"vfps\",\"value\":1638400,\"refused\":null}]}\n",
+    );
+}
+
+#[test]
+fn profiles() {
+    let records = |value| Some(vec![[0, 1, u32::from_be_bytes(*b"vfps"), value], [0, 2, 5, 6]]);
+    let tracks = vec![film::Track { profile: records(0x0019_0000), ..w_track() }];
+    let film = film::Movie { tracks, profile: records(7), ..w_movie() }.file_of(4096).bytes();
+    answers_on(
+        &film,
+        &["profile", "-", "1"],
+        "part  code          value  hex\n   \
+            1  vfps        1638400  0x00190000\n   \
+            2  0x00000005        6  0x00000006\n",
+    );
+    let movies =
+        "\"records\":[{\"part\":1,\"code\":\"vfps\",\"value\":7},{\"part\":2,\"code\":\"0x00000005\",\"value\":6}]}\n";
+    answers_on(&film, &["profile", "-", "--json"], &format!("{{\"track\":null,{movies}"));
+    answers_on(&film, &["profile", "-", "0", "--json"], &format!("{{\"track\":0,{movies}"));
+    answers("profile films/w.mov", "part  code  value  hex\n");
+    answers("profile films/w.mov 1 --json", "{\"track\":1,\"records\":[]}\n");
+}

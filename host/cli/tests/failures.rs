@@ -1,0 +1,175 @@
+//! Refusals, bad usage and files that cannot be read or written: messages and exit statuses.
+mod common;
+
+use common::{program, refuses, run, run_on, words, Folder, Ran, HOSES, W};
+use reference::film::{w, w_movie, w_track, Movie};
+use reference::made::spoiled;
+use std::fs::File;
+use std::process::Stdio;
+
+#[test]
+fn questions_refused() {
+    let outside = "the sample number is not in 1 to N, or the time or stretch lies outside";
+    refuses("sample films/w.mov 1 0", &format!("chaldoref: films/w.mov: refused 15: {outside}\n"));
+    refuses("sample films/w.mov 1 5 --bytes", &format!("chaldoref: films/w.mov: refused 15: {outside}\n"));
+    refuses("at films/w.mov 1 120", &format!("chaldoref: films/w.mov: refused 15: {outside}\n"));
+    refuses("map films/w.mov 1 120", &format!("chaldoref: films/w.mov: refused 15: {outside}\n"));
+    refuses("stretch films/w.mov 1 73 24", &format!("chaldoref: films/w.mov: refused 15: {outside}\n"));
+    refuses("slip films/w.mov 1 24 24", &format!("chaldoref: films/w.mov: refused 15: {outside}\n"));
+    refuses("sample films/w.mov 2 1", "chaldoref: films/w.mov: refused 14: no track has that ID\n");
+    refuses("features films/w.mov 2", "chaldoref: films/w.mov: refused 14: no track has that ID\n");
+    refuses("profile films/w.mov 2", "chaldoref: films/w.mov: refused 14: no track has that ID\n");
+    refuses("features films/w.mov 1 avab", "chaldoref: films/w.mov: refused 18: the feature cannot be computed\n");
+    refuses("read-slip films/w.mov", "chaldoref: films/w.mov: refused 17: a slip is malformed\n");
+}
+
+#[test]
+fn a_refusal_is_a_document_too() {
+    let expected = Ran {
+        out: "{\"refused\":14,\"reason\":\"no track has that ID\"}\n".into(),
+        err: "chaldoref: films/w.mov: refused 14: no track has that ID\n".into(),
+        status: 1,
+    };
+    assert_eq!(run(&["at", W, "9", "0", "--json"]), expected);
+}
+
+#[test]
+fn films_refused() {
+    let film_of = |track| Movie { tracks: vec![track], ..w_movie() }.file_of(4096);
+    for (number, name, film) in spoiled(&w_track(), film_of) {
+        let ran = run_on(&film.bytes(), &["tracks", "-"]);
+        let reason = chaldoref::Refusal::from_number(number).unwrap();
+        let first = format!("chaldoref: standard input: refused {number}: {reason}");
+        assert_eq!((ran.out.as_str(), ran.status, ran.err.lines().next()), ("", 1, Some(first.as_str())), "{name}");
+        let hinted = number == 4 || number == 13;
+        assert_eq!(ran.err.lines().count(), if hinted { 2 } else { 1 }, "{}", ran.err);
+    }
+}
+
+#[test]
+fn hints() {
+    let film_of = |track| Movie { tracks: vec![track], ..w_movie() }.file_of(4096);
+    let said = |wanted| {
+        let films = spoiled(&w_track(), film_of);
+        let (_, _, film) = films.into_iter().find(|(number, _, _)| *number == wanted).unwrap();
+        run_on(&film.bytes(), &["tracks", "-"]).err
+    };
+    assert_eq!(
+        said(13),
+        "chaldoref: standard input: refused 13: an edit list is wrong\n\
+         chaldoref: hint: for films with B-frames ffmpeg writes an edit list that ends past their samples; \
+         with -use_editlist 0 it writes none\n"
+    );
+    assert_eq!(
+        said(4),
+        "chaldoref: standard input: refused 4: a read leaf has a body whose first byte is not 0\n\
+         chaldoref: hint: atoms are read in version 0 alone; ffmpeg writes a ctts of version 1 with \
+         -movflags negative_cts_offsets\n"
+    );
+}
+
+/// Bad usage writes nothing to standard output, and says what is wrong and what the command takes.
+#[track_caller]
+fn bad_usage(line: &str, wrong: &str, usage: &str) {
+    let err = format!("chaldoref: {wrong}\nusage: chaldoref {usage}\n");
+    assert_eq!(run(&words(line)), Ran { out: String::new(), err, status: 2 }, "{line}");
+}
+
+#[test]
+fn usage() {
+    let all = "tracks|sample|at|map|stretch|slip|read-slip|features|profile FILE ...\n       chaldoref --help";
+    bad_usage("", "no command is named", all);
+    bad_usage("track films/w.mov", "there is no command 'track'", all);
+    bad_usage("--json", "there is no command '--json'", all);
+    bad_usage("help track", "there is no command 'track'", all);
+    bad_usage("tracks", "FILE is missing", "tracks FILE [--json]");
+    bad_usage("tracks a b", "'b' is one argument too many", "tracks FILE [--json]");
+    bad_usage("tracks a --bytes", "tracks has no option '--bytes'", "tracks FILE [--json]");
+    bad_usage("sample a 1", "N is missing", "sample FILE TRACK N [--bytes] [--json]");
+    let both = "--json goes with neither --bytes nor -o";
+    bad_usage("sample a 1 1 --json --bytes", both, "sample FILE TRACK N [--bytes] [--json]");
+    bad_usage("slip a 1 0 1 --json -o b", both, "slip FILE TRACK A B [-o OUT] [--json]");
+    bad_usage("slip a 1 0 1 -o", "-o needs OUT", "slip FILE TRACK A B [-o OUT] [--json]");
+    let codes = "CODE is four characters, or a number after 0x, and not 'avv'";
+    bad_usage("features a 1 avv", codes, "features FILE TRACK [CODE] [--json]");
+}
+
+#[test]
+fn numbers() {
+    for (line, name) in [("at a X 0", "TRACK"), ("at a 0 X", "MEDIA-TIME"), ("map a 0 X", "MOVIE-TIME")] {
+        for text in ["4294967296", "0x100000000", "1.5", "x", "0x", "+1"] {
+            let ran = run(&words(&line.replace('X', text)));
+            let first = format!("chaldoref: {name} is a number from 0 to 4294967295, and not '{text}'");
+            assert_eq!((ran.err.lines().next(), ran.status), (Some(first.as_str()), 2));
+        }
+    }
+    // The greatest number is a good one.
+    assert_eq!(run(&["at", W, "0xffffffff", "4294967295"]).status, 1);
+    // A number with a sign looks like an option.
+    assert_eq!(run(&["at", W, "1", "-1"]).err.lines().next(), Some("chaldoref: at has no option '-1'"));
+    assert_eq!(run(&["at", "--", W, "1", "-1"]).status, 2);
+}
+
+#[test]
+fn unreadable_files() {
+    let failed =
+        |name: &str, reason: &str| Ran { out: String::new(), err: format!("chaldoref: {name}: {reason}\n"), status: 2 };
+    assert_eq!(run(&["tracks", "films/none.mov"]), failed("films/none.mov", "No such file or directory (os error 2)"));
+    assert_eq!(run(&["tracks", "films", "--json"]), failed("films", "Is a directory (os error 21)"));
+    assert_eq!(run(&["read-slip", "--hex", HOSES]), failed(HOSES, "not pairs of hex digits"));
+    let slip = run(&["slip", W, "1", "0", "1", "-o", "films/none/w.slip"]);
+    assert_eq!(slip, failed("films/none/w.slip", "No such file or directory (os error 2)"));
+}
+
+#[test]
+fn the_film_is_not_overwritten() {
+    let folder = Folder::new("overwritten");
+    let film = folder.file("w.mov", &w().bytes());
+    let link = folder.path("link.mov");
+    std::os::unix::fs::symlink(&film, &link).unwrap();
+    let (film_name, link_name) = (film.to_str().unwrap(), link.to_str().unwrap());
+    let ran = run(&["slip", film_name, "1", "0", "1", "-o", link_name]);
+    assert_eq!((ran.err, ran.status), (format!("chaldoref: {link_name}: this is the film itself\n"), 2));
+    // A refused question leaves what was there.
+    assert_eq!(run(&["slip", W, "1", "0", "121", "-o", film_name]).status, 1);
+    assert_eq!(std::fs::read(&film).unwrap(), w().bytes());
+}
+
+#[test]
+fn a_file_of_one_byte_too_many() {
+    let folder = Folder::new("too-long");
+    let path = folder.path("long.mov");
+    File::create(&path).unwrap().set_len(2_147_483_648).unwrap();
+    let ran = run(&["tracks".as_ref(), path.as_os_str()]);
+    assert!(ran.err.ends_with(": refused 1: the file is longer than 2,147,483,647 bytes\n"), "{}", ran.err);
+    assert_eq!((ran.out.as_str(), ran.status), ("", 1));
+}
+
+#[test]
+fn output_that_no_one_reads() {
+    // More bytes than a pipe holds.
+    let film = Movie { tracks: vec![big_sample()], ..w_movie() }.file_of(4_000_000).bytes();
+    let folder = Folder::new("pipe");
+    let path = folder.file("big.mov", &film);
+    let mut child = program(&["sample", path.to_str().unwrap(), "1", "1", "--bytes"]).spawn().unwrap();
+    drop(child.stdout.take());
+    let output = child.wait_with_output().unwrap();
+    assert_eq!((output.status.code(), output.stderr), (Some(0), vec![]));
+}
+
+/// W's track with a great first sample.
+fn big_sample() -> reference::film::Track {
+    let sizes = reference::film::Sizes::Each(vec![3_000_000, 50, 0, 70]);
+    reference::film::Track { stsz: sizes, ..w_track() }
+}
+
+#[test]
+fn output_that_cannot_be_written() {
+    let full = || Stdio::from(File::options().write(true).open("/dev/full").unwrap());
+    for line in ["tracks films/w.mov", "sample films/two-hoses.mov 1 1 --bytes", "--help"] {
+        let output = program(&words(line)).stdout(full()).output().unwrap();
+        let err = String::from_utf8(output.stderr).unwrap();
+        assert_eq!(err, "chaldoref: standard output: No space left on device (os error 28)\n");
+        assert_eq!(output.status.code(), Some(2));
+    }
+}

@@ -1,0 +1,98 @@
+//! Help, the man page, and how files may be named.
+mod common;
+
+use chaldoref::Refusal;
+use common::{answers, program, run, words, Folder, W};
+use reference::film::w;
+use std::ffi::OsString;
+use std::fs::File;
+use std::os::unix::ffi::OsStringExt;
+use std::process::Stdio;
+
+const COMMANDS: [&str; 9] = ["tracks", "sample", "at", "map", "stretch", "slip", "read-slip", "features", "profile"];
+
+#[test]
+fn version() {
+    for flag in ["--version", "-V"] {
+        answers(flag, &format!("chaldoref {}\n", env!("CARGO_PKG_VERSION")));
+    }
+}
+
+#[test]
+fn help() {
+    let all = run(&["--help"]);
+    assert_eq!((all.status, all.err.as_str()), (0, ""));
+    assert_eq!((&all, &all), (&run(&["-h"]), &run(&["help"])));
+    for name in COMMANDS {
+        assert!(all.out.lines().any(|line| line.starts_with(&format!("  {name} FILE"))), "{name}");
+        let one = run(&[name, "--help"]);
+        assert!(one.out.starts_with(&format!("usage: chaldoref {name} FILE")), "{}", one.out);
+        assert_eq!((&one, &one), (&run(&["help", name]), &run(&[name, "no-such-file", "-h"])));
+        assert_eq!((one.status, one.err.as_str()), (0, ""));
+    }
+}
+
+#[test]
+fn one_help_in_full() {
+    answers(
+        "slip --help",
+        "usage: chaldoref slip FILE TRACK A B [-o OUT] [--json]\n\n\
+         Prints the slip of a track from media time A up to B, in hex.\n\n  \
+           -o OUT    write raw bytes to OUT; - is standard output\n  \
+           --json    print one JSON document\n\n\
+         FILE is a whole film, and for read-slip a slip; - is standard input. TRACK is a track ID. Numbers are decimal, or hex\n\
+         after 0x, and below 2^32. Media times count in the track's own time scale, movie times in the movie's. CODE is four\n\
+         characters, or hex after 0x.\n",
+    );
+}
+
+#[test]
+fn the_man_page_has_all() {
+    let page = std::fs::read_to_string("chaldoref.1").unwrap().replace("\\-", "-");
+    for name in COMMANDS {
+        assert!(page.contains(&format!("\\fB{name}\\fR \\fIFILE")), "{name}");
+    }
+    for refusal in Refusal::ALL {
+        assert!(page.contains(&format!(".B {}\n{refusal}\n", refusal.number())), "{refusal}");
+    }
+    assert!(page.contains(env!("CARGO_PKG_VERSION")));
+}
+
+#[test]
+fn options_may_stand_anywhere() {
+    let expected = run(&words("at films/w.mov 1 24 --json"));
+    for line in ["at --json films/w.mov 1 24", "at films/w.mov --json 1 24", "at --json -- films/w.mov 1 24"] {
+        assert_eq!(run(&words(line)), expected);
+    }
+}
+
+#[test]
+fn names_of_any_bytes() {
+    let folder = Folder::new("names");
+    let name = OsString::from_vec(b"-w \xff\xfe\n\"\x1b.mov".to_vec());
+    let path = folder.file(&name, &w().bytes());
+    assert_eq!(run(&["tracks".as_ref(), path.as_os_str()]), run(&["tracks", W]));
+    // In its own folder the name begins with a dash.
+    let inside = program(&["tracks".as_ref(), "--".as_ref(), name.as_os_str()])
+        .current_dir(path.parent().unwrap())
+        .output()
+        .unwrap();
+    assert_eq!(inside.status.code(), Some(0));
+    // Messages show the name without what could act on a terminal.
+    let refused = run(&["at".as_ref(), path.as_os_str(), "9".as_ref(), "0".as_ref()]);
+    assert!(
+        refused.err.ends_with("/-w \u{fffd}\u{fffd}?\"?.mov: refused 14: no track has that ID\n"),
+        "{}",
+        refused.err
+    );
+}
+
+#[test]
+fn standard_input() {
+    let redirected = program(&["tracks", "-"]).stdin(File::open("../../films/w.mov").unwrap()).output().unwrap();
+    assert_eq!(String::from_utf8(redirected.stdout).unwrap(), run(&["tracks", W]).out);
+    assert_eq!(common::run_on(&w().bytes(), &["tracks", "-"]), run(&["tracks", W]));
+    let empty = program(&["tracks", "-"]).stdin(Stdio::null()).output().unwrap();
+    let said = "chaldoref: standard input: refused 3: an atom is absent or occurs too often\n";
+    assert_eq!(String::from_utf8(empty.stderr).unwrap(), said);
+}

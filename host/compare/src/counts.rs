@@ -1,0 +1,131 @@
+//! How often each refusal was met, by which question.
+use crate::question::KINDS;
+use std::fmt::Write;
+
+/// Refusals are numbered from 1 to 18; 0 is an answer.
+const NUMBERS: usize = 19;
+
+#[derive(Default)]
+pub struct Counts {
+    questions: [[u64; KINDS.len()]; NUMBERS],
+    /// Films by the number with which the file is refused.
+    films: [u64; NUMBERS],
+    slips: u64,
+}
+
+/// Whether include/chaldoref.h names that number for that question.
+fn can_meet(number: usize, kind: &str) -> bool {
+    match number {
+        0 | 16 => true,
+        17 => kind == "read_slip",
+        _ if kind == "read_slip" => false,
+        14 => kind != "track_list",
+        15 => !["track_list", "profile", "feature"].contains(&kind),
+        18 => kind == "feature",
+        _ => true,
+    }
+}
+
+impl Counts {
+    pub fn film(&mut self, number: u32) {
+        self.films[usize::try_from(number).unwrap()] += 1;
+    }
+
+    pub fn slip(&mut self) {
+        self.slips += 1;
+    }
+
+    pub fn question(&mut self, kind: usize, number: u32) {
+        self.questions[usize::try_from(number).unwrap()][kind] += 1;
+    }
+
+    pub fn films(&self) -> u64 {
+        self.films.iter().sum()
+    }
+
+    pub fn slips(&self) -> u64 {
+        self.slips
+    }
+
+    pub fn questions(&self) -> u64 {
+        self.questions.iter().flatten().sum()
+    }
+
+    /// A line for each number, a column for each question; a dash where the question never gives that number.
+    pub fn table(&self) -> String {
+        let mut text = format!("{:>3} {:>9} {:>10}", "", "films", "questions");
+        for kind in KINDS {
+            write!(text, " {kind:>12}").unwrap();
+        }
+        for (number, row) in self.questions.iter().enumerate() {
+            let films = if number <= 13 { self.films[number].to_string() } else { "-".to_string() };
+            write!(text, "\n{number:>3} {films:>9} {:>10}", row.iter().sum::<u64>()).unwrap();
+            for (kind, count) in KINDS.iter().zip(row) {
+                let shown = if can_meet(number, kind) { count.to_string() } else { "-".to_string() };
+                write!(text, " {shown:>12}").unwrap();
+            }
+        }
+        write!(text, "\nall {:>9} {:>10}", self.films(), self.questions()).unwrap();
+        for kind in 0..KINDS.len() {
+            write!(text, " {:>12}", self.questions.iter().map(|row| row[kind]).sum::<u64>()).unwrap();
+        }
+        text + "\n"
+    }
+
+    /// A sentence for each number that a question can give and was never met, so that it was not compared; and for each given that can't be.
+    pub fn complaints(&self) -> Vec<String> {
+        let mut all = Vec::new();
+        for (number, row) in self.questions.iter().enumerate() {
+            for (kind, count) in KINDS.iter().zip(row) {
+                match (can_meet(number, kind), *count) {
+                    (true, 0) => all.push(format!("{kind} never met {number}")),
+                    (false, 1..) => all.push(format!("{kind} met {number}, which it never gives")),
+                    _ => (),
+                }
+            }
+        }
+        let never = (0..=13).filter(|number| self.films[*number] == 0);
+        all.extend(never.map(|number| format!("no film was refused {number}")));
+        all
+    }
+}
+
+#[cfg(test)]
+mod tests {
+    use super::*;
+
+    /// Everything that can be met, once.
+    fn full() -> Counts {
+        let mut counts = Counts::default();
+        for number in 0..19 {
+            for (kind, name) in KINDS.iter().enumerate() {
+                if can_meet(number, name) {
+                    counts.question(kind, number.try_into().unwrap());
+                }
+            }
+        }
+        (0..=13).for_each(|number| counts.film(number));
+        counts
+    }
+
+    #[test]
+    fn a_full_table_has_no_complaint() {
+        assert_eq!(full().complaints(), Vec::<String>::new());
+    }
+
+    #[test]
+    fn what_was_never_met_is_complained_of() {
+        let mut counts = full();
+        counts.questions[15][1] = 0;
+        counts.films[7] = 0;
+        assert_eq!(counts.complaints(), ["sample never met 15", "no film was refused 7"]);
+        assert!(counts.table().lines().any(|line| line.starts_with(" 15") && line.contains(" 0 ")));
+    }
+
+    #[test]
+    fn what_cannot_be_met_is_complained_of() {
+        let mut counts = full();
+        counts.question(0, 14);
+        assert_eq!(counts.complaints(), ["track_list met 14, which it never gives"]);
+    }
+}

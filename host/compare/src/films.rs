@@ -1,0 +1,142 @@
+//! A film, or a slip, put to the library and to the reference.
+use crate::case::{compare, Difference, Lengths};
+use crate::choose::questions;
+use crate::counts::Counts;
+use crate::question::{slip_answer, Answer, Question};
+use reference::maker::Random;
+use reference::movie::refusals::read;
+use reference::movie::tables::Movie;
+
+/// The comparison so far.
+#[derive(Default)]
+pub struct Comparison {
+    pub counts: Counts,
+}
+
+/// What is asked about: a film or a slip as it is lent.
+pub enum Bytes<'a> {
+    /// A copy that begins at any alignment and has other bytes around it, so that it depends on none of these what is answered.
+    Copy { original: &'a [u8], all: Vec<u8>, begin: usize },
+    /// In memory that nothing can write to.
+    ReadOnly(&'a [u8]),
+}
+
+impl Bytes<'_> {
+    pub fn copy<'a>(random: &mut Random, original: &'a [u8]) -> Bytes<'a> {
+        let begin = 8 + random.below(8);
+        let mut all = vec![random.byte(); begin + original.len() + 8];
+        all[begin..begin + original.len()].copy_from_slice(original);
+        Bytes::Copy { original, all, begin }
+    }
+
+    pub fn lent(&self) -> &[u8] {
+        match self {
+            Bytes::Copy { original, all, begin } => &all[*begin..*begin + original.len()],
+            Bytes::ReadOnly(lent) => lent,
+        }
+    }
+
+    fn are_unchanged(&self) -> bool {
+        match self {
+            Bytes::Copy { original, .. } => self.lent() == *original,
+            Bytes::ReadOnly(_) => true,
+        }
+    }
+}
+
+/// A difference that is not in the answer itself.
+fn other(question: Question, lengths: Lengths, fault: &str) -> Box<Difference> {
+    let nothing = String::new();
+    Box::new(Difference { question, lengths, library: nothing.clone(), reference: nothing, fault: fault.to_string() })
+}
+
+impl Comparison {
+    /// Puts one question with memory of those lengths, counts it and answers what the library wrote.
+    fn case(
+        &mut self,
+        bytes: &Bytes,
+        question: Question,
+        answer: &Result<Answer, u32>,
+        lengths: Lengths,
+    ) -> Result<(u32, Vec<u64>, Vec<u8>), Box<Difference>> {
+        let (number, lent) = compare(bytes.lent(), question, answer, lengths)?;
+        if !bytes.are_unchanged() {
+            return Err(other(question, lengths, "the file was written to"));
+        }
+        self.counts.question(question.kind(), number);
+        Ok((number, lent.places.elements().to_vec(), lent.bytes.elements().to_vec()))
+    }
+
+    /// Puts a question about a film with memory of any lengths; a slip that is written is read back.
+    fn question(
+        &mut self,
+        random: &mut Random,
+        bytes: &Bytes,
+        film: &Result<Movie, u32>,
+        question: Question,
+    ) -> Result<(), Box<Difference>> {
+        let answer = question.answer(film);
+        let lengths = Lengths::any(random, question, &answer);
+        let (number, places, written) = self.case(bytes, question, &answer, lengths)?;
+        if number != 0 {
+            return Ok(());
+        }
+        match question {
+            Question::SampleBytes { .. } if places[0] + places[1] > u64::try_from(bytes.lent().len()).unwrap() => {
+                Err(other(question, lengths, "the sample's bytes pass the file's end"))
+            }
+            Question::WriteSlip { id, a, b } => {
+                let slip = &written[..usize::try_from(places[0]).unwrap()];
+                let head = self.slip(random, slip)?;
+                self.same_numbers(film, (id, a, b), head).map_err(|fault| other(question, lengths, fault))
+            }
+            _ => Ok(()),
+        }
+    }
+
+    /// The numbers read from a slip are those of the stretch of which it was written.
+    fn same_numbers(
+        &self,
+        film: &Result<Movie, u32>,
+        (id, a, b): (u32, u32, u32),
+        slip: Result<Answer, u32>,
+    ) -> Result<(), &'static str> {
+        let Ok(slip) = slip else {
+            return Err("the slip written is refused");
+        };
+        let stretch = Question::Stretch { id, a, b }.answer(film).unwrap();
+        let scale = film.as_ref().unwrap().track(id).unwrap().tables.scale;
+        let head = vec![u64::from(id), scale, u64::from(a), u64::from(b), stretch.places[0]];
+        if slip.places == head && slip.numbers == stretch.numbers {
+            Ok(())
+        } else {
+            Err("the slip written reads as another stretch")
+        }
+    }
+
+    /// Puts so many rounds of every question about a film.
+    pub fn film(&mut self, random: &mut Random, bytes: &Bytes, rounds: usize) -> Result<(), Box<Difference>> {
+        let film = read(bytes.lent());
+        self.counts.film(film.as_ref().err().copied().unwrap_or(0));
+        // Another round for a refused film would ask the same.
+        let rounds = if film.is_ok() { rounds } else { 1 };
+        for _ in 0..rounds {
+            for question in questions(random, &film) {
+                self.question(random, bytes, &film, question)?;
+            }
+        }
+        Ok(())
+    }
+
+    /// Reads a slip, with exactly the room it needs and with memory of any lengths. Answers how the reference reads it.
+    pub fn slip(&mut self, random: &mut Random, slip: &[u8]) -> Result<Result<Answer, u32>, Box<Difference>> {
+        let bytes = Bytes::copy(random, slip);
+        let answer = slip_answer(slip);
+        self.counts.slip();
+        let exact = Lengths::exact(Question::ReadSlip, &answer, random.bits());
+        self.case(&bytes, Question::ReadSlip, &answer, exact)?;
+        let any = Lengths::any(random, Question::ReadSlip, &answer);
+        self.case(&bytes, Question::ReadSlip, &answer, any)?;
+        Ok(answer)
+    }
+}

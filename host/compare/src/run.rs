@@ -1,0 +1,130 @@
+//! Everything that is compared, and the words for a difference.
+use crate::big;
+use crate::case::Difference;
+use crate::counts::Counts;
+use crate::films::{Bytes, Comparison};
+use crate::options::Options;
+use reference::maker::{self, limits, slips, Random};
+use reference::slip::MOST_PAIRS;
+use std::panic::{catch_unwind, AssertUnwindSafe};
+
+/// How often every question is put to an accepted film: one that is made, one at the limits, one of 2 GiB, one from a file.
+const ROUNDS: usize = 5;
+const LIMIT_ROUNDS: usize = 4;
+const BIG_ROUNDS: usize = 50;
+const FILE_ROUNDS: usize = 200;
+
+/// A film of more bytes is not written down where there is a difference.
+const MOST_KEPT: usize = 1 << 28;
+
+/// Seeds of their own for the films that are not made at random, so that they don't share the numbers of those.
+const LIMITS_SEED: u64 = 0x6c69_6d69_7473;
+const OTHERS_SEED: u64 = 0x6f74_6865_7273;
+
+pub struct Run {
+    seed: u64,
+    comparison: Comparison,
+}
+
+type Compared = Result<(), Box<Difference>>;
+
+impl Run {
+    pub fn new(seed: u64) -> Run {
+        Run { seed, comparison: Comparison::default() }
+    }
+
+    pub fn counts(&self) -> &Counts {
+        &self.comparison.counts
+    }
+
+    /// Compares on a film or slip of that name. What differs, also a panic of the reference, comes back in words, and the bytes are written down.
+    fn on(&mut self, name: &str, bytes: &[u8], work: impl FnOnce(&mut Comparison) -> Compared) -> Result<(), String> {
+        let compared = catch_unwind(AssertUnwindSafe(|| work(&mut self.comparison)));
+        let fault = match compared {
+            Ok(Ok(())) => return Ok(()),
+            Ok(Err(difference)) => difference.to_string(),
+            Err(_) => "the reference panicked".to_string(),
+        };
+        Err(format!("DIFFERENCE: seed {}, {name}\n{fault}\n{}", self.seed, keep(bytes)))
+    }
+
+    /// The film of an index, and a slip.
+    fn made(&mut self, index: u64) -> Result<(), String> {
+        let mut random = Random::of(self.seed, index);
+        let film = maker::film(&mut random);
+        let bytes = Bytes::copy(&mut random, &film);
+        self.on(&format!("film {index}"), &film, |all| all.film(&mut random, &bytes, ROUNDS))?;
+        let slip = slips::slip(&mut random);
+        self.on(&format!("slip {index}"), &slip, |all| all.slip(&mut random, &slip).map(drop))
+    }
+
+    /// The films and slips at the limits.
+    fn limits(&mut self) -> Result<(), String> {
+        let mut random = Random::new(self.seed ^ LIMITS_SEED);
+        for which in 0..limits::FILMS {
+            eprintln!("limit {which}");
+            let film = limits::limit(&mut random, which);
+            let bytes = Bytes::copy(&mut random, &film);
+            self.on(&format!("limit {which}"), &film, |all| all.film(&mut random, &bytes, LIMIT_ROUNDS))?;
+        }
+        let most = u32::try_from(MOST_PAIRS).unwrap();
+        for pairs in [most, most + 1] {
+            let slip = slips::slip_of(&mut random, pairs);
+            self.on(&format!("slip of {pairs} pairs"), &slip, |all| all.slip(&mut random, &slip).map(drop))?;
+        }
+        Ok(())
+    }
+
+    /// The films of 2 GiB.
+    fn big(&mut self) -> Result<(), String> {
+        let mut random = Random::new(self.seed ^ OTHERS_SEED);
+        for film in big::films() {
+            eprintln!("{}", film.name);
+            let mapped = film.mapped().map_err(|error| format!("{}: {error}", film.name))?;
+            let bytes = Bytes::ReadOnly(mapped.bytes());
+            self.on(film.name, mapped.bytes(), |all| all.film(&mut random, &bytes, BIG_ROUNDS))?;
+        }
+        Ok(())
+    }
+
+    fn file(&mut self, name: &str) -> Result<(), String> {
+        let film = std::fs::read(name).map_err(|error| format!("{name}: {error}"))?;
+        eprintln!("{name}: {}", reference::movie::refusal(&film));
+        let mut random = Random::new(self.seed ^ OTHERS_SEED);
+        let bytes = Bytes::copy(&mut random, &film);
+        self.on(name, &film, |all| all.film(&mut random, &bytes, FILE_ROUNDS))
+    }
+
+    /// All that the options ask for, small films first, or the words for the first difference.
+    pub fn all(&mut self, options: &Options) -> Result<(), String> {
+        if let Some(index) = options.film {
+            return self.made(index);
+        }
+        for name in &options.files {
+            self.file(name)?;
+        }
+        let Some(films) = options.films else {
+            return Ok(());
+        };
+        for index in 0..films {
+            if index % 10_000 == 0 {
+                eprintln!("film {index} of {films}");
+            }
+            self.made(index)?;
+        }
+        self.limits()?;
+        self.big()
+    }
+}
+
+/// Writes down the film or slip at fault, and says where.
+fn keep(bytes: &[u8]) -> String {
+    let path = concat!(env!("CARGO_MANIFEST_DIR"), "/../target/compare-failure.mov");
+    if bytes.len() > MOST_KEPT {
+        return format!("its {} bytes are not written down", bytes.len());
+    }
+    match std::fs::write(path, bytes) {
+        Ok(()) => format!("its bytes are in {path}"),
+        Err(error) => format!("its bytes could not be written to {path}: {error}"),
+    }
+}
