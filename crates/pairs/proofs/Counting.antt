@@ -1,6 +1,6 @@
 -- How many pairs there are, by where the first and the last sample fall: the chunks touched are those that begin by the last, without those before the first.
 -- Assumes nothing.
-use Prim.Native.Nat.{ℕ, suc, _+_, _-_, _^_, _≤_, _<_}
+use Prim.Native.Nat.{ℕ, suc, _+_, _*_, _-_, _^_, _≤_, _<_}
 use mathlib.Core.Path.{_≡_, refl, sym, ap, _∙_}
 use mathlib.Core.Bool.{false, _||_}
 use mathlib.Core.List.{List, [], _∷_}
@@ -16,10 +16,10 @@ use Rattle.chunks.specs.declared.Sought.{Sought}
 use Rattle.chunks.proofs.Cursors.{ahead-cons}
 use Rattle.chunks.proofs.Turns.{few-chunks}
 use Rattle.pairs.specs.Pairs.{touched}
-use Rattle.pairs.specs.Walks.{countBetween, chunksTo, At}
+use Rattle.pairs.specs.Walks.{countBetween, chunksTo, At, AtOnce}
 use Rattle.pairs.specs.declared.Place.{Place}
 use Rattle.pairs.proofs.Touched.{is-touched, before-first, touched-none}
-use Rattle.pairs.proofs.Walking.{begins-low, at-chunk}
+use Rattle.pairs.proofs.Walking.{begins-low, at-chunk, past-chunk}
 
 -- ---- the chunks that begin by a sample
 
@@ -30,8 +30,8 @@ chunks-miss : (p : ℕ) (ps : List ℕ) (t : ℕ) → p ≤ t → chunksTo (p �
 chunks-miss p ps t h = omega (arith, holder-miss p ps t h)
 
 -- what is left of a sample's distance past a chunk
-past-chunk : (t begin p : ℕ) → t - begin - p ≡ t - (begin + p)
-past-chunk t begin p = omega arith
+beyond : (t begin p : ℕ) → t - begin - p ≡ t - (begin + p)
+beyond t begin p = omega arith
 
 less-none : (a : ℕ) → a - 0 ≡ a
 less-none a = omega arith
@@ -50,7 +50,7 @@ all-touched i j begin (p ∷ ps) cs zs h g =
     elim (decLt (begin + p) j) [
       | yes l ↦
           let m : p ≤ j - 1 - begin = omega arith in
-          rw (is-touched i j begin p g t, chunks-miss p ps (j - 1 - begin) m, past-chunk (j - 1) begin p) (ap suc (all-touched i j (begin + p) ps (drop 1 cs) zs t l))
+          rw (is-touched i j begin p g t, chunks-miss p ps (j - 1 - begin) m, beyond (j - 1) begin p) (ap suc (all-touched i j (begin + p) ps (drop 1 cs) zs t l))
       | no l ↦
           let m : j - 1 - begin < p = omega arith in
           rw (is-touched i j begin p g t, chunks-hit p ps (j - 1 - begin) m, touched-none i j (begin + p) ps (drop 1 cs) zs (omega arith))
@@ -64,7 +64,7 @@ touched-length i j begin (p ∷ ps) cs zs h g = elim (decLt i (begin + p)) [
       elim (decLt (begin + p) j) [
         | yes l ↦
             let m : p ≤ j - 1 - begin = omega arith in
-            rw (is-touched i j begin p g k, chunks-miss p ps (j - 1 - begin) m, past-chunk (j - 1) begin p, holder-hit p ps (i - begin) f) (ap suc (all-touched i j (begin + p) ps (drop 1 cs) zs k l) ∙ sym (less-none _))
+            rw (is-touched i j begin p g k, chunks-miss p ps (j - 1 - begin) m, beyond (j - 1) begin p, holder-hit p ps (i - begin) f) (ap suc (all-touched i j (begin + p) ps (drop 1 cs) zs k l) ∙ sym (less-none _))
         | no l ↦
             let m : j - 1 - begin < p = omega arith in
             rw (is-touched i j begin p g k, chunks-hit p ps (j - 1 - begin) m, touched-none i j (begin + p) ps (drop 1 cs) zs (omega arith), holder-hit p ps (i - begin) f)
@@ -75,7 +75,7 @@ touched-length i j begin (p ∷ ps) cs zs h g = elim (decLt i (begin + p)) [
       elim (decLt (begin + p) j) [
         | yes l ↦
             let m : p ≤ j - 1 - begin = omega arith in
-            rw (before-first i j begin p o, chunks-miss p ps (j - 1 - begin) m, past-chunk (j - 1) begin p, holder-miss p ps (i - begin) f, past-chunk i begin p) (touched-length i j (begin + p) ps (drop 1 cs) zs o l ∙ sym (less-suc _ _))
+            rw (before-first i j begin p o, chunks-miss p ps (j - 1 - begin) m, beyond (j - 1) begin p, holder-miss p ps (i - begin) f, beyond i begin p) (touched-length i j (begin + p) ps (drop 1 cs) zs o l ∙ sym (less-suc _ _))
         | no l ↦
             let m : j - 1 - begin < p = omega arith in
             rw (before-first i j begin p o, chunks-hit p ps (j - 1 - begin) m, touched-none i j (begin + p) ps (drop 1 cs) zs (omega arith), holder-miss p ps (i - begin) f) (none-past (holder ps (i - begin - p)))
@@ -125,7 +125,16 @@ module _ (stsc : List ℕ) (chunks t : ℕ) (f : Sought) (w : Finds stsc chunks 
 
 -- ---- the numbers of a place fit their types
 
-pub place-fits : (stsc : List ℕ) (chunks i j : ℕ) (p : Place) → At stsc chunks i p → (eqb (p .cursor .remaining) 0 || leb j (p .begin)) ≡ false
-    → length stsc < 2 ^ 32 → chunks < 4294967296 → ((k : ℕ) → getD stsc k 0 < 256) → j < 4294967296 → (p .begin < 2 ^ 32) × (p .chunk < 2 ^ 63)
-place-fits stsc chunks i j p w e short c bytes h =
-    (omega (arith, begins-low stsc [] [] chunks i j p w e), omega (arith, few-chunks stsc chunks short c bytes, at-chunk stsc [] [] chunks i j p w e))
+module _ (stsc : List ℕ) (chunks i j : ℕ) (p : Place) (w : At stsc chunks i p) (e : (eqb (p .cursor .remaining) 0 || leb j (p .begin)) ≡ false)
+    (short : length stsc < 2 ^ 32) (c : chunks < 4294967296) (bytes : (k : ℕ) → getD stsc k 0 < 256) (h : j < 4294967296) where
+  pub place-fits : (p .begin < 2 ^ 32) × (p .chunk < 2 ^ 63)
+  place-fits =
+      (omega (arith, begins-low stsc [] [] chunks i j p w e), omega (arith, few-chunks stsc chunks short c bytes, at-chunk stsc [] [] chunks i j p w e))
+
+  pub step-fits : (stsz stco : List ℕ) (n : ℕ) → AtOnce stsz stco i j p n
+      → (p .chunk + n < 2 ^ 64) × (p .begin < 2 ^ 32) × ((n ≡ 1 → ⊥) → p .begin + n * p .cursor .per < 2 ^ 32)
+  step-fits stsz stco n o = (
+    omega (arith, few-chunks stsc chunks short c bytes, past-chunk stsc [] [] chunks i j p w e n (o .few) (o .some)),
+    place-fits .0,
+    λ z. omega (arith, o .whole z .to),
+  )

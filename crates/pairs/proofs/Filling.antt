@@ -1,81 +1,158 @@
--- The loop that puts pairs into a room: what it has put and what lies ahead make up what all pairs make.
+-- A loop that puts pairs into a room: what it has put and what lies ahead make up what all pairs make.
 -- Assumes nothing.
 use Prim.Native.Nat.{ℕ, suc, _+_, _*_, _^_, _≤_, _<_}
-use mathlib.Core.Path.{_≡_, refl, ap, _∙_}
+use mathlib.Core.Path.{_≡_, refl, sym, ap, _∙_}
 use mathlib.Core.Bool.{true, false, _||_}
-use mathlib.Core.List.{List, [], _∷_}
+use mathlib.Core.List.{List, [], _∷_, _++_}
 use native.Mathlib.Omega.{arith}
-use lib.ListN.{length, getD}
+use lib.ListN.{length, length-append}
 use lib.Seq.{sets, length-sets}
 use lib.Dec.{eqb, leb}
 use Rattle.lists.specs.Lists.{sum}
-use Rattle.words.specs.Words.{sizes, chunkOffsets}
-use Rattle.pairs.specs.Pairs.{pairOf, flat}
-use Rattle.pairs.specs.Walks.{pairsBetween, lengthsOf, Fitting, Putting, pairsAhead, At, placeAfter, StartsAt}
+use Rattle.leb128.proofs.Puts.{sets-append}
+use Rattle.pairs.specs.Pairs.{flat}
+use Rattle.pairs.specs.Walks.{pairsBetween, lengthsOf, Fitting, Putting, pairsAhead, At, placePast, StartsAt, AtOnce, pairsAtOnce, Room, Put}
 use Rattle.pairs.specs.declared.Pair.{Pair}
 use Rattle.pairs.specs.declared.Place.{Place}
-use Rattle.pairs.proofs.Walking.{at-end, at-next, at-again, from-start}
+use Rattle.pairs.proofs.Wholes.{at-once-length}
+use Rattle.pairs.proofs.Walking.{at-end, at-past, at-once, from-start}
 
-pub record Filling (stsc stsz stco : List ℕ) (chunks i j : ℕ) (room₀ : List ℕ) (p : Place) (room : List ℕ) (at total : ℕ) : Type 0 where
-  pub place : At stsc chunks i p
-  pub fits : Fitting (pairsAhead stsc stsz stco chunks i j p)
-  pub few : at + 2 * length (pairsAhead stsc stsz stco chunks i j p) ≤ length room
+-- ---- some pairs and the rest
+
+flat-append : (qs l : List Pair) → flat (qs ++ l) ≡ flat qs ++ flat l
+flat-append [] l = refl
+flat-append (q ∷ qs) l = ap (λ r. q .offset ∷ q .length ∷ r) (flat-append qs l)
+
+flat-length : (qs : List Pair) → length (flat qs) ≡ 2 * length qs
+flat-length [] = refl
+flat-length (q ∷ qs) = omega (arith, flat-length qs)
+
+lengths-append : (qs l : List Pair) → sum (lengthsOf (qs ++ l)) ≡ sum (lengthsOf qs) + sum (lengthsOf l)
+lengths-append [] l = omega arith
+lengths-append (q ∷ qs) l = omega (arith, lengths-append qs l)
+
+fitting-append : (qs l : List Pair) → Fitting (qs ++ l) → Fitting qs × Fitting l
+fitting-append [] l f = (tt, f)
+fitting-append (q ∷ qs) l f = let r = fitting-append qs l (f .2) in ((f .0, f .1, r .0), r .1)
+
+-- one pair by itself
+pub one-room : {q : Pair} {at places : ℕ} → Room (q ∷ []) at places → (q .offset < 4294967296) × (q .length < 4294967296) × (at + 2 ≤ places)
+one-room w = (w .fits .0, w .fits .1, omega (arith, w .space))
+
+pub one-put : {q : Pair} {room : List ℕ} {at : ℕ} {new : List ℕ} → new ≡ sets room at (q .offset ∷ q .length ∷ []) → Put (q ∷ []) room at (q .length) new
+one-put e = record { added = omega arith; stored = e }
+
+-- the same pairs
+pub same-room : {l m : List Pair} {at places : ℕ} → l ≡ m → Room m at places → Room l at places
+same-room e w = rw e w
+
+pub same-put : {l m : List Pair} {room : List ℕ} {at bytes : ℕ} {new : List ℕ} → l ≡ m → Put l room at bytes new → Put m room at bytes new
+same-put e w = rw e at w
+
+-- ---- the loop
+
+-- of all pairs, to be put from the place at₀ on, those of `rest` are still to be put, from the place `at` on
+pub record Filling (all : List Pair) (room₀ : List ℕ) (at₀ : ℕ) (rest : List Pair) (room : List ℕ) (at total : ℕ) : Type 0 where
+  pub fits : Fitting rest
+  pub few : at + 2 * length rest ≤ length room
   pub same : length room ≡ length room₀
-  pub stored : sets room at (flat (pairsAhead stsc stsz stco chunks i j p)) ≡ sets room₀ 0 (flat (pairsBetween stsc stsz stco chunks i j))
-  pub added : total + sum (lengthsOf (pairsAhead stsc stsz stco chunks i j p)) ≡ sum (lengthsOf (pairsBetween stsc stsz stco chunks i j))
+  pub stored : sets room at (flat rest) ≡ sets room₀ at₀ (flat all)
+  pub added : total + sum (lengthsOf rest) ≡ sum (lengthsOf all)
 
-pub filling-start : (stsc stsz stco : List ℕ) (chunks i j : ℕ) (room : List ℕ) (p : Place) → StartsAt stsc chunks i p → Putting stsc stsz stco chunks i j (length room)
-    → Filling stsc stsz stco chunks i j room p room 0 0
-filling-start stsc stsz stco chunks i j room p s w =
-    let e = from-start stsc stsz stco chunks i j p s in
+pub filling-start : (all : List Pair) (room : List ℕ) (at : ℕ) → Room all at (length room) → Filling all room at all room at 0
+filling-start all room at w = record { fits = w .fits; few = w .space; same = refl; stored = refl; added = omega arith }
+
+pub filling-end : (all : List Pair) (room₀ : List ℕ) (at₀ : ℕ) (rest : List Pair) (room : List ℕ) (at total : ℕ) → Filling all room₀ at₀ rest room at total → rest ≡ [] → Put all room₀ at₀ total room
+filling-end all room₀ at₀ rest room at total w e =
+    let a : total + 0 ≡ sum (lengthsOf all) = rw e at (w .added) in
+    record { added = omega arith; stored = rw e at (w .stored) }
+
+-- the next ones put
+module _ {all : List Pair} {room₀ : List ℕ} {at₀ : ℕ} {rest : List Pair} {room : List ℕ} {at total : ℕ} (w : Filling all room₀ at₀ rest room at total) (qs l : List Pair) (e : rest ≡ qs ++ l) where
+  added : total + (sum (lengthsOf qs) + sum (lengthsOf l)) ≡ sum (lengthsOf all)
+  added = omega (arith, w .added, ap (λ r. sum (lengthsOf r)) e, lengths-append qs l)
+
+  few : at + 2 * (length qs + length l) ≤ length room
+  few = omega (arith, w .few, ap length e, length-append qs l)
+
+  module _ (h : sum (lengthsOf all) < 2 ^ 64) where
+    pub next-room : Room qs at (length room)
+    next-room = record { fits = fitting-append qs l (rw e at (w .fits)) .0; total = omega (arith, added); space = omega (arith, few) }
+
+    pub next-total : total + sum (lengthsOf qs) < 2 ^ 64
+    next-total = omega (arith, added)
+
+  pub filling-turn : {new : List ℕ} {at′ total′ : ℕ} → new ≡ sets room at (flat qs) → at′ ≡ at + 2 * length qs → total′ ≡ total + sum (lengthsOf qs)
+      → Filling all room₀ at₀ l new at′ total′
+  filling-turn {new} {at′} {total′} g a t =
+      let s : length new ≡ length room = ap length g ∙ length-sets room at (flat qs) in
+      let u : at + length (flat qs) ≡ at′ = omega (arith, flat-length qs) in
+      record {
+        fits = fitting-append qs l (rw e at (w .fits)) .1;
+        few = omega (arith, few);
+        same = s ∙ w .same;
+        stored = rw (g, ← u) (sym (sets-append room at (flat qs) (flat l)) ∙ ap (sets room at) (sym (flat-append qs l) ∙ ap flat (sym e)) ∙ w .stored);
+        added = omega (arith, added);
+      }
+
+-- one pair put
+module _ {all : List Pair} {room₀ : List ℕ} {at₀ : ℕ} {rest : List Pair} {room : List ℕ} {at total : ℕ} (w : Filling all room₀ at₀ rest room at total) (q : Pair) (l : List Pair) (e : rest ≡ q ∷ l) where
+  pub one-fits : sum (lengthsOf all) < 2 ^ 64 → (q .offset < 4294967296) × (q .length < 4294967296) × (at + 2 ≤ length room)
+  one-fits h = one-room (next-room w (q ∷ []) l e h)
+
+  pub one-total : sum (lengthsOf all) < 2 ^ 64 → total + q .length < 2 ^ 64
+  one-total h = omega (arith, next-total w (q ∷ []) l e h)
+
+  pub one-turn : {new : List ℕ} → new ≡ sets room at (q .offset ∷ q .length ∷ []) → Filling all room₀ at₀ l new (at + 2) (total + q .length)
+  one-turn g = filling-turn w (q ∷ []) l e g (omega arith) (omega arith)
+
+-- ---- from place to place
+
+pub record Walked (stsc stsz stco : List ℕ) (chunks i j : ℕ) (room₀ : List ℕ) (p : Place) (room : List ℕ) (at total : ℕ) : Type 0 where
+  pub place : At stsc chunks i p
+  pub filling : Filling (pairsBetween stsc stsz stco chunks i j) room₀ 0 (pairsAhead stsc stsz stco chunks i j p) room at total
+
+pub walked-start : (stsc stsz stco : List ℕ) (chunks i j : ℕ) (room : List ℕ) (p : Place) → StartsAt stsc chunks i p → Putting stsc stsz stco chunks i j (length room)
+    → Walked stsc stsz stco chunks i j room p room 0 0
+walked-start stsc stsz stco chunks i j room p s w =
     record {
       place = s .at;
-      fits = rw e (w .fits);
-      few = rw e (omega (arith, w .room));
-      same = refl;
-      stored = rw e;
-      added = rw e (omega arith);
+      filling = rw (from-start stsc stsz stco chunks i j p s) (filling-start (pairsBetween stsc stsz stco chunks i j) room 0 (record { fits = w .fits; total = w .total; space = omega (arith, w .room) }));
     }
 
-module _ (stsc stsz stco : List ℕ) (chunks i j : ℕ) (room₀ : List ℕ) (p : Place) (room : List ℕ) (at total : ℕ) (w : Filling stsc stsz stco chunks i j room₀ p room at total) where
-  pub filling-end : (eqb (p .cursor .remaining) 0 || leb j (p .begin)) ≡ true
+module _ {stsc stsz stco : List ℕ} {chunks i j : ℕ} {room₀ : List ℕ} {p : Place} {room : List ℕ} {at total : ℕ} (w : Walked stsc stsz stco chunks i j room₀ p room at total) where
+  pub walked-end : (eqb (p .cursor .remaining) 0 || leb j (p .begin)) ≡ true
       → (total ≡ sum (lengthsOf (pairsBetween stsc stsz stco chunks i j))) × (room ≡ sets room₀ 0 (flat (pairsBetween stsc stsz stco chunks i j)))
-  filling-end e =
-      let n = at-end stsc stsz stco chunks i j p (w .place) e in
-      let a : total + 0 ≡ sum (lengthsOf (pairsBetween stsc stsz stco chunks i j)) = rw n at (w .added) in
-      (omega arith, rw n at (w .stored))
+  walked-end e =
+      let d = filling-end _ _ _ _ _ _ _ (w .filling) (at-end stsc stsz stco chunks i j p (w .place) e) in
+      (d .added, d .stored)
 
-  module _ (e : (eqb (p .cursor .remaining) 0 || leb j (p .begin)) ≡ false) (q : Pair)
-      (d : q ≡ pairOf i j (p .begin) (p .cursor .per) (getD (chunkOffsets stco) (p .chunk) 0) (sizes stsz)) where
-    here : pairsAhead stsc stsz stco chunks i j p ≡ q ∷ pairsAhead stsc stsz stco chunks i j (placeAfter stsc chunks p)
-    here = at-next stsc stsz stco chunks i j p (w .place) e ∙ rw d
+  module _ (e : (eqb (p .cursor .remaining) 0 || leb j (p .begin)) ≡ false) (n : ℕ) (o : AtOnce stsz stco i j p n) where
+    abbrev these : List Pair
+    these = pairsAtOnce stsz stco i j p n
 
-    pub pair-fits : (q .offset < 4294967296) × (q .length < 4294967296) × (at + 2 ≤ length room)
-    pair-fits =
-        let f = rw here at (w .fits) in
-        let k : at + 2 * suc (length (pairsAhead stsc stsz stco chunks i j (placeAfter stsc chunks p))) ≤ length room = rw here at (w .few) in
-        (f .0, f .1, omega arith)
+    abbrev others : List Pair
+    others = pairsAhead stsc stsz stco chunks i j (placePast stsc chunks n p)
 
-    pub total-fits : sum (lengthsOf (pairsBetween stsc stsz stco chunks i j)) < 2 ^ 64 → total + q .length < 2 ^ 64
-    total-fits h =
-        let k : total + (q .length + sum (lengthsOf (pairsAhead stsc stsz stco chunks i j (placeAfter stsc chunks p)))) ≡ sum (lengthsOf (pairsBetween stsc stsz stco chunks i j)) = rw here at (w .added) in
-        omega arith
+    split : pairsAhead stsc stsz stco chunks i j p ≡ these ++ others
+    split = at-once stsc stsz stco chunks i j p (w .place) e n o
 
-    pub filling-turn : (r : Place) (new : List ℕ) → r ≡ placeAfter stsc chunks p → new ≡ sets room at (q .offset ∷ q .length ∷ [])
-        → Filling stsc stsz stco chunks i j room₀ r new (at + 2) (total + q .length)
-    filling-turn r new f g =
-        let l = pairsAhead stsc stsz stco chunks i j (placeAfter stsc chunks p) in
-        let t = rw here at (w .fits) in
-        let k : at + 2 * suc (length l) ≤ length room = rw here at (w .few) in
-        let m : total + (q .length + sum (lengthsOf l)) ≡ sum (lengthsOf (pairsBetween stsc stsz stco chunks i j)) = rw here at (w .added) in
-        let s : length new ≡ length room = ap length g ∙ length-sets room at (q .offset ∷ q .length ∷ []) in
-        let u : sets room at (flat (q ∷ l)) ≡ sets room₀ 0 (flat (pairsBetween stsc stsz stco chunks i j)) = rw here at (w .stored) in
-        let o : at + 2 ≡ suc (suc at) = omega arith in
+    pub step-at : at + 2 * n ≤ length room₀
+    step-at = omega (arith, few (w .filling) these others split, at-once-length stsz stco i j p n o, w .filling .same)
+
+    module _ (h : sum (lengthsOf (pairsBetween stsc stsz stco chunks i j)) < 2 ^ 64) where
+      pub step-room : Room these at (length room)
+      step-room = next-room (w .filling) these others split h
+
+      pub step-total : {bytes : ℕ} {new : List ℕ} → Put these room at bytes new → total + bytes < 2 ^ 64
+      step-total d = omega (arith, next-total (w .filling) these others split h, d .added)
+
+    pub step-turn : {bytes : ℕ} {new : List ℕ} → Put these room at bytes new → {r : Place} → r ≡ placePast stsc chunks n p
+        → Walked stsc stsz stco chunks i j room₀ r new (at + 2 * n) (total + bytes)
+    step-turn {bytes} {new} d f =
+        let a : at + 2 * n ≡ at + 2 * length these = omega (arith, at-once-length stsz stco i j p n o) in
+        let t : total + bytes ≡ total + sum (lengthsOf these) = omega (arith, d .added) in
         rw f (record {
-          place = at-again stsc stsz stco chunks i j p (w .place) e;
-          fits = t .2;
-          few = omega arith;
-          same = s ∙ w .same;
-          stored = rw (g, o) u;
-          added = omega arith;
+          place = at-past stsc stsz stco chunks i j p (w .place) e n (o .few) (o .some);
+          filling = filling-turn (w .filling) these others split (d .stored) a t;
         })

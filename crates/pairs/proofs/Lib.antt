@@ -1,4 +1,5 @@
 pub mod Touched
+pub mod Wholes
 pub mod Walking
 pub mod Filling
 pub mod Counting

@@ -114,7 +114,7 @@ touched-sum i j begin (p ∷ ps) cs zs h g f = elim (decLt begin j) [
 
 -- ---- each pair lies within the limit of its chunk
 
-chunk-sum : (zs : List ℕ) (begin p : ℕ) → between zs begin (begin + p) ≡ sum (take p (drop begin zs))
+pub chunk-sum : (zs : List ℕ) (begin p : ℕ) → between zs begin (begin + p) ≡ sum (take p (drop begin zs))
 chunk-sum zs begin p = let e : begin + p - begin ≡ p = omega arith in ap (λ (k : ℕ). sum (take k (drop begin zs))) e
 
 within-chunk : (i j begin p c : ℕ) (zs : List ℕ) → i ≤ j → begin < j → i < begin + p → pairOf i j begin p c zs .offset + pairOf i j begin p c zs .length ≤ c + sum (take p (drop begin zs))

@@ -1,18 +1,19 @@
 -- A walk over the chunks of a stretch, place after place: the pair at a place, and the pairs from the next place on.
 -- Assumes nothing.
-use Prim.Native.Nat.{ℕ, suc, _+_, _-_, _≤_, _<_, min, max}
-use mathlib.Core.Path.{_≡_, refl, sym, ap, _∙_}
+use Prim.Native.Nat.{ℕ, zero, suc, _+_, _*_, _-_, _^_, _≤_, _<_, min, max}
+use mathlib.Core.Path.{_≡_, refl, sym, ap, subst, _∙_}
 use mathlib.Core.Bool.{Bool, true, false, _||_}
-use mathlib.Core.List.{List, [], _∷_}
+use mathlib.Core.List.{List, [], _∷_, _++_}
+use native.Mathlib.Nat.{suc-mul}
 use native.Mathlib.Omega.{arith}
-use native.Mathlib.Decide.{decLt}
-use borrow.Author.Tests.{eqb-true, eqb-false, leb-true, leb-false}
-use lib.ListN.{length, getD, drop, length-drop}
-use lib.Seq.{drop-drop, getD-drop}
+use native.Mathlib.Decide.{ℕ-discrete, decLt}
+use borrow.Author.Tests.{eqb-true, eqb-false, leb-true, leb-false, ne-eqb}
+use lib.ListN.{length, getD, take, drop, replicate, length-drop}
+use lib.Seq.{take-add, drop-drop, getD-drop}
 use lib.Dec.{eqb, leb}
 use Rattle.lists.specs.Lists.{sum, before, between, holder}
-use Rattle.lists.proofs.Laws.{holder-miss}
-use Rattle.lists.proofs.Places.{before-suc, holder-holds}
+use Rattle.lists.proofs.Laws.{sum-append, holder-miss, length-run, before-in}
+use Rattle.lists.proofs.Places.{holder-holds}
 use Rattle.words.specs.Words.{sizes, chunkOffsets}
 use Rattle.chunks.specs.Chunks.{perChunk}
 use Rattle.chunks.specs.Cursors.{ahead, readied, past, Finds}
@@ -21,10 +22,11 @@ use Rattle.chunks.specs.declared.Sought.{Sought}
 use Rattle.chunks.proofs.Cursors.{Same, ready-same, ready-valid, past-valid, ahead-cons, stands-at}
 use Rattle.chunks.proofs.Finding.{before-holder}
 use Rattle.pairs.specs.Pairs.{pairOf}
-use Rattle.pairs.specs.Walks.{pairsBetween, pairsAhead, At, placeAfter, StartsAt}
+use Rattle.pairs.specs.Walks.{pairsBetween, pairsAhead, At, placeAfter, placePast, StartsAt, AtOnce, pairsAtOnce}
 use Rattle.pairs.specs.declared.Pair.{Pair}
 use Rattle.pairs.specs.declared.Place.{Place}
 use Rattle.pairs.proofs.Touched.{is-touched, touched-none, touched-skip}
+use Rattle.pairs.proofs.Wholes.{whole-touched}
 
 -- a width that is found is one of them, and holds the number
 short-holds : (ds : List ℕ) (t : ℕ) → holder ds t < length ds → t < sum ds
@@ -44,9 +46,15 @@ pub pair-made : (i j begin per c : ℕ) (zs : List ℕ) (end first b n o : ℕ) 
 unfolding pairOf
 pair-made i j begin per c zs end first b n o e f g h k = rw (k, g, h, f, e)
 
-pub place-made : (stsc : List ℕ) (chunks : ℕ) (p : Place) (c r : Cursor) → c ≡ past 1 (p .cursor) → r ≡ readied stsc chunks c
-    → _≡_ {A = Place} (record { cursor = r; chunk = p .chunk + 1; begin = p .begin + p .cursor .per }) (placeAfter stsc chunks p)
-place-made stsc chunks p c r e f = rw (f, e)
+pub place-made : (stsc : List ℕ) (chunks n : ℕ) (p : Place) (k b : ℕ) (c r : Cursor) → c ≡ past n (p .cursor) → r ≡ readied stsc chunks c
+    → _≡_ {A = Place} (record { cursor = r; chunk = k; begin = b }) (record { cursor = readied stsc chunks (past n (p .cursor)); chunk = k; begin = b })
+place-made stsc chunks n p k b c r e f = rw (f, e)
+
+pub past-fits : (begin n per : ℕ) → per < 2 ^ 32 → begin < 2 ^ 32 → ((n ≡ 1 → ⊥) → begin + n * per < 2 ^ 32) → begin + n * per < 2 ^ 64
+past-fits begin n per h g f = elim (ℕ-discrete n 1) [
+  | yes z ↦ let e : n * per ≡ 1 * per = ap (λ k. k * per) z in omega arith
+  | no z ↦ omega (arith, f z)
+]
 
 -- ---- the first place
 
@@ -82,6 +90,27 @@ or-false : (a b : Bool) → (a || b) ≡ false → (a ≡ false) × (b ≡ false
 or-false true b e = let z : _≡_ {A = Bool} true false = e in let y : _≡_ {A = ℕ} 0 1 = cc in absurd (omega arith)
 or-false false b e = (refl, e)
 
+-- the first n chunks of a run by themselves
+replicate-cut : (n m v : ℕ) (r : List ℕ) → n ≤ m → replicate m v ++ r ≡ replicate n v ++ (replicate (m - n) v ++ r)
+replicate-cut zero m v r h = let e : m ≡ m - 0 = omega arith in ap (λ (k : ℕ). replicate k v ++ r) e
+replicate-cut (suc n) zero v r h = absurd (omega arith)
+replicate-cut (suc n) (suc m) v r h =
+    let e : m - n ≡ suc m - suc n = omega arith in
+    ap (λ l. v ∷ l) (replicate-cut n m v r (omega arith) ∙ ap (λ (k : ℕ). replicate n v ++ (replicate k v ++ r)) e)
+
+run-cut : (s : List ℕ) (chunks : ℕ) (c : Cursor) (n : ℕ) → n ≤ c .remaining → ahead s chunks c ≡ replicate n (c .per) ++ ahead s chunks (past n c)
+unfolding ahead
+run-cut s chunks c n h = replicate-cut n (c .remaining) (c .per) _ h
+
+at-least : (n v : ℕ) → 0 < n → v ≤ n * v
+at-least zero v h = absurd (omega arith)
+at-least (suc n) v h = omega (arith, suc-mul n v)
+
+one-past : (stsc : List ℕ) (chunks : ℕ) (p : Place) → placePast stsc chunks 1 p ≡ placeAfter stsc chunks p
+one-past stsc chunks p =
+    let e : p .begin + 1 * p .cursor .per ≡ p .begin + p .cursor .per = omega arith in
+    λ k. record { cursor = readied stsc chunks (past 1 (p .cursor)); chunk = p .chunk + 1; begin = e k }
+
 module _ (stsc stsz stco : List ℕ) (chunks i j : ℕ) (p : Place) (w : At stsc chunks i p) where
   -- no pair lies ahead
   pub at-end : (eqb (p .cursor .remaining) 0 || leb j (p .begin)) ≡ true → pairsAhead stsc stsz stco chunks i j p ≡ []
@@ -93,7 +122,7 @@ module _ (stsc stsz stco : List ℕ) (chunks i j : ℕ) (p : Place) (w : At stsc
 
   -- a pair does
   module _ (e : (eqb (p .cursor .remaining) 0 || leb j (p .begin)) ≡ false) where
-    some-remain : p .cursor .remaining ≡ 0 → ⊥
+    pub some-remain : p .cursor .remaining ≡ 0 → ⊥
     some-remain = eqb-false _ _ (or-false _ _ e .0)
 
     pub begins-low : p .begin < j
@@ -102,18 +131,56 @@ module _ (stsc stsz stco : List ℕ) (chunks i j : ℕ) (p : Place) (w : At stsc
     remains : 0 < p .cursor .remaining
     remains = let n = some-remain in omega arith
 
-    again : Same stsc chunks (past 1 (p .cursor)) (readied stsc chunks (past 1 (p .cursor)))
-    again = ready-same stsc chunks (past 1 (p .cursor))
+    -- n chunks further on in the same run
+    module _ (n : ℕ) (h : n ≤ p .cursor .remaining) where
+      past-same : Same stsc chunks (past n (p .cursor)) (readied stsc chunks (past n (p .cursor)))
+      past-same = ready-same stsc chunks (past n (p .cursor))
 
+      pub past-opened : ahead stsc chunks (p .cursor) ≡ replicate n (p .cursor .per) ++ ahead stsc chunks (placePast stsc chunks n p .cursor)
+      past-opened = run-cut stsc chunks (p .cursor) n h ∙ ap (λ l. replicate n (p .cursor .per) ++ l) (sym (past-same .samples))
+
+      past-length : length (ahead stsc chunks (p .cursor)) ≡ n + length (ahead stsc chunks (placePast stsc chunks n p .cursor))
+      past-length = ap length past-opened ∙ length-run (p .cursor .per) (ahead stsc chunks (placePast stsc chunks n p .cursor)) n
+
+      -- they are some of the chunks
+      pub past-chunk : 0 < n → p .chunk + n ≤ length (perChunk stsc chunks)
+      past-chunk g = omega (arith, past-length, ap length (w .valid .samples), length-drop (p .chunk) (perChunk stsc chunks))
+
+      pub past-less : 0 < n → length (ahead stsc chunks (placePast stsc chunks n p .cursor)) < length (ahead stsc chunks (p .cursor))
+      past-less g = omega (arith, past-length)
+
+      past-begins : p .begin + n * p .cursor .per ≡ before (perChunk stsc chunks) (p .chunk + n)
+      past-begins =
+          let ps = perChunk stsc chunks in
+          let l = ahead stsc chunks (placePast stsc chunks n p .cursor) in
+          omega (
+            arith,
+            w .begins,
+            ap sum (take-add (p .chunk) n ps) ∙ sum-append (take (p .chunk) ps) (take n (drop (p .chunk) ps)),
+            ap (λ r. before r n) (sym (w .valid .samples) ∙ past-opened) ∙ before-in (p .cursor .per) l n n (omega arith),
+          )
+
+      pub at-past : 0 < n → At stsc chunks i (placePast stsc chunks n p)
+      at-past g = record {
+        valid = ready-valid stsc chunks (past-valid stsc chunks (p .cursor) n h (w .valid));
+        stands = past-same .stands;
+        begins = past-begins;
+        reaches = λ z. omega (arith, w .reaches some-remain, at-least n (p .cursor .per) g);
+      }
+
+    -- and one, which is the next
     opened : ahead stsc chunks (p .cursor) ≡ p .cursor .per ∷ ahead stsc chunks (placeAfter stsc chunks p .cursor)
-    opened = ahead-cons stsc chunks (p .cursor) remains ∙ ap (λ l. p .cursor .per ∷ l) (sym (again .samples))
+    opened = past-opened 1 remains
 
     pub at-less : length (ahead stsc chunks (placeAfter stsc chunks p .cursor)) < length (ahead stsc chunks (p .cursor))
-    at-less = omega (arith, ap length opened)
+    at-less = past-less 1 remains (omega arith)
+
+    pub at-again : At stsc chunks i (placeAfter stsc chunks p)
+    at-again = subst (At stsc chunks i) (one-past stsc chunks p) (at-past 1 remains (omega arith))
 
     -- its chunk is one of the chunks
     pub at-chunk : p .chunk < length (perChunk stsc chunks)
-    at-chunk = omega (arith, ap length opened, ap length (w .valid .samples), length-drop (p .chunk) (perChunk stsc chunks))
+    at-chunk = omega (arith, past-chunk 1 remains (omega arith))
 
     pub at-next : pairsAhead stsc stsz stco chunks i j p
         ≡ pairOf i j (p .begin) (p .cursor .per) (getD (chunkOffsets stco) (p .chunk) 0) (sizes stsz) ∷ pairsAhead stsc stsz stco chunks i j (placeAfter stsc chunks p)
@@ -123,16 +190,18 @@ module _ (stsc stsz stco : List ℕ) (chunks i j : ℕ) (p : Place) (w : At stsc
         let g : getD (drop (p .chunk) cs) 0 0 ≡ getD cs (p .chunk) 0 = getD-drop (p .chunk) cs 0 0 ∙ ap (λ (k : ℕ). getD cs k 0) z in
         rw (opened, is-touched i j (p .begin) (p .cursor .per) begins-low (w .reaches some-remain), g, drop-drop)
 
-    pub at-again : At stsc chunks i (placeAfter stsc chunks p)
-    at-again =
-        let ps = perChunk stsc chunks in
-        let o : p .chunk + 1 ≡ suc (p .chunk) = omega arith in
-        record {
-          valid = ready-valid stsc chunks (past-valid stsc chunks (p .cursor) 1 remains (w .valid));
-          stands = again .stands;
-          begins = rw o (omega (arith, w .begins, before-suc ps (p .chunk), stands-at stsc chunks (p .cursor) remains (w .valid) .0));
-          reaches = λ n. omega (arith, w .reaches some-remain);
-        }
+    -- the pairs of the chunks that are put at once, and those from the place past them on
+    pub at-once : (n : ℕ) → AtOnce stsz stco i j p n → pairsAhead stsc stsz stco chunks i j p ≡ pairsAtOnce stsz stco i j p n ++ pairsAhead stsc stsz stco chunks i j (placePast stsc chunks n p)
+    at-once n o = elim (ℕ-discrete n 1) [
+      | yes z ↦ rw z (at-next ∙ ap (λ q. pairOf i j (p .begin) (p .cursor .per) (getD (chunkOffsets stco) (p .chunk) 0) (sizes stsz) ∷ pairsAhead stsc stsz stco chunks i j q) (sym (one-past stsc chunks p)))
+      | no z ↦
+          let cs = chunkOffsets stco in
+          let v = o .whole z in
+          let l : n ≤ length (drop (p .chunk) cs) = omega (arith, v .offsets, length-drop (p .chunk) cs) in
+          rw (ne-eqb n 1 z, past-opened n (o .few)) (
+          whole-touched i j (p .begin) n (p .cursor .per) (ahead stsc chunks (placePast stsc chunks n p .cursor)) (drop (p .chunk) cs) (sizes stsz) (v .from) (w .reaches some-remain) (λ _. begins-low) (v .to) l
+          ∙ rw (drop-drop n (p .chunk) cs))
+    ]
 
 -- ---- from the first place on
 

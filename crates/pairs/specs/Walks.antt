@@ -1,13 +1,17 @@
 -- Where a walk over the chunks of a stretch stands. These need not be believed: they are between the crate's own functions.
 use Prim.Native.Nat.{ℕ, suc, _+_, _*_, _^_, _≤_, _<_, min}
 use mathlib.Core.Path.{_≡_}
+use mathlib.Core.Bool.{cond}
 use mathlib.Core.List.{List, [], _∷_, map}
-use lib.ListN.{length, drop}
+use lib.ListN.{length, getD, take, drop}
+use lib.Seq.{sets}
+use lib.Dec.{eqb}
+use Rattle.bigendian.specs.BigEndian.{u32At}
 use Rattle.lists.specs.Lists.{sum, before, holder}
 use Rattle.words.specs.Words.{sizes, chunkOffsets}
 use Rattle.chunks.specs.Chunks.{perChunk}
 use Rattle.chunks.specs.Cursors.{Valid, Stands, ahead, readied, past}
-use Rattle.pairs.specs.Pairs.{touched}
+use Rattle.pairs.specs.Pairs.{pairOf, touched, flat}
 use Rattle.pairs.specs.declared.Pair.{Pair}
 use Rattle.pairs.specs.declared.Place.{Place}
 
@@ -54,7 +58,54 @@ abbrev pub placeAfter : List ℕ → ℕ → Place → Place
 placeAfter stsc chunks p =
     record { cursor = readied stsc chunks (past 1 (p .cursor)); chunk = p .chunk + 1; begin = p .begin + p .cursor .per }
 
+-- before the chunk that is n further on in the same run
+abbrev pub placePast : List ℕ → ℕ → ℕ → Place → Place
+placePast stsc chunks n p =
+    record { cursor = readied stsc chunks (past n (p .cursor)); chunk = p .chunk + n; begin = p .begin + n * p .cursor .per }
+
 -- before the chunk of sample i
 pub record StartsAt (stsc : List ℕ) (chunks i : ℕ) (p : Place) : Type 0 where
   pub place : p .chunk ≡ holder (perChunk stsc chunks) i
   pub at : At stsc chunks i p
+
+-- ---- several chunks at once
+
+-- the pairs of whole chunks of p samples each, by their offsets and the sizes of the samples ahead; and of chunks that have so many bytes each
+abbrev pub wholes : ℕ → List ℕ → List ℕ → List Pair
+wholes p [] zs = []
+wholes p (c ∷ cs) zs = record { offset = c; length = sum (take p zs) } ∷ wholes p cs (drop p zs)
+
+abbrev pub alike : ℕ → List ℕ → List Pair
+alike bytes cs = map (λ c. record { offset = c; length = bytes }) cs
+
+-- n chunks of the run at a place are asked for whole; their offsets are there, and their sizes, where these are common
+pub record Whole (stsz stco : List ℕ) (i j : ℕ) (p : Place) (n : ℕ) : Type 0 where
+  pub from : i ≤ p .begin
+  pub to : p .begin + n * p .cursor .per ≤ j
+  pub offsets : p .chunk + n ≤ length (chunkOffsets stco)
+  pub common : (u32At stsz 12 ≡ 0 → ⊥) → p .begin + n * p .cursor .per ≤ u32At stsz 16
+
+-- n chunks of the run are put at once: one, of whatever is asked for of it, or some whole ones
+pub record AtOnce (stsz stco : List ℕ) (i j : ℕ) (p : Place) (n : ℕ) : Type 0 where
+  pub some : 0 < n
+  pub few : n ≤ p .cursor .remaining
+  pub whole : (n ≡ 1 → ⊥) → Whole stsz stco i j p n
+
+-- the pairs of these
+abbrev pub wholesAt : List ℕ → List ℕ → Place → ℕ → List Pair
+wholesAt stsz stco p n = wholes (p .cursor .per) (take n (drop (p .chunk) (chunkOffsets stco))) (drop (p .begin) (sizes stsz))
+
+abbrev pub pairsAtOnce : List ℕ → List ℕ → ℕ → ℕ → Place → ℕ → List Pair
+pairsAtOnce stsz stco i j p n =
+    cond (eqb n 1) (pairOf i j (p .begin) (p .cursor .per) (getD (chunkOffsets stco) (p .chunk) 0) (sizes stsz) ∷ []) (wholesAt stsz stco p n)
+
+-- some pairs can be put into so many places, from the place `at` on
+pub record Room (qs : List Pair) (at places : ℕ) : Type 0 where
+  pub fits : Fitting qs
+  pub total : sum (lengthsOf qs) < 2 ^ 64
+  pub space : at + 2 * length qs ≤ places
+
+-- and were put, their lengths being added to `bytes`
+pub record Put (qs : List Pair) (room : List ℕ) (at bytes : ℕ) (after : List ℕ) : Type 0 where
+  pub added : bytes ≡ sum (lengthsOf qs)
+  pub stored : after ≡ sets room at (flat qs)

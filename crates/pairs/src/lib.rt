@@ -3,24 +3,28 @@
 // pairs is kept.
 pub mod written;
 
+use bigendian::after;
+use bigendian::u32_at;
 use chunks::Cursor;
 use chunks::pass;
 use chunks::ready;
 use chunks::seek;
 use words::bytes_between;
 use words::chunk_offset;
+use words::first_sum;
 ghost use mathlib.Core.Path.{_≡_};
 ghost use mathlib.Core.Bool.{_||_};
 ghost use lib.Dec.{eqb, leb};
 ghost use Prim.Native.Nat.{_+_, _*_, _-_, _≤_, _<_, _^_, min, max};
 ghost use lib.ListN.{length, getD};
-ghost use Rattle.words.specs.Words.{sizes, chunkOffsets};
+ghost use Rattle.bigendian.specs.BigEndian.{u32At};
+ghost use Rattle.words.specs.Words.{wordsIn, sizes, chunkOffsets};
 ghost use Rattle.chunks.specs.Chunks.{perChunk};
 ghost use lib.Seq.{sets};
 ghost use mathlib.Core.List.{[], _∷_};
 ghost use Rattle.lists.specs.Lists.{sum, between};
 ghost use Rattle.pairs.specs.Pairs.{pairOf, flat};
-ghost use Rattle.pairs.specs.Walks.{pairsBetween, lengthsOf, countBetween, chunksTo, Putting, StartsAt, placeAfter};
+ghost use Rattle.pairs.specs.Walks.{pairsBetween, lengthsOf, countBetween, chunksTo, Putting, StartsAt, placeAfter, placePast, wholes, alike, AtOnce, wholesAt, pairsAtOnce, Room, Put};
 
 // A range of bytes of the file.
 pub struct Pair {
@@ -156,6 +160,170 @@ fn put_pair(q: Pair, room: &mut [u32], at: usize)
     room[at + 1] = q.length as u32;
 }
 
+// Up to which sample a chunk's sizes are those of whole chunks: not past the last sample where they are common, since from there on a size is 0.
+fn whole_end(stsz: &[u8], stop: u32) -> u32
+    ensures { λ r. ⌜ (r ≤ stop) × ((u32At (now (stsz .entry)) 12 ≡ 0 → ⊥) → r ≤ u32At (now (stsz .entry)) 16) ⌝ }
+{
+    if u32_at(stsz, 12) == 0 {
+        return stop;
+    }
+    let samples = u32_at(stsz, 16);
+    if samples < stop { samples } else { stop }
+}
+
+// How many of some chunks with as many samples each lie before `end`. Only where they don't all is there a division.
+fn whole_chunks(count: u64, per: u32, begin: u64, end: u32) -> u64
+    ensures { λ r. ⌜ (r ≤ count) × (r < 2 ^ 32) × ((r ≡ 0 → ⊥) → begin + r * per ≤ end) ⌝ }
+{
+    if 4294967295 < count {
+        return 0;
+    }
+    if end as u64 <= begin {
+        return 0;
+    }
+    let samples = end as u64 - begin;
+    let each = per as u64;
+    if count * each <= samples {
+        return count;
+    }
+    samples / each
+}
+
+// How many chunks of the run at a place can be put at once.
+fn chunks_at_once(stsz: &[u8], stco: &[u8], p: Place, from: u32, stop: u32) -> u64
+    requires { ⌜ (p .cursor .remaining ≡ 0 → ⊥) × (p .chunk < 2 ^ 63) ⌝ }
+    ensures { λ r. ⌜ AtOnce (now (stsz .entry)) (now (stco .entry)) from stop p r ⌝ }
+{
+    let c = p.cursor;
+    let count = c.remaining;
+    let begin = p.begin;
+    if count == 1 {
+        return 1;
+    }
+    if begin < from as u64 {
+        return 1;
+    }
+    let n = whole_chunks(count, c.per, begin, whole_end(stsz, stop));
+    if n == 0 {
+        return 1;
+    }
+    let offsets = after(stco, 16);
+    let there = (offsets.len() / 4) as u64;
+    if there < p.chunk + n {
+        return 1;
+    }
+    n
+}
+
+// Puts the pairs of whole chunks with as many samples each, a chunk for each of the offsets, the sizes being those of their samples.
+fn put_listed(offsets: &[u8], sizes: &[u8], per: u32, room: &mut [u32], at: usize) -> u64
+    requires { ⌜ Room (wholes per (wordsIn (now offsets)) (wordsIn (now sizes))) at (length (now room)) ⌝ }
+    ensures { λ r. ⌜ Put (wholes per (wordsIn (now (offsets .entry))) (wordsIn (now (sizes .entry)))) (now (room .entry)) at r (now (room .exit)) ⌝ }
+{
+    let mut t = offsets;
+    let mut z = sizes;
+    let mut k = at;
+    let mut total: u64 = 0;
+    while 4 <= t.len() {
+        let bytes = first_sum(z, per);
+        let offset = u32_at(t, 0) as u64;
+        total += bytes;
+        put_pair(
+            Pair {
+                offset,
+                length: bytes,
+            },
+            room,
+            k,
+        );
+        k += 2;
+        t = &t[4..];
+        let others = after(z, per as usize * 4);
+        z = others;
+    }
+    total
+}
+
+// The same where each chunk has as many bytes.
+fn put_same(offsets: &[u8], bytes: u64, room: &mut [u32], at: usize) -> u64
+    requires { ⌜ Room (alike bytes (wordsIn (now offsets))) at (length (now room)) ⌝ }
+    ensures { λ r. ⌜ Put (alike bytes (wordsIn (now (offsets .entry)))) (now (room .entry)) at r (now (room .exit)) ⌝ }
+{
+    let mut t = offsets;
+    let mut k = at;
+    let mut total: u64 = 0;
+    while 4 <= t.len() {
+        let offset = u32_at(t, 0) as u64;
+        total += bytes;
+        put_pair(
+            Pair {
+                offset,
+                length: bytes,
+            },
+            room,
+            k,
+        );
+        k += 2;
+        t = &t[4..];
+    }
+    total
+}
+
+// Puts the pairs of some whole chunks from a place on.
+fn put_whole(stsz: &[u8], stco: &[u8], p: Place, n: u64, room: &mut [u32], at: usize) -> u64
+    requires { ⌜ (p .begin < 2 ^ 32) × (p .chunk + n ≤ length (chunkOffsets (now stco))) × ((u32At (now stsz) 12 ≡ 0 → ⊥) → p .begin + n * p .cursor .per ≤ u32At (now stsz) 16) × Room (wholesAt (now stsz) (now stco) p n) at (length (now room)) ⌝ }
+    ensures { λ r. ⌜ Put (wholesAt (now (stsz .entry)) (now (stco .entry)) p n) (now (room .entry)) at r (now (room .exit)) ⌝ }
+{
+    let part = after(stco, 16);
+    let start = p.chunk as usize * 4;
+    let end = start + n as usize * 4;
+    let c = p.cursor;
+    let each = u32_at(stsz, 12);
+    if each == 0 {
+        let sizes = after(after(stsz, 20), p.begin as usize * 4);
+        return put_listed(&part[start..end], sizes, c.per, room, at);
+    }
+    put_same(&part[start..end], c.per as u64 * each as u64, room, at)
+}
+
+// Puts the pairs of some chunks of the run at a place: of one, or of whole ones.
+fn put_chunks(
+    stsz: &[u8],
+    stco: &[u8],
+    p: Place,
+    n: u64,
+    from: u32,
+    stop: u32,
+    room: &mut [u32],
+    at: usize,
+) -> u64
+    requires { ⌜ (p .begin < stop) × AtOnce (now stsz) (now stco) from stop p n × Room (pairsAtOnce (now stsz) (now stco) from stop p n) at (length (now room)) ⌝ }
+    ensures { λ r. ⌜ Put (pairsAtOnce (now (stsz .entry)) (now (stco .entry)) from stop p n) (now (room .entry)) at r (now (room .exit)) ⌝ }
+{
+    if n == 1 {
+        let q = pair_at(stsz, stco, p, from, stop);
+        put_pair(q, room, at);
+        return q.length;
+    }
+    put_whole(stsz, stco, p, n, room, at)
+}
+
+// Before the chunk that is n further on in the same run.
+fn place_past(stsc: &[u8], chunks: u32, p: Place, n: u64) -> Place
+    requires { ⌜ (p .chunk + n < 2 ^ 64) × (p .begin < 2 ^ 32) × ((n ≡ 1 → ⊥) → p .begin + n * p .cursor .per < 2 ^ 32) ⌝ }
+    ensures { λ r. ⌜ r ≡ placePast (now (stsc .entry)) chunks n p ⌝ }
+{
+    let c = p.cursor;
+    let per = c.per;
+    let chunk = p.chunk;
+    let begin = p.begin;
+    Place {
+        cursor: ready(stsc, chunks, pass(c, n)),
+        chunk: chunk + n,
+        begin: begin + n * per as u64,
+    }
+}
+
 // Puts the pairs into the first places of the room, and answers their lengths, added.
 pub fn put_pairs(
     stsc: &[u8],
@@ -173,11 +341,10 @@ pub fn put_pairs(
     let mut at = 0;
     let mut total: u64 = 0;
     while !is_past(p, stop) {
-        let q = pair_at(stsz, stco, p, from, stop);
-        total += q.length;
-        put_pair(q, room, at);
-        at += 2;
-        p = next_place(stsc, chunks, p);
+        let n = chunks_at_once(stsz, stco, p, from, stop);
+        total += put_chunks(stsz, stco, p, n, from, stop, room, at);
+        at += 2 * n as usize;
+        p = place_past(stsc, chunks, p, n);
     }
     total
 }

@@ -21,7 +21,7 @@ add-t12 : tie.Need-add-t12
 add-t12 c = search needs
 
 returns : tie.Need-returns
-returns c = place-made _ _ _ _ _ (c .before .pass .ensures) (c .ready .ensures .0)
+returns c = place-made _ _ 1 (c .before .before .before .before .args .p) _ _ _ _ (c .before .pass .ensures) (c .ready .ensures .0)
 
 pub next-place-spec : {M : Type 1} → statement M
 next-place-spec =
