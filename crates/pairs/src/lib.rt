@@ -160,7 +160,7 @@ fn put_pair(q: Pair, room: &mut [u32], at: usize)
     room[at + 1] = q.length as u32;
 }
 
-// Up to which sample a chunk's sizes are those of whole chunks: not past the last sample where they are common, since from there on a size is 0.
+// Up to which sample chunks can be put at once: `stop`, but not past the last sample where the sizes are common, since from there on a size is 0.
 fn whole_end(stsz: &[u8], stop: u32) -> u32
     ensures { λ r. ⌜ (r ≤ stop) × ((u32At (now (stsz .entry)) 12 ≡ 0 → ⊥) → r ≤ u32At (now (stsz .entry)) 16) ⌝ }
 {
@@ -171,7 +171,7 @@ fn whole_end(stsz: &[u8], stop: u32) -> u32
     if samples < stop { samples } else { stop }
 }
 
-// How many of some chunks with as many samples each lie before `end`. Only where they don't all is there a division.
+// How many of `count` chunks, with `per` samples each, end by the sample `end`. There is a division only where they don't all.
 fn whole_chunks(count: u64, per: u32, begin: u64, end: u32) -> u64
     ensures { λ r. ⌜ (r ≤ count) × (r < 2 ^ 32) × ((r ≡ 0 → ⊥) → begin + r * per ≤ end) ⌝ }
 {
@@ -189,7 +189,7 @@ fn whole_chunks(count: u64, per: u32, begin: u64, end: u32) -> u64
     samples / each
 }
 
-// How many chunks of the run at a place can be put at once.
+// How many chunks of the run at a place are put at once: all that are asked for whole, or one.
 fn chunks_at_once(stsz: &[u8], stco: &[u8], p: Place, from: u32, stop: u32) -> u64
     requires { ⌜ (p .cursor .remaining ≡ 0 → ⊥) × (p .chunk < 2 ^ 63) ⌝ }
     ensures { λ r. ⌜ AtOnce (now (stsz .entry)) (now (stco .entry)) from stop p r ⌝ }
@@ -215,7 +215,7 @@ fn chunks_at_once(stsz: &[u8], stco: &[u8], p: Place, from: u32, stop: u32) -> u
     n
 }
 
-// Puts the pairs of whole chunks with as many samples each, a chunk for each of the offsets, the sizes being those of their samples.
+// Puts the pairs of whole chunks with `per` samples each, one for each of the offsets. The sizes begin with those of their samples.
 fn put_listed(offsets: &[u8], sizes: &[u8], per: u32, room: &mut [u32], at: usize) -> u64
     requires { ⌜ Room (wholes per (wordsIn (now offsets)) (wordsIn (now sizes))) at (length (now room)) ⌝ }
     ensures { λ r. ⌜ Put (wholes per (wordsIn (now (offsets .entry))) (wordsIn (now (sizes .entry)))) (now (room .entry)) at r (now (room .exit)) ⌝ }
@@ -227,15 +227,12 @@ fn put_listed(offsets: &[u8], sizes: &[u8], per: u32, room: &mut [u32], at: usiz
     while 4 <= t.len() {
         let bytes = first_sum(z, per);
         let offset = u32_at(t, 0) as u64;
+        let q = Pair {
+            offset,
+            length: bytes,
+        };
         total += bytes;
-        put_pair(
-            Pair {
-                offset,
-                length: bytes,
-            },
-            room,
-            k,
-        );
+        put_pair(q, room, k);
         k += 2;
         t = &t[4..];
         let others = after(z, per as usize * 4);
@@ -244,7 +241,7 @@ fn put_listed(offsets: &[u8], sizes: &[u8], per: u32, room: &mut [u32], at: usiz
     total
 }
 
-// The same where each chunk has as many bytes.
+// The same where each chunk has `bytes` bytes.
 fn put_same(offsets: &[u8], bytes: u64, room: &mut [u32], at: usize) -> u64
     requires { ⌜ Room (alike bytes (wordsIn (now offsets))) at (length (now room)) ⌝ }
     ensures { λ r. ⌜ Put (alike bytes (wordsIn (now (offsets .entry)))) (now (room .entry)) at r (now (room .exit)) ⌝ }
@@ -254,15 +251,12 @@ fn put_same(offsets: &[u8], bytes: u64, room: &mut [u32], at: usize) -> u64
     let mut total: u64 = 0;
     while 4 <= t.len() {
         let offset = u32_at(t, 0) as u64;
+        let q = Pair {
+            offset,
+            length: bytes,
+        };
         total += bytes;
-        put_pair(
-            Pair {
-                offset,
-                length: bytes,
-            },
-            room,
-            k,
-        );
+        put_pair(q, room, k);
         k += 2;
         t = &t[4..];
     }
