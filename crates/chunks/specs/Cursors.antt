@@ -55,7 +55,7 @@ pub record Finds (s : List ℕ) (chunks i : ℕ) (r : Sought) : Type 0 where
   pub valid : Valid s chunks (r .chunk) (r .cursor)
   pub stands : Stands s chunks (r .cursor)
 
--- none of some numbers is above m
+-- none of some numbers is above m, as is asked of the offsets of a run
 abbrev pub noneAbove : ℕ → List ℕ → Bool
 noneAbove m [] = true
 noneAbove m (x ∷ xs) = cond (ltb m x) false (noneAbove m xs)

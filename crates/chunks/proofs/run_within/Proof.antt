@@ -9,7 +9,6 @@ use Rattle.chunks.specs.Chunks.{endWithin}
 use Rattle.chunks.proofs.RunEnds.{listed-from, common-from}
 use Rattle.chunks.proofs.run_within.Statement.{statement}
 use Rattle.chunks.proofs.run_within.Tie as tie
-use Rattle.bigendian.proofs.u32_at.Reads as u32-at-reads
 
 u32-at-requires : tie.Need-u32-at-requires
 u32-at-requires c κs = search needs
