@@ -1,10 +1,10 @@
 -- A place in stsc, by value: how many chunks remain of a run, and where the entries not yet read begin.
 use Prim.Native.Nat.{ℕ, _+_, _-_}
 use mathlib.Core.Path.{_≡_}
-use mathlib.Core.Bool.{Bool, true, false, cond}
+use mathlib.Core.Bool.{cond}
 use mathlib.Core.List.{List, [], _∷_, _++_}
 use lib.ListN.{drop, replicate}
-use lib.Dec.{ltb, eqb}
+use lib.Dec.{eqb}
 use Rattle.lists.specs.Lists.{before, holder}
 use Rattle.chunks.specs.Chunks.{Deal, dealsIn, firstOf, dealt, perChunk, descriptionIds}
 use Rattle.chunks.specs.declared.Cursor.{Cursor}
@@ -54,8 +54,3 @@ pub record Finds (s : List ℕ) (chunks i : ℕ) (r : Sought) : Type 0 where
   pub start : r .within ≡ i - before (perChunk s chunks) (holder (perChunk s chunks) i)
   pub valid : Valid s chunks (r .chunk) (r .cursor)
   pub stands : Stands s chunks (r .cursor)
-
--- none of some numbers is above m, as is asked of the offsets of a run
-abbrev pub noneAbove : ℕ → List ℕ → Bool
-noneAbove m [] = true
-noneAbove m (x ∷ xs) = cond (ltb m x) false (noneAbove m xs)

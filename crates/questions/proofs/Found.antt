@@ -21,7 +21,7 @@ use Rattle.chunks.specs.Chunks.{perChunk, descriptionIds, locatedIn, offsetOf, 
 use Rattle.chunks.specs.declared.Located.{Located}
 use Rattle.chunks.proofs.Agreed.{samples-length}
 use Rattle.chunks.proofs.Finding.{offset-located}
-use Rattle.chunks.proofs.Ends.{all-within, sample-within}
+use Rattle.chunk_ends.proofs.Ends.{all-within, sample-within}
 use Rattle.structure.specs.Track.{tableOf, samplesOf, chunksOf}
 use Rattle.structure.specs.Rows.{orElse}
 use Rattle.structure.proofs.Callers.{none-else}

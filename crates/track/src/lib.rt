@@ -1,7 +1,7 @@
 // The refusals of a track, 7 to 13, from the body of its trak.
 use atoms::kinds;
 use bigendian::u32_at;
-use chunks::chunks_end_within;
+use chunk_ends::chunks_end_within;
 use chunks::deals_agree;
 use chunks::total_dealt;
 use edits::edits_ok;

@@ -1,14 +1,14 @@
--- `chunks::run_within` meets its contract: the sizes from an index on are listed, or each is the common one.
+-- `chunk_ends::run_within` meets its contract: the sizes from an index on are listed, or each is the common one.
 -- Assumes nothing.
 use borrow.Author.Needs.{needs}
 use mathlib.Core.Path.{ap, _∙_}
 use denote.Ref.{now}
 use lib.ListN.{replicate}
 use Rattle.words.specs.Words.{wordsIn}
 use Rattle.chunks.specs.Chunks.{endWithin}
-use Rattle.chunks.proofs.RunEnds.{listed-from, common-from}
-use Rattle.chunks.proofs.run_within.Statement.{statement}
-use Rattle.chunks.proofs.run_within.Tie as tie
+use Rattle.chunk_ends.proofs.RunEnds.{listed-from, common-from}
+use Rattle.chunk_ends.proofs.run_within.Statement.{statement}
+use Rattle.chunk_ends.proofs.run_within.Tie as tie
 
 u32-at-requires : tie.Need-u32-at-requires
 u32-at-requires c κs = search needs

@@ -1,4 +1,4 @@
--- `chunks::chunks_end_within` meets its contract: what the chunks ahead of the cursor say is what all say. A run has at most 2 ^ 32 chunks.
+-- `chunk_ends::chunks_end_within` meets its contract: what the chunks ahead of the cursor say is what all say. A run has at most 2 ^ 32 chunks.
 -- Assumes nothing.
 use borrow.Author.Needs.{needs}
 use Prim.Native.Nat.{_≤_}
@@ -11,12 +11,12 @@ use Rattle.bigendian.specs.BigEndian.{u32At}
 use Rattle.lists.proofs.Laws.{wide-mul}
 use Rattle.words.specs.Words.{sizes, chunkOffsets}
 use Rattle.words.proofs.Sums.{few-sizes}
 use Rattle.chunks.specs.Chunks.{perChunk, endWithin}
 use Rattle.chunks.specs.Cursors.{ahead}
 use Rattle.chunks.specs.declared.Cursor.{Cursor}
-use Rattle.chunks.proofs.Ends.{Ending, ending-start, ended, passes, ending-next, ending-less}
-use Rattle.chunks.proofs.chunks_end_within.Statement.{statement}
-use Rattle.chunks.proofs.chunks_end_within.Tie as tie
+use Rattle.chunk_ends.proofs.Ends.{Ending, ending-start, ended, passes, ending-next, ending-less}
+use Rattle.chunk_ends.proofs.chunks_end_within.Statement.{statement}
+use Rattle.chunk_ends.proofs.chunks_end_within.Tie as tie
 
 abbrev Inv-loop : tie.InvT-loop
 Inv-loop stsc stsz stco limit chunks t₀ c₀ begin₀ t c begin =

@@ -1,4 +1,4 @@
--- `chunks::clamped_within` meets its contract: what the chunks not yet asked say is what all say, with the samples that are not yet theirs.
+-- `chunk_ends::clamped_within` meets its contract: what the chunks not yet asked say is what all say, with the samples that are not yet theirs.
 -- Assumes nothing.
 use borrow.Author.Needs.{needs}
 use Prim.Native.Nat.{_-_, _*_, _≤_}
@@ -9,10 +9,10 @@ use lib.ListN.{take, replicate}
 use Rattle.lists.specs.Lists.{sum}
 use Rattle.lists.proofs.Laws.{product-max}
 use Rattle.words.specs.Words.{wordsIn}
 use Rattle.chunks.specs.Chunks.{endWithin}
-use Rattle.chunks.proofs.RunEnds.{first-over, first-within, none-remain, same-sum, same-after}
-use Rattle.chunks.proofs.clamped_within.Statement.{statement}
-use Rattle.chunks.proofs.clamped_within.Tie as tie
+use Rattle.chunk_ends.proofs.RunEnds.{first-over, first-within, none-remain, same-sum, same-after}
+use Rattle.chunk_ends.proofs.clamped_within.Statement.{statement}
+use Rattle.chunk_ends.proofs.clamped_within.Tie as tie
 
 abbrev Inv-loop : tie.InvT-loop
 Inv-loop offsets samples each count per limit t₀ stock₀ rest₀ t stock rest = endWithin limit (replicate rest per) (wordsIn t) (replicate stock each) ≡ endWithin limit (replicate count per) (wordsIn offsets) (replicate samples each)

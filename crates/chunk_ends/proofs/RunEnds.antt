@@ -16,8 +16,8 @@ use Rattle.bigendian.specs.BigEndian.{u32At}
 use Rattle.lists.specs.Lists.{sum}
 use Rattle.words.specs.Words.{wordsIn, sizes}
 use Rattle.words.proofs.Turns.{words-none, words-next, words-drop, sizes-listed, sizes-common}
 use Rattle.chunks.specs.Chunks.{endWithin}
-use Rattle.chunks.specs.Cursors.{noneAbove}
+use Rattle.chunk_ends.specs.Ends.{noneAbove}
 
 -- ---- the first chunk of a run
 

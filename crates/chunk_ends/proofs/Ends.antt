@@ -16,11 +16,11 @@ use Rattle.lists.proofs.Laws.{length-run}
 use Rattle.lists.proofs.Places.{holds-below, holder-holds, between-split, between-one}
 use Rattle.words.specs.Words.{wordsIn, chunkOffsets}
 use Rattle.words.proofs.Turns.{offsets-in, words-drop}
 use Rattle.chunks.specs.Chunks.{perChunk, offsetOf, endWithin}
 use Rattle.chunks.specs.Cursors.{ahead, Stands, startCursor, readied, past}
 use Rattle.chunks.specs.declared.Cursor.{Cursor}
 use Rattle.chunks.proofs.Cursors.{start-samples, Same, ready-same, ahead-run}
-use Rattle.chunks.proofs.RunEnds.{run-then}
+use Rattle.chunk_ends.proofs.RunEnds.{run-then}
 
 -- ---- samples, up to the largest index
 

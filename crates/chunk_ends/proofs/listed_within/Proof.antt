@@ -1,4 +1,4 @@
--- `chunks::listed_within` meets its contract: what the chunks not yet asked say is what all say.
+-- `chunk_ends::listed_within` meets its contract: what the chunks not yet asked say is what all say.
 -- Assumes nothing.
 use borrow.Author.Needs.{needs}
 use mathlib.Core.Path.{_≡_, refl, sym, ap, _∙_}
@@ -7,10 +7,10 @@ use denote.Ref.{now}
 use lib.ListN.{replicate}
 use Rattle.words.specs.Words.{wordsIn}
 use Rattle.words.proofs.Turns.{words-drop}
 use Rattle.chunks.specs.Chunks.{endWithin}
-use Rattle.chunks.proofs.RunEnds.{first-over, first-within, none-remain}
-use Rattle.chunks.proofs.listed_within.Statement.{statement}
-use Rattle.chunks.proofs.listed_within.Tie as tie
+use Rattle.chunk_ends.proofs.RunEnds.{first-over, first-within, none-remain}
+use Rattle.chunk_ends.proofs.listed_within.Statement.{statement}
+use Rattle.chunk_ends.proofs.listed_within.Tie as tie
 
 abbrev Inv-loop : tie.InvT-loop
 Inv-loop offsets sizes count per limit t₀ z₀ rest₀ t z rest = endWithin limit (replicate rest per) (wordsIn t) (wordsIn z) ≡ endWithin limit (replicate count per) (wordsIn offsets) (wordsIn sizes)

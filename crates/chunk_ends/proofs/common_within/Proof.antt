@@ -1,4 +1,4 @@
--- `chunks::common_within` meets its contract: with samples for each chunk the bytes of each are the same.
+-- `chunk_ends::common_within` meets its contract: with samples for each chunk the bytes of each are the same.
 -- Assumes nothing.
 use borrow.Author.Needs.{needs}
 use mathlib.Core.Path.{sym, _∙_}
@@ -6,9 +6,9 @@ use native.Mathlib.Omega.{arith}
 use denote.Ref.{now}
 use Rattle.lists.proofs.Laws.{wide-mul}
 use Rattle.words.specs.Words.{wordsIn}
-use Rattle.chunks.proofs.RunEnds.{all-full}
-use Rattle.chunks.proofs.common_within.Statement.{statement}
-use Rattle.chunks.proofs.common_within.Tie as tie
+use Rattle.chunk_ends.proofs.RunEnds.{all-full}
+use Rattle.chunk_ends.proofs.common_within.Statement.{statement}
+use Rattle.chunk_ends.proofs.common_within.Tie as tie
 
 mul-bytes : tie.Need-mul-bytes
 mul-bytes c = let f = c .before .fits in record { fits = wide-mul (omega (arith, f .per)) (omega (arith, f .each)) }

@@ -1,4 +1,4 @@
--- `chunks::offsets_within` meets its contract: what the offsets not yet read say is what all say, and none is above where none is there.
+-- `chunk_ends::offsets_within` meets its contract: what the offsets not yet read say is what all say, and none is above where none is there.
 -- Assumes nothing.
 use borrow.Author.Needs.{needs}
 use mathlib.Core.Path.{_≡_, refl, sym, _∙_}
@@ -6,10 +6,10 @@ use denote.Ref.{now}
 use lib.ListN.{take}
 use Rattle.bigendian.proofs.Parts.{rest as part-rest}
 use Rattle.words.specs.Words.{wordsIn}
-use Rattle.chunks.specs.Cursors.{noneAbove}
-use Rattle.chunks.proofs.RunEnds.{none-asked, no-offset, offset-above, offset-below}
-use Rattle.chunks.proofs.offsets_within.Statement.{statement}
-use Rattle.chunks.proofs.offsets_within.Tie as tie
+use Rattle.chunk_ends.specs.Ends.{noneAbove}
+use Rattle.chunk_ends.proofs.RunEnds.{none-asked, no-offset, offset-above, offset-below}
+use Rattle.chunk_ends.proofs.offsets_within.Statement.{statement}
+use Rattle.chunk_ends.proofs.offsets_within.Tie as tie
 
 abbrev Inv-loop : tie.InvT-loop
 Inv-loop offsets count most t₀ rest₀ t rest = noneAbove most (take rest (wordsIn t)) ≡ noneAbove most (take count (wordsIn offsets))
