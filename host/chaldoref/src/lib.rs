@@ -36,7 +36,7 @@
 //!
 //! The library keeps no state and allocates nothing. Each question judges the whole file again before it answers, in
 //! time that grows with the movie's tables (the `moov` atom) and not with the film's own bytes: for a million samples
-//! half a millisecond to some milliseconds. A question about one sample so costs as much as [`Movie::open`]; to have the bytes of
+//! half a millisecond to some hundredths of a second. A question about one sample so costs as much as [`Movie::open`]; to have the bytes of
 //! many samples ask for one [`Movie::stretch`], and not for each sample.
 //!
 //! # Memory
