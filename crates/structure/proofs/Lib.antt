@@ -1,5 +1,4 @@
 pub mod Rows
-pub mod Sentence
 pub mod Places
 pub mod Tracks
 pub mod Shaped

@@ -1,23 +1,39 @@
--- Numbers added one after the other, each the step from one value to the next, come to the way from the first value to the last: so the sizes of some samples
--- come to the bytes from the first to the last of them, and their parts in a stretch to its length.
+-- Numbers added by their indices, each the step from one value to the next, come to the way from the first value to the last: so the sizes of some samples come to
+-- the bytes from the first to the last of them, and the parts of all samples in a stretch to its length.
 -- Assumes nothing.
-use Prim.Native.Nat.{ℕ, zero, suc, _+_, _-_, _≤_, _<_, min, max}
-use mathlib.Core.Path.{_≡_, ap, _∙_}
+use Prim.Native.Nat.{ℕ, zero, suc, _+_, _-_, _≤_, _<_}
+use mathlib.Core.Path.{_≡_, refl, sym, ap, _∙_}
 use mathlib.Core.List.{List, [], _∷_, map, map-append}
 use native.Mathlib.Nat.{zero-add}
 use native.Mathlib.Omega.{arith}
-use native.Mathlib.Decide.{decLe, decLt}
-use lib.ListN.{getD, take, drop}
-use borrow.Author.Tests.{lt-ltb, le-ltb, le-leb, lt-leb}
-use Rattle.lists.specs.Lists.{sum, before, between, upTo, inside, part}
+use lib.ListN.{length, getD, take, drop}
+use Rattle.lists.specs.Lists.{sum, before, between, upTo, part, parts}
 use Rattle.lists.proofs.Laws.{sum-append}
-use Rattle.lists.proofs.Places.{before-suc, between-split, between-one}
+use Rattle.lists.proofs.Places.{before-suc, between-split, between-one, parts-sum}
 
 steps : (f g : ℕ → ℕ) (n : ℕ) → ((i : ℕ) → i < n → f i + g i ≡ g (suc i)) → sum (map f (upTo n)) + g 0 ≡ g n
 steps f g zero h = zero-add (g 0)
 steps f g (suc n) h =
     let e : sum (map f (upTo (suc n))) ≡ sum (map f (upTo n)) + (f n + 0) = ap sum (map-append f (upTo n) (n ∷ [])) ∙ sum-append (map f (upTo n)) (f n ∷ []) in
     omega (arith, e, steps f g n (λ i l. h i (omega arith)), h n (omega arith))
+
+-- ---- numbers by their index
+
+pub same-sums : (f g : ℕ → ℕ) (n : ℕ) → ((k : ℕ) → k < n → f k ≡ g k) → sum (map f (upTo n)) ≡ sum (map g (upTo n))
+same-sums f g zero h = refl
+same-sums f g (suc n) h = omega (arith, last f, last g, same-sums f g n (λ k l. h k (omega arith)), h n (omega arith))
+  where
+    last : (e : ℕ → ℕ) → sum (map e (upTo (suc n))) ≡ sum (map e (upTo n)) + (e n + 0)
+    last e = ap sum (map-append e (upTo n) (n ∷ [])) ∙ sum-append (map e (upTo n)) (e n ∷ [])
+
+-- the first k numbers of a list
+pub before-up : (xs : List ℕ) (k : ℕ) → sum (map (λ j. getD xs j 0) (upTo k)) ≡ before xs k
+before-up xs k = omega (arith, steps (λ j. getD xs j 0) (before xs) k (λ j h. omega (arith, before-suc xs j)))
+
+-- all of them
+pub before-all : (xs : List ℕ) → before xs (length xs) ≡ sum xs
+before-all [] = refl
+before-all (x ∷ xs) = omega (arith, before-all xs)
 
 -- ---- sizes
 
@@ -37,44 +53,25 @@ sizes-added zs f i n h =
 
 -- ---- parts of a stretch
 
--- x, moved into the stretch
-clamp : ℕ → ℕ → ℕ → ℕ
-clamp a b x = min b (max a x)
+part-at : (a b s : ℕ) (ds : List ℕ) (j : ℕ) → getD (parts a b s ds) j 0 ≡ part a b (s + before ds j) (getD ds j 0)
+part-at a b s [] zero = refl
+part-at a b s [] (suc j) = refl
+part-at a b s (d ∷ ds) zero = let e : s ≡ s + 0 = omega arith in ap (λ (x : ℕ). part a b x d) e
+part-at a b s (d ∷ ds) (suc j) =
+    let e : s + d + before ds j ≡ s + (d + before ds j) = omega arith in
+    part-at a b (s + d) ds j ∙ ap (λ (x : ℕ). part a b x (getD ds j 0)) e
 
-inside-eq : (a b s : ℕ) → a ≤ b → inside a b s + clamp a b s ≡ clamp a b (suc s)
-unfolding clamp
-inside-eq a b s h = elim (decLe a s) [
-  | yes l ↦ elim (decLt s b) [
-    | yes k ↦ rw (le-leb a s l, lt-ltb s b k) (omega arith)
-    | no k ↦ let q : b ≤ s = omega arith in rw (le-leb a s l, le-ltb s b q) (omega arith)
-  ]
-  | no l ↦ let q : s < a = omega arith in rw (lt-leb a s q) (omega arith)
-]
+parts-length : (a b s : ℕ) (ds : List ℕ) → length (parts a b s ds) ≡ length ds
+parts-length a b s [] = refl
+parts-length a b s (d ∷ ds) = ap suc (parts-length a b (s + d) ds)
 
-part-eq : (a b s d : ℕ) → a ≤ b → part a b s d + clamp a b s ≡ clamp a b (s + d)
-part-eq a b s zero h = let e : s ≡ s + 0 = omega arith in zero-add _ ∙ ap (clamp a b) e
-part-eq a b s (suc d) h =
-    let e : suc s + d ≡ s + suc d = omega arith in
-    omega (arith, inside-eq a b s h, part-eq a b (suc s) d h, ap (clamp a b) e)
-
-clamp-low : (a b x : ℕ) → a ≤ b → x ≤ a → clamp a b x ≡ a
-unfolding clamp
-clamp-low a b x h l = omega arith
-
-clamp-high : (a b x : ℕ) → a ≤ b → b ≤ x → clamp a b x ≡ b
-unfolding clamp
-clamp-high a b x h l = omega arith
-
--- f takes the parts of the widths of ds from index i on, of which the first starts no later than a and the last ends no earlier than b
-pub parts-added : (ds : List ℕ) (f : ℕ → ℕ) (a b i n : ℕ) → a ≤ b → before ds i ≤ a → b ≤ before ds (i + n)
-    → ((j : ℕ) → j < n → f j ≡ part a b (before ds (i + j)) (getD ds (i + j) 0)) → sum (map f (upTo n)) ≡ b - a
-parts-added ds f a b i n o l k h =
-    let g : ℕ → ℕ = λ j. clamp a b (before ds (i + j)) in
-    let z : i + 0 ≡ i = omega arith in
-    let first : g 0 ≡ a = ap (λ (j : ℕ). clamp a b (before ds j)) z ∙ clamp-low a b (before ds i) o l in
-    let last : g n ≡ b = clamp-high a b (before ds (i + n)) o k in
-    let all = steps f g n (λ j q.
-    let e : i + suc j ≡ suc (i + j) = omega arith in
-    let m : clamp a b (before ds (i + suc j)) ≡ clamp a b (before ds (i + j) + getD ds (i + j) 0) = ap (λ (x : ℕ). clamp a b (before ds x)) e ∙ ap (clamp a b) (before-suc ds (i + j)) in
-    omega (arith, h j q, m, part-eq a b (before ds (i + j)) (getD ds (i + j) 0) o)) in
-    omega (arith, all, first, last)
+-- f takes the part of each of the widths ds
+pub parts-added : (ds : List ℕ) (f : ℕ → ℕ) (a b n : ℕ) → a ≤ b → b ≤ sum ds → length ds ≡ n → ((j : ℕ) → j < n → f j ≡ part a b (before ds j) (getD ds j 0))
+    → sum (map f (upTo n)) ≡ b - a
+parts-added ds f a b n o w c h =
+    let ps = parts a b 0 ds in
+    same-sums f (λ j. getD ps j 0) n (λ j l. let e : 0 + before ds j ≡ before ds j = omega arith in h j l ∙ sym (part-at a b 0 ds j ∙ ap (λ (x : ℕ). part a b x (getD ds j 0)) e))
+    ∙ before-up ps n
+    ∙ ap (before ps) (sym (parts-length a b 0 ds ∙ c))
+    ∙ before-all ps
+    ∙ parts-sum a b ds o w

@@ -25,7 +25,7 @@ use Rattle.questions.specs.declared.samples.Sample.{Sample}
 use Rattle.questions.specs.declared.samples.SampleAnswer.the-variants.{Found, Refused}
 use Rattle.questions.specs.declared.times.NumberAnswer.the-variants as number
 use Rattle.stretch.specs.declared.StretchAnswer.the-variants as stretch
-use Rattle.theorems.specs.Demand.{tables}
+use Rattle.theorems.proofs.Lists.{tables}
 
 -- the sample that was found has this index
 pub record Told (s : List ℕ) (id n : ℕ) (x : Sample) : Type 0 where

@@ -1,4 +1,4 @@
--- In a file of bytes each atom and each body has bytes, so that the time scale of a track is a number of 32 bits; and the track that is asked has the ID.
+-- In a file of bytes each atom and each body has bytes, so that the ID and the time scale of a track are numbers of 32 bits; and the track that is asked has the ID.
 -- Assumes nothing.
 use Prim.Native.Nat.{ℕ, zero, suc, _+_, _^_, _<_}
 use mathlib.Core.Path.{_≡_, refl}
@@ -10,21 +10,16 @@ use lib.Seq.{getD-drop}
 use lib.Dec.{eqb}
 use borrow.Author.Tests.{eqb-true}
 use Rattle.bigendian.proofs.Laws.{beAt-below}
-use Rattle.atoms.specs.Kinds.{file, moov, trak, mdia, mdhd}
+use Rattle.atoms.specs.Kinds.{file, moov, trak, tkhd, mdia, mdhd}
 use Rattle.atoms.specs.Pieces.{piecesAfter, pieces}
 use Rattle.atoms.specs.Atoms.{kindOf, headerOf, bodyOf, sizeIn, ofKind, childIn, bodyIn}
 use Rattle.words.specs.Words.{listed}
 use Rattle.structure.specs.Track.{mdiaOf, idOf, scaleOf}
 use Rattle.structure.specs.Movie.{moovOf, tracksOf, trackAt}
 use Rattle.structure.proofs.Callers.{track-at}
-use Rattle.track.specs.Track.{trackOf}
 use Rattle.movie.specs.Tracks.{withId, hasTrack, trackWith}
 use Rattle.questions.specs.Asked.{trackAsked}
-use Rattle.theorems.specs.Demand.{tables}
-
--- each number of a list is a byte
-abbrev pub Bytes : List ℕ → Type 0
-Bytes s = (i : ℕ) → getD s i 0 < 256
+use Rattle.theorems.specs.Slips.{Bytes}
 
 take-bytes : (k : ℕ) (s : List ℕ) → Bytes s → Bytes (take k s)
 take-bytes zero s h i = omega arith
@@ -78,12 +73,15 @@ with-bytes id (t ∷ ts) h = go (eqb (idOf t) id) (with-bytes id ts (λ j. h (su
     go true r = h 0
     go false r = r
 
-pub scale-small : (s : List ℕ) (id : ℕ) → Bytes s → tables s id .scale < 2 ^ 32
-unfolding trackOf scaleOf mdiaOf trackAsked trackWith moovOf trackAt
-scale-small s id h =
+asked-bytes : (s : List ℕ) (id : ℕ) → Bytes s → Bytes (trackAsked s id)
+unfolding trackAsked trackWith moovOf trackAt
+asked-bytes s id h =
     let m = body-bytes file moov 0 s h in
-    let t = with-bytes id (tracksOf (moovOf s)) (λ i. rw (track-at (moovOf s) i) (body-bytes moov trak i (moovOf s) m)) in
-    beAt-below 4 _ 20 (child-bytes mdia mdhd 0 _ (body-bytes trak mdia 0 (trackAsked s id) t))
+    with-bytes id (tracksOf (moovOf s)) (λ i. rw (track-at (moovOf s) i) (body-bytes moov trak i (moovOf s) m))
+
+pub scale-small : (s : List ℕ) (id : ℕ) → Bytes s → scaleOf (trackAsked s id) < 2 ^ 32
+unfolding scaleOf mdiaOf
+scale-small s id h = beAt-below 4 _ 20 (child-bytes mdia mdhd 0 _ (body-bytes trak mdia 0 (trackAsked s id) (asked-bytes s id h)))
 
 with-id : (id : ℕ) (ts : List (List ℕ)) → listed id (map idOf ts) ≡ true → idOf (withId id ts) ≡ id
 with-id id [] h = let y : _≡_ {A = Bool} false true = h in let z : _≡_ {A = ℕ} 0 1 = cc in absurd (omega arith)
@@ -96,3 +94,7 @@ with-id id (t ∷ ts) h = go (eqb (idOf t) id) refl (λ q. with-id id ts (rw q a
 pub asked-id : (s : List ℕ) (id : ℕ) → hasTrack id (moovOf s) ≡ true → idOf (trackAsked s id) ≡ id
 unfolding trackAsked trackWith hasTrack
 asked-id s id h = with-id id (tracksOf (moovOf s)) h
+
+pub id-small : (s : List ℕ) (id : ℕ) → Bytes s → hasTrack id (moovOf s) ≡ true → id < 2 ^ 32
+unfolding idOf
+id-small s id b h = let l = beAt-below 4 (childIn trak tkhd 0 (trackAsked s id)) 20 (child-bytes trak tkhd 0 (trackAsked s id) (asked-bytes s id b)) in omega (arith, asked-id s id h, l)

@@ -9,10 +9,10 @@ use lib.ListN.{getD}
 use Rattle.lists.specs.Lists.{sum, before, holder, Holds}
 use Rattle.lists.proofs.Places as places
 use Rattle.chunks.specs.Chunks.{offsetOf}
-use Rattle.theorems.specs.Demand.{Gets}
+use Rattle.theorems.specs.Demand.{DealtTo}
 use Rattle.theorems.proofs.Added.{between-none}
 
-pub gets-of : (ps : List ℕ) (i k c n : ℕ) → c ≡ suc k → n ≡ suc i → Holds ps i k → Gets ps c n
+pub gets-of : (ps : List ℕ) (i k c n : ℕ) → c ≡ suc k → n ≡ suc i → Holds ps i k → DealtTo ps c n
 gets-of ps i k c n d e h =
     let b : c - 1 ≡ k = omega arith in
     record {
@@ -22,7 +22,7 @@ gets-of ps i k c n d e h =
       upto = rw (d, e) (omega (arith, h .to, places.before-suc ps k));
     }
 
-pub gets-only : (ps : List ℕ) (i c n : ℕ) → n ≡ suc i → Gets ps c n → c ≡ suc (holder ps i)
+pub gets-only : (ps : List ℕ) (i c n : ℕ) → n ≡ suc i → DealtTo ps c n → c ≡ suc (holder ps i)
 gets-only ps i c n e g =
     let d : suc (c - 1) ≡ c = omega (arith, g .first) in
     let h : c - 1 ≡ holder ps i = places.holder-only ps i (c - 1) (record {

@@ -2,25 +2,37 @@
 -- Assumes nothing.
 use Prim.Native.Nat.{ℕ, suc, _+_, _-_, _≤_, _<_}
 use mathlib.Core.Path.{_≡_, refl, sym, ap, _∙_}
-use mathlib.Core.List.{List}
+use mathlib.Core.Bool.{true}
+use mathlib.Core.List.{List, []}
 use native.Mathlib.Omega.{arith}
 use lib.ListN.{length, getD}
 use Rattle.lists.specs.Lists.{sum, before, between, holder, Holds}
 use Rattle.lists.proofs.Places as places
-use Rattle.chunks.specs.Chunks.{offsetOf}
+use Rattle.runs.specs.Runs.{durations}
+use Rattle.words.specs.Words.{sizes, chunkOffsets}
+use Rattle.chunks.specs.Chunks.{perChunk, dealsAgree, offsetOf}
 use Rattle.edits.specs.declared.MediaTime.{MediaTime}
-use Rattle.structure.specs.Track.{samplesOf}
+use Rattle.atoms.specs.Kinds.{stts, stsc, stsz, stco}
+use Rattle.structure.specs.Track.{idOf, tableOf, samplesOf, chunksOf, descriptionsOf}
+use Rattle.structure.specs.Movie.{moovOf, tracksOf}
+use Rattle.structure.proofs.Shaped.{Shaped}
+use Rattle.track.specs.Track.{trackOf}
+use Rattle.track.proofs.Agreed.{agreed-tables}
 use Rattle.questions.specs.Asked.{askRefusal, trackAsked}
+use Rattle.questions.proofs.Asking.{asked}
 use Rattle.questions.specs.Samples.{sampleOf, sampleAnswer}
 use Rattle.questions.specs.Times.{atAnswer}
 use Rattle.stretch.specs.Stretches.{firstIn, pastIn, bytesIn, stretchPairs}
 use Rattle.questions.specs.declared.samples.Sample.{Sample}
 use Rattle.questions.specs.declared.samples.SampleAnswer.the-variants.{Found}
 use Rattle.questions.specs.declared.times.NumberAnswer.the-variants as number
-use Rattle.theorems.specs.Demand.{tables, HasTime, partIn, sizeIn, howMany, added, AllLast, Demand3}
+use Rattle.theorems.specs.Entries.{stcoEntries, stszEntries, mediaTotal}
+use Rattle.theorems.specs.Demand.{HasTime, partIn, sizeIn, howMany, added, NoZeroDuration, OfTrack, Demand3}
 use Rattle.theorems.proofs.Added.{sizes-added, parts-added}
 use Rattle.theorems.proofs.Dealt.{gets-of, gets-only, first-low, first-chunk, first-offset, next-offset}
-use Rattle.theorems.proofs.Lists.{Listed, listed}
+use Rattle.theorems.proofs.Lists.{tables, Listed, listed}
+use Rattle.theorems.proofs.Entries.{total-is, count-is, entry-counts, size-at, offset-at, entry-holds}
+use Rattle.theorems.proofs.Tracks.{own-asked, own-itself}
 use Rattle.stretch.proofs.Spanning.{flat-length}
 use Rattle.theorems.proofs.Answers.{Told, found-is, none-is, past-is, found-told, at-is, at-outside, at-told, pairs-is, pairs-told}
 
@@ -57,7 +69,7 @@ unfolding sampleOf
 has-of s id i t h = record { from = h .from; to = h .to }
 
 -- the duration of an index is not zero where no answer's is
-lasting : (s : List ℕ) (id : ℕ) (e : askRefusal s id ≡ 0) (i : ℕ) → i < samplesOf (trackAsked s id) → AllLast s id → 0 < getD (tables s id .durations) i 0
+lasting : (s : List ℕ) (id : ℕ) (e : askRefusal s id ≡ 0) (i : ℕ) → i < samplesOf (trackAsked s id) → NoZeroDuration s id → 0 < getD (tables s id .durations) i 0
 unfolding sampleOf
 lasting s id e i h all = omega (arith, all (suc i) (sampleOf (tables s id) i) (found-is s id e (suc i) i refl h))
 
@@ -106,12 +118,6 @@ module _ (s : List ℕ) (id : ℕ) (e : askRefusal s id ≡ 0) (l : Listed s id)
     each : (j : ℕ) → j < r .n → sampleAnswer s id (first + j) ≡ Found (sampleOf (tables s id) (r .i + j))
     each j h = found-is s id e (first + j) (r .i + j) (omega (arith, r .begin)) (omega (arith, r .few))
 
-    parts-fit : a .0 < b .0 → added s id (partIn (a .0) (b .0)) first last ≡ b .0 - a .0
-    unfolding sampleOf
-    parts-fit o = rw (r .count)
-        (parts-added (tables s id .durations) (λ j. partIn (a .0) (b .0) (sampleAnswer s id (first + j))) (a .0) (b .0) (r .i) (r .n) (omega arith) (r .low) (r .high)
-        (λ j h. ap (partIn (a .0) (b .0)) (each j h)))
-
     sizes-fit : bytesIn (tables s id) a b ≡ added s id sizeIn first last
     unfolding sampleOf bytesIn firstIn pastIn
     sizes-fit = rw (r .count, ← r .here, ← r .there)
@@ -130,93 +136,156 @@ cut-fits s id a m b i pos h d o w =
     let c = places.cut ds zs (a .0) (b .0) i pos h (omega arith) (omega arith) in
     rw d (omega (arith, same (a .0) (b .0), same (a .0) (before ds i), same (before ds i) (b .0), c))
 
+-- the parts of all samples
+all-parts : (s : List ℕ) (id : ℕ) → askRefusal s id ≡ 0 → Listed s id → (a b : ℕ) → a < b → b ≤ sum (tables s id .durations)
+    → added s id (partIn a b) 1 (samplesOf (trackAsked s id)) ≡ b - a
+unfolding sampleOf
+all-parts s id e l a b o w =
+    let n = samplesOf (trackAsked s id) in
+    let c : suc n - 1 ≡ n = omega arith in
+    rw c
+    (parts-added (tables s id .durations) (λ j. partIn a b (sampleAnswer s id (1 + j))) a b n (omega arith) w (l .timed)
+    (λ j h. ap (partIn a b) (found-is s id e (1 + j) j (omega arith) h)))
+
 -- ---- the claim
 
-pub demand3 : (s : List ℕ) (id : ℕ) → askRefusal s id ≡ 0 → Demand3 s id
-demand3 s id e =
-    let l = listed s id e in
-    let ds = tables s id .durations in
-    let zs = tables s id .sizes in
-    let ps = tables s id .perChunk in
-    let cs = tables s id .chunkOffsets in
-    record {
-      timed = l .timed ∙ sym (l .sized);
-      dealt = l .dealt ∙ sym (l .sized);
-      chunks = l .chunks ∙ sym (l .placed);
-      found = λ n lo hi. (sampleOf (tables s id) (n - 1), found-is s id e n (n - 1) (omega arith) (omega (arith, l .sized)));
-      none = none-is s id e;
-      past = λ n h. past-is s id e n (omega (arith, l .sized));
-      named = λ t h.
-          let i = holder ds (t .0) in
-          let k = places.holder-holds ds (t .0) h in
-          let low : i < samplesOf (trackAsked s id) = omega (arith, places.holds-below ds (t .0) i k .1, l .timed) in
-          let f = found-is s id e (suc i) i refl low in (
-            suc i,
-            sampleOf (tables s id) i,
-            at-is s id e t h,
-            f,
-            has-of s id i (t .0) k,
-            λ m y q w.
-                let u = found-told s id e m y q in
-                u .number ∙ ap suc (places.holder-only ds (t .0) (u .index) (holds-told s id m y u (t .0) w)),
-          );
-      outside = λ t h. (
-        at-outside s id e t h,
-        λ m y q w.
-            let u = found-told s id e m y q in
-            omega (arith, places.holds-below ds (t .0) (u .index) (holds-told s id m y u (t .0) w) .0),
-      );
-      in-chunk = λ n x q.
-          let u = found-told s id e n x q in
-          gets-of ps (u .index) (holder ps (u .index)) (x .chunk) n (chunk-is s id n x u) (u .number) (places.holder-holds ps (u .index) (omega (arith, u .low, l .dealt)));
-      gets = λ c n g.
-          let o : n ≡ suc (n - 1) = omega (arith, g .after) in
-          let f = found-is s id e n (n - 1) o (omega (arith, g .after, g .upto, places.before-le ps c, l .dealt)) in
-          let u = found-told s id e n (sampleOf (tables s id) (n - 1)) f in
-          (sampleOf (tables s id) (n - 1), f, chunk-is s id n (sampleOf (tables s id) (n - 1)) u ∙ sym (gets-only ps (u .index) c n (u .number) g));
-      first-in = λ c lo hi.
-          let k = l .some (c - 1) (omega (arith, l .chunks, l .placed)) in
-          let i = before ps (c - 1) in
-          let f = found-is s id e (suc i) i refl (omega (arith, first-low ps (c - 1) k, l .dealt)) in
-          let u = found-told s id e (suc i) (sampleOf (tables s id) i) f in
-          let v : u .index ≡ i = omega (arith, u .number) in (
-            sampleOf (tables s id) i,
-            f,
-            chunk-is s id (suc i) (sampleOf (tables s id) i) u ∙ rw v (omega (arith, first-chunk ps (c - 1) k)),
-            offset-is s id (suc i) (sampleOf (tables s id) i) u ∙ rw v (first-offset ps (c - 1) k cs zs),
-          );
-      next-in = λ n x y p q same.
-          let u = found-told s id e n x p in
-          let v = found-told s id e (suc n) y q in
-          let w : v .index ≡ suc (u .index) = omega (arith, u .number, v .number) in
-          let g : holder ps (u .index) ≡ holder ps (suc (u .index)) = omega (arith, same, chunk-is s id n x u, chunk-is s id (suc n) y v, ap (holder ps) w) in
-          omega (
-            arith,
-            offset-is s id n x u,
-            size-is s id n x u,
-            offset-is s id (suc n) y v,
-            ap (offsetOf ps cs zs) w,
-            next-offset ps cs zs (u .index) (omega (arith, u .low, l .dealt)) g,
-          );
-      parts = λ a b z first last o w d p q. parts-fit s id e l a b first last (run-of s id e l a b z first last o w d p q) o;
-      answered = λ a b o w. (
-        length (stretchPairs s id a b),
-        bytesIn (tables s id) a b,
-        λ room h. pairs-is s id e a b room o w (omega (arith, flat-length (stretchPairs s id a b))),
-      );
-      bytes = λ a b z room k total first last g d p q.
-          let r = pairs-told s id a b room k total g in
-          r .total ∙ sizes-fit s id e l a b first last (run-of s id e l a b z first last (r .span .order) (r .span .within) d p q);
-      cut = λ pos a m b n x f d o w room₁ room₂ room k₁ k₂ k bytes₁ bytes₂ bytes p q r.
-          let u = found-told s id e n x f in
-          let all : (i : ℕ) → i < length ds → 0 < getD ds i 0 = λ i h.
-          lasting s id e i (omega (arith, l .timed)) pos in
-          let c = cut-fits s id a m b (u .index) all (omega (arith, u .low, l .timed)) (d ∙ decode-is s id n x u) o w in
-          omega (
-            arith,
-            c,
-            pairs-told s id a m room₁ k₁ bytes₁ p .total,
-            pairs-told s id m b room₂ k₂ bytes₂ q .total,
-            pairs-told s id a b room k bytes r .total,
-          );
-    }
+-- the track asked by the ID of t is t, so that its lists are what the entries of t say
+module _ (s t : List ℕ) (e : askRefusal s (idOf t) ≡ 0) (itself : trackAsked s (idOf t) ≡ t) where
+  shape : Shaped t
+  shape = rw itself at (asked s (idOf t) e .track .shape)
+
+  many : samplesOf (trackAsked s (idOf t)) ≡ stszEntries t
+  many = ap samplesOf itself
+
+  chunked : chunksOf (trackAsked s (idOf t)) ≡ stcoEntries t
+  chunked = ap chunksOf itself
+
+  durations-are : tables s (idOf t) .durations ≡ durations (tableOf stts t)
+  unfolding trackOf
+  durations-are = ap (λ u. durations (tableOf stts u)) itself
+
+  sizes-are : tables s (idOf t) .sizes ≡ sizes (tableOf stsz t)
+  unfolding trackOf
+  sizes-are = ap (λ u. sizes (tableOf stsz u)) itself
+
+  offsets-are : tables s (idOf t) .chunkOffsets ≡ chunkOffsets (tableOf stco t)
+  unfolding trackOf
+  offsets-are = ap (λ u. chunkOffsets (tableOf stco u)) itself
+
+  dealt-are : tables s (idOf t) .perChunk ≡ perChunk (tableOf stsc t) (chunksOf t)
+  unfolding trackOf
+  dealt-are = ap (λ u. perChunk (tableOf stsc u) (chunksOf u)) itself
+
+  agree : dealsAgree (tableOf stsc t) (chunksOf t) (descriptionsOf t) ≡ true
+  agree = agreed-tables t (rw itself at (asked s (idOf t) e .track .agree)) .deals
+
+  total : sum (tables s (idOf t) .durations) ≡ mediaTotal t
+  total = ap sum durations-are ∙ total-is t shape
+
+  pub of-track : OfTrack s t
+  of-track =
+      let id = idOf t in
+      let l = listed s id e in
+      let ds = tables s id .durations in
+      let zs = tables s id .sizes in
+      let ps = tables s id .perChunk in
+      let cs = tables s id .chunkOffsets in
+      record {
+        asked = e;
+        itself = itself;
+        found = λ n lo hi. (sampleOf (tables s id) (n - 1), found-is s id e n (n - 1) (omega arith) (omega (arith, many)));
+        none = none-is s id e;
+        past = λ n h. past-is s id e n (omega (arith, many));
+        timed = sym (count-is t shape) ∙ ap length (sym durations-are) ∙ l .timed ∙ many;
+        lasts = λ n x q.
+            let u = found-told s id e n x q in
+            let k = entry-counts t shape n (u .index) (u .number) (omega (arith, u .low, l .timed, ap length durations-are)) in
+            (k .0, k .1, duration-is s id n x u ∙ ap (λ (y : List ℕ). getD y (u .index) 0) durations-are ∙ k .2);
+        sized = λ n x q.
+            let u = found-told s id e n x q in
+            size-is s id n x u ∙ ap (λ (y : List ℕ). getD y (u .index) 0) sizes-are ∙ size-at t shape n (u .index) (u .number) (omega (arith, u .low, many));
+        named = λ time h.
+            let i = holder ds (time .0) in
+            let k = places.holder-holds ds (time .0) (omega (arith, total)) in
+            let low : i < samplesOf (trackAsked s id) = omega (arith, places.holds-below ds (time .0) i k .1, l .timed) in
+            let f = found-is s id e (suc i) i refl low in (
+              suc i,
+              sampleOf (tables s id) i,
+              at-is s id e time (omega (arith, total)),
+              f,
+              has-of s id i (time .0) k,
+              λ m y q w.
+                  let u = found-told s id e m y q in
+                  u .number ∙ ap suc (places.holder-only ds (time .0) (u .index) (holds-told s id m y u (time .0) w)),
+            );
+        outside = λ time h. (
+          at-outside s id e time (omega (arith, total)),
+          λ m y q w.
+              let u = found-told s id e m y q in
+              omega (arith, total, places.holds-below ds (time .0) (u .index) (holds-told s id m y u (time .0) w) .0),
+        );
+        perChunk = ps;
+        deals = record {
+          chunks = l .chunks ∙ chunked;
+          each = λ c lo hi.
+              let k = entry-holds t shape (descriptionsOf t) agree c lo hi in
+              (k .0, k .1, ap (λ (y : List ℕ). getD y (c - 1) 0) dealt-are ∙ k .2);
+          all = l .dealt ∙ many;
+        };
+        in-chunk = λ n x q.
+            let u = found-told s id e n x q in
+            gets-of ps (u .index) (holder ps (u .index)) (x .chunk) n (chunk-is s id n x u) (u .number) (places.holder-holds ps (u .index) (omega (arith, u .low, l .dealt)));
+        gets = λ c n g.
+            let o : n ≡ suc (n - 1) = omega (arith, g .after) in
+            let f = found-is s id e n (n - 1) o (omega (arith, g .after, g .upto, places.before-le ps c, l .dealt)) in
+            let u = found-told s id e n (sampleOf (tables s id) (n - 1)) f in
+            (sampleOf (tables s id) (n - 1), f, chunk-is s id n (sampleOf (tables s id) (n - 1)) u ∙ sym (gets-only ps (u .index) c n (u .number) g));
+        first-in = λ c lo hi.
+            let k = l .some (c - 1) (omega (arith, l .chunks, chunked)) in
+            let i = before ps (c - 1) in
+            let f = found-is s id e (suc i) i refl (omega (arith, first-low ps (c - 1) k, l .dealt)) in
+            let u = found-told s id e (suc i) (sampleOf (tables s id) i) f in
+            let v : u .index ≡ i = omega (arith, u .number) in (
+              sampleOf (tables s id) i,
+              f,
+              chunk-is s id (suc i) (sampleOf (tables s id) i) u ∙ rw v (omega (arith, first-chunk ps (c - 1) k)),
+              offset-is s id (suc i) (sampleOf (tables s id) i) u ∙ rw v (first-offset ps (c - 1) k cs zs) ∙ ap (λ (y : List ℕ). getD y (c - 1) 0) offsets-are ∙ offset-at t shape c lo hi,
+            );
+        next-in = λ n x y p q same.
+            let u = found-told s id e n x p in
+            let v = found-told s id e (suc n) y q in
+            let w : v .index ≡ suc (u .index) = omega (arith, u .number, v .number) in
+            let g : holder ps (u .index) ≡ holder ps (suc (u .index)) = omega (arith, same, chunk-is s id n x u, chunk-is s id (suc n) y v, ap (holder ps) w) in
+            omega (
+              arith,
+              offset-is s id n x u,
+              size-is s id n x u,
+              offset-is s id (suc n) y v,
+              ap (offsetOf ps cs zs) w,
+              next-offset ps cs zs (u .index) (omega (arith, u .low, l .dealt)) g,
+            );
+        parts = λ a b o w. ap (added s id (partIn a b) 1) (sym many) ∙ all-parts s id e l a b o (omega (arith, total));
+        answered = λ a b o w. (
+          length (stretchPairs s id a b),
+          bytesIn (tables s id) a b,
+          λ room h. pairs-is s id e a b room o (omega (arith, total)) (omega (arith, flat-length (stretchPairs s id a b))),
+        );
+        bytes = λ a b z room k total first last g d p q.
+            let r = pairs-told s id a b room k total g in
+            r .total ∙ sizes-fit s id e l a b first last (run-of s id e l a b z first last (r .span .order) (r .span .within) d p q);
+        cut = λ pos a m b n x f d o w room₁ room₂ room k₁ k₂ k bytes₁ bytes₂ bytes p q r.
+            let u = found-told s id e n x f in
+            let all : (i : ℕ) → i < length ds → 0 < getD ds i 0 = λ i h.
+            lasting s id e i (omega (arith, l .timed)) pos in
+            let c = cut-fits s id a m b (u .index) all (omega (arith, u .low, l .timed)) (d ∙ decode-is s id n x u) o w in
+            omega (
+              arith,
+              c,
+              pairs-told s id a m room₁ k₁ bytes₁ p .total,
+              pairs-told s id m b room₂ k₂ bytes₂ q .total,
+              pairs-told s id a b room k bytes r .total,
+            );
+      }
+
+pub demand3 : (s : List ℕ) → Demand3 s
+demand3 s e i h = of-track s (getD (tracksOf (moovOf s)) i []) (own-asked s e i h) (own-itself s e i h)

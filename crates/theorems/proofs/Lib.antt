@@ -1,7 +1,10 @@
 pub mod Added
-pub mod Dealt
+pub mod Entries
+pub mod Tracks
 pub mod Lists
+pub mod Dealt
 pub mod Answers
 pub mod Demand
 pub mod Bytes
-pub mod Whole
+pub mod Refusals
+pub mod Slips

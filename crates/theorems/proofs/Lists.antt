@@ -14,11 +14,14 @@ use Rattle.words.proofs.Turns.{offsets-in, length-words, sizes-listed, sizes-co
 use Rattle.chunks.proofs.Agreed.{samples-length, samples-some}
 use Rattle.structure.specs.Track.{tableOf, samplesOf, chunksOf, descriptionsOf}
 use Rattle.structure.proofs.Shaped.{Shaped}
-use Rattle.track.specs.Track.{trackOf}
+use Rattle.track.specs.Track.{Track, trackOf}
 use Rattle.track.proofs.Agreed.{agreed-tables}
 use Rattle.questions.specs.Asked.{askRefusal, trackAsked}
 use Rattle.questions.proofs.Asking.{asked}
-use Rattle.theorems.specs.Demand.{tables}
+
+-- the lists of the track that is asked, one number for each sample or chunk
+abbrev pub tables : List ℕ → ℕ → Track
+tables s id = trackOf (trackAsked s id)
 
 -- as many sizes as the table counts
 sizes-count : (t : List ℕ) → Shaped t → length (sizes (tableOf stsz t)) ≡ samplesOf t

@@ -1,12 +1,14 @@
--- Demand 3 as one claim, of the answers that the questions give of a track of a file.
+-- Demand 3 as one claim, of the answers that the questions give of every track of a file that is not refused.
 use Prim.Native.Nat.{ℕ, suc, _+_, _*_, _-_, _≤_, _<_}
 use mathlib.Core.Path.{_≡_}
-use mathlib.Core.List.{List, map}
+use mathlib.Core.List.{List, [], map}
 use lib.ListN.{length, getD}
 use Rattle.lists.specs.Lists.{sum, before, upTo, part}
 use Rattle.edits.specs.declared.MediaTime.{MediaTime}
-use Rattle.track.specs.Track.{Track, trackOf}
-use Rattle.questions.specs.Asked.{trackAsked}
+use Rattle.structure.specs.Track.{idOf}
+use Rattle.structure.specs.Movie.{moovOf, tracksOf}
+use Rattle.movie.specs.Refusals.{fileRefusal}
+use Rattle.questions.specs.Asked.{askRefusal, trackAsked}
 use Rattle.questions.specs.Samples.{sampleAnswer}
 use Rattle.questions.specs.Times.{atAnswer}
 use Rattle.stretch.specs.Stretches.{stretchAnswer}
@@ -15,21 +17,37 @@ use Rattle.questions.specs.declared.samples.SampleAnswer.{SampleAnswer}
 use Rattle.questions.specs.declared.samples.SampleAnswer.the-variants.{Found, Refused}
 use Rattle.questions.specs.declared.times.NumberAnswer.the-variants as number
 use Rattle.stretch.specs.declared.StretchAnswer.the-variants as stretch
+use Rattle.theorems.specs.Entries.{sttsEntries, sampleDuration, countedBy, mediaTotal, stscEntries, firstChunk, samplesPerChunk}
+use Rattle.theorems.specs.Entries.{stcoEntries, chunkOffset, stszEntries, sampleSize}
 
--- ---- the words of the claim
+-- ---- the words of the claim; t is the body of a track's trak
 
--- the lists that the entries in the file say of the track, one number for each sample or chunk; "its totals are those of the entries in the file"
-abbrev pub tables : List ℕ → ℕ → Track
-tables s id = trackOf (trackAsked s id)
+-- "A sample's media times run from its decode time, its start, to just before decode time plus duration": time is one of them
+pub record HasTime (x : Sample) (time : ℕ) : Type 0 where
+  pub from : x .decode ≤ time
+  pub to : time < x .decode + x .duration
 
--- "A sample's media times run from its decode time, its start, to just before decode time plus duration": t is one of them
-pub record HasTime (x : Sample) (t : ℕ) : Type 0 where
-  pub from : x .decode ≤ t
-  pub to : t < x .decode + x .duration
+-- entry k of stts counts the sample with the number n
+pub record Counts (t : List ℕ) (k n : ℕ) : Type 0 where
+  pub there : k < sttsEntries t
+  pub after : countedBy t k < n
+  pub upto : n ≤ countedBy t (suc k)
 
--- "Chunk after chunk gets the next samples, as many as its stsc entry says", ps being how many: the chunk with the number c gets the sample with the number n.
--- The chunks before it get fewer than n samples, and with it they get n or more
-pub record Gets (ps : List ℕ) (c n : ℕ) : Type 0 where
+-- "An stsc entry holds from its first chunk up to the next entry's, the last one for all that remain": entry k holds for the chunk with the number c
+pub record HoldsFor (t : List ℕ) (k c : ℕ) : Type 0 where
+  pub there : k < stscEntries t
+  pub from : firstChunk t k ≤ c
+  pub to : suc k < stscEntries t → c < firstChunk t (suc k)
+
+-- "as many as its stsc entry says": ps has one number for each chunk of stco, that of the stsc entry which holds for it, and together they are N
+pub record Deals (t ps : List ℕ) : Type 0 where
+  pub chunks : length ps ≡ stcoEntries t
+  pub each : (c : ℕ) → 1 ≤ c → c ≤ stcoEntries t → (k : ℕ) × HoldsFor t k c × (getD ps (c - 1) 0 ≡ samplesPerChunk t k)
+  pub all : sum ps ≡ stszEntries t
+
+-- "Chunk after chunk gets the next samples", ps being how many: the chunk with the number c gets the sample with the number n. The chunks before it
+-- get fewer than n samples, and with it they get n or more
+pub record DealtTo (ps : List ℕ) (c n : ℕ) : Type 0 where
   pub first : 1 ≤ c
   pub last : c ≤ length ps
   pub after : before ps (c - 1) < n
@@ -54,54 +72,60 @@ abbrev pub added : List ℕ → ℕ → (SampleAnswer → ℕ) → ℕ → ℕ �
 added s id f first last = sum (map (λ i. f (sampleAnswer s id (first + i))) (upTo (howMany first last)))
 
 -- no sample of the track has zero duration
-abbrev pub AllLast : List ℕ → ℕ → Type 0
-AllLast s id = (n : ℕ) (x : Sample) → sampleAnswer s id n ≡ Found x → 0 < x .duration
+abbrev pub NoZeroDuration : List ℕ → ℕ → Type 0
+NoZeroDuration s id = (n : ℕ) (x : Sample) → sampleAnswer s id n ≡ Found x → 0 < x .duration
 
--- ---- the claim
+-- ---- the claim, of the track whose trak has the body t
 
-pub record Demand3 (s : List ℕ) (id : ℕ) : Type 0 where
-  -- the track has N samples: as many durations as sizes, and as many are dealt to the chunks. "none left over, none twice"
-  pub timed : length (tables s id .durations) ≡ length (tables s id .sizes)
-  pub dealt : sum (tables s id .perChunk) ≡ length (tables s id .sizes)
-  -- as many chunks are dealt to as have an offset
-  pub chunks : length (tables s id .perChunk) ≡ length (tables s id .chunkOffsets)
-  -- the samples are those numbered 1 to N
-  pub found : (n : ℕ) → 1 ≤ n → n ≤ length (tables s id .sizes) → (x : Sample) × (sampleAnswer s id n ≡ Found x)
-  pub none : sampleAnswer s id 0 ≡ Refused 15
-  pub past : (n : ℕ) → length (tables s id .sizes) < n → sampleAnswer s id n ≡ Refused 15
-  -- "Each media time below the total belongs to exactly one sample, and asked for it the reader names it"
-  pub named : (t : MediaTime) → t .0 < sum (tables s id .durations)
-      → (n : ℕ) × (x : Sample) × (atAnswer s id t ≡ number.Number n) × (sampleAnswer s id n ≡ Found x) × HasTime x (t .0)
-      × ((m : ℕ) (y : Sample) → sampleAnswer s id m ≡ Found y → HasTime y (t .0) → m ≡ n)
+pub record OfTrack (s t : List ℕ) : Type 0 where
+  -- asked by its own ID the track is not refused, and it is this very one
+  pub asked : askRefusal s (idOf t) ≡ 0
+  pub itself : trackAsked s (idOf t) ≡ t
+  -- the samples are those numbered 1 to N, and stts counts as many
+  pub found : (n : ℕ) → 1 ≤ n → n ≤ stszEntries t → (x : Sample) × (sampleAnswer s (idOf t) n ≡ Found x)
+  pub none : sampleAnswer s (idOf t) 0 ≡ Refused 15
+  pub past : (n : ℕ) → stszEntries t < n → sampleAnswer s (idOf t) n ≡ Refused 15
+  pub timed : countedBy t (sttsEntries t) ≡ stszEntries t
+  -- each has the duration of the stts entry that counts it, and its size in stsz
+  pub lasts : (n : ℕ) (x : Sample) → sampleAnswer s (idOf t) n ≡ Found x → (k : ℕ) × Counts t k n × (x .duration ≡ sampleDuration t k)
+  pub sized : (n : ℕ) (x : Sample) → sampleAnswer s (idOf t) n ≡ Found x → x .size ≡ sampleSize t n
+  -- "each media time below the total belongs to exactly one sample, and asked for it the reader names it"
+  pub named : (time : MediaTime) → time .0 < mediaTotal t
+      → (n : ℕ) × (x : Sample) × (atAnswer s (idOf t) time ≡ number.Number n) × (sampleAnswer s (idOf t) n ≡ Found x) × HasTime x (time .0)
+      × ((m : ℕ) (y : Sample) → sampleAnswer s (idOf t) m ≡ Found y → HasTime y (time .0) → m ≡ n)
   -- any other belongs to none, and is refused
-  pub outside : (t : MediaTime) → sum (tables s id .durations) ≤ t .0
-      → (atAnswer s id t ≡ number.Refused 15) × ((m : ℕ) (y : Sample) → sampleAnswer s id m ≡ Found y → HasTime y (t .0) → ⊥)
-  -- "samples are dealt to chunks in order": a sample is answered with the chunk that gets it,
-  pub in-chunk : (n : ℕ) (x : Sample) → sampleAnswer s id n ≡ Found x → Gets (tables s id .perChunk) (x .chunk) n
+  pub outside : (time : MediaTime) → mediaTotal t ≤ time .0
+      → (atAnswer s (idOf t) time ≡ number.Refused 15) × ((m : ℕ) (y : Sample) → sampleAnswer s (idOf t) m ≡ Found y → HasTime y (time .0) → ⊥)
+  -- "samples are dealt to chunks in order, none left over, none twice": each chunk gets as many as its stsc entry says,
+  pub perChunk : List ℕ
+  pub deals : Deals t perChunk
+  -- a sample is answered with the chunk that gets it,
+  pub in-chunk : (n : ℕ) (x : Sample) → sampleAnswer s (idOf t) n ≡ Found x → DealtTo perChunk (x .chunk) n
   -- and what a chunk gets are samples, answered with that chunk and so with no other
-  pub gets : (c n : ℕ) → Gets (tables s id .perChunk) c n → (x : Sample) × (sampleAnswer s id n ≡ Found x) × (x .chunk ≡ c)
-  -- "byte ranges in a chunk are contiguous from the chunk's offset": the first sample of a chunk begins there,
-  pub first-in : (c : ℕ) → 1 ≤ c → c ≤ length (tables s id .chunkOffsets)
-      → (x : Sample) × (sampleAnswer s id (suc (before (tables s id .perChunk) (c - 1))) ≡ Found x) × (x .chunk ≡ c)
-      × (x .offset ≡ getD (tables s id .chunkOffsets) (c - 1) 0)
+  pub gets : (c n : ℕ) → DealtTo perChunk c n → (x : Sample) × (sampleAnswer s (idOf t) n ≡ Found x) × (x .chunk ≡ c)
+  -- "byte ranges in a chunk are contiguous from the chunk's offset": the first sample of a chunk begins at stco's number,
+  pub first-in : (c : ℕ) → 1 ≤ c → c ≤ stcoEntries t
+      → (x : Sample) × (sampleAnswer s (idOf t) (suc (before perChunk (c - 1))) ≡ Found x) × (x .chunk ≡ c) × (x .offset ≡ chunkOffset t c)
   -- and each other one where the one before it ends. "Its byte range begins at its offset and is as long as its size"
-  pub next-in : (n : ℕ) (x y : Sample) → sampleAnswer s id n ≡ Found x → sampleAnswer s id (suc n) ≡ Found y → x .chunk ≡ y .chunk
+  pub next-in : (n : ℕ) (x y : Sample) → sampleAnswer s (idOf t) n ≡ Found x → sampleAnswer s (idOf t) (suc n) ≡ Found y → x .chunk ≡ y .chunk
       → y .offset ≡ x .offset + x .size
-  -- "the parts of the samples inside a stretch add up to its length": of those "from the one at a to the one at b-1"
-  pub parts : (a b z : MediaTime) (first last : ℕ) → a .0 < b .0 → b .0 ≤ sum (tables s id .durations) → z .0 ≡ b .0 - 1
-      → atAnswer s id a ≡ number.Number first → atAnswer s id z ≡ number.Number last
-      → added s id (partIn (a .0) (b .0)) first last ≡ b .0 - a .0
+  -- "the parts of the track's samples inside a stretch add up to its length": of all of them, 1 to N
+  pub parts : (a b : ℕ) → a < b → b ≤ mediaTotal t → added s (idOf t) (partIn a b) 1 (stszEntries t) ≡ b - a
   -- each stretch is answered, in any room for its pairs
-  pub answered : (a b : MediaTime) → a .0 < b .0 → b .0 ≤ sum (tables s id .durations)
-      → (k : ℕ) × (bytes : ℕ) × ((room : List ℕ) → 2 * k ≤ length room → stretchAnswer s id a b room ≡ stretch.Pairs k bytes)
-  -- "The bytes of a stretch are its answered total: the sizes of all samples included, added"
-  pub bytes : (a b z : MediaTime) (room : List ℕ) (k total first last : ℕ) → stretchAnswer s id a b room ≡ stretch.Pairs k total → z .0 ≡ b .0 - 1
-      → atAnswer s id a ≡ number.Number first → atAnswer s id z ≡ number.Number last
-      → total ≡ added s id sizeIn first last
-  -- "a stretch cut at a sample's start gives bytes that add up": the cut m is the start of a sample, strictly inside, and each of the three has room. A sample of
-  -- zero duration that stands at m would be in the whole and in neither part, so that there may be none
-  pub cut : AllLast s id → (a m b : MediaTime) (n : ℕ) (x : Sample) → sampleAnswer s id n ≡ Found x → m .0 ≡ x .decode → a .0 < m .0 → m .0 < b .0
-      → (room₁ room₂ room : List ℕ) (k₁ k₂ k bytes₁ bytes₂ bytes : ℕ)
-      → stretchAnswer s id a m room₁ ≡ stretch.Pairs k₁ bytes₁ → stretchAnswer s id m b room₂ ≡ stretch.Pairs k₂ bytes₂
-      → stretchAnswer s id a b room ≡ stretch.Pairs k bytes
+  pub answered : (a b : MediaTime) → a .0 < b .0 → b .0 ≤ mediaTotal t
+      → (k : ℕ) × (bytes : ℕ) × ((room : List ℕ) → 2 * k ≤ length room → stretchAnswer s (idOf t) a b room ≡ stretch.Pairs k bytes)
+  -- "The bytes of a stretch are its answered total: the sizes of all samples included, added", those "from the one at a to the one at b-1"
+  pub bytes : (a b z : MediaTime) (room : List ℕ) (k total first last : ℕ) → stretchAnswer s (idOf t) a b room ≡ stretch.Pairs k total
+      → z .0 ≡ b .0 - 1 → atAnswer s (idOf t) a ≡ number.Number first → atAnswer s (idOf t) z ≡ number.Number last
+      → total ≡ added s (idOf t) sizeIn first last
+  -- "a stretch cut at a sample's start gives bytes that add up": the cut m is the start of a sample, strictly inside, and each of the three has room.
+  -- A sample of zero duration that stands at m would be in the whole and in neither part, so that there may be none
+  pub cut : NoZeroDuration s (idOf t) → (a m b : MediaTime) (n : ℕ) (x : Sample) → sampleAnswer s (idOf t) n ≡ Found x → m .0 ≡ x .decode
+      → a .0 < m .0 → m .0 < b .0 → (room₁ room₂ room : List ℕ) (k₁ k₂ k bytes₁ bytes₂ bytes : ℕ)
+      → stretchAnswer s (idOf t) a m room₁ ≡ stretch.Pairs k₁ bytes₁ → stretchAnswer s (idOf t) m b room₂ ≡ stretch.Pairs k₂ bytes₂
+      → stretchAnswer s (idOf t) a b room ≡ stretch.Pairs k bytes
       → bytes ≡ bytes₁ + bytes₂
+
+-- "In every accepted track": "An accepted track is a track of a file not refused", the one at i of its traks, in file order from 0
+abbrev pub Demand3 : List ℕ → Type 0
+Demand3 s = fileRefusal s ≡ 0 → (i : ℕ) → i < length (tracksOf (moovOf s)) → OfTrack s (getD (tracksOf (moovOf s)) i [])

@@ -1,1 +1,4 @@
+pub mod Entries
 pub mod Demand
+pub mod Refusals
+pub mod Slips

@@ -1,8 +1,8 @@
--- Through the whole: the slip that is written of a stretch reads back as the ID, the scale, a, b and the very pairs that the stretch question puts into its room.
--- The idea: the track is accepted, so that its numbers keep the rules of a slip.
+-- The slip that is written of a stretch reads back as the ID, the scale, a, b and the very pairs that the stretch question puts into its room, and no other bytes
+-- are read so. The idea: the track is accepted, so that its numbers keep the rules of a slip.
 -- Assumes nothing.
 use Prim.Native.Nat.{ℕ, _+_, _-_, _*_, _^_, _≤_, _<_}
-use mathlib.Core.Path.{_≡_, refl, sym, ap, _∙_}
+use mathlib.Core.Path.{_≡_, refl, sym, ap, subst, _∙_}
 use mathlib.Core.Bool.{Bool, true, false, cond}
 use mathlib.Core.List.{List, _++_}
 use native.Mathlib.Omega.{arith}
@@ -10,34 +10,32 @@ use lib.ListN.{length, take, drop}
 use lib.Seq.{take-at, drop-at}
 use lib.Dec.{eqb}
 use borrow.Author.Tests.{eq-eqb, eqb-true, not-false}
-use Rattle.lists.specs.Lists.{holder}
+use Rattle.lists.specs.Lists.{sum, holder}
 use Rattle.lists.proofs.Places.{holder-mono, holder-holds, holds-below}
 use Rattle.words.specs.Words.{sizes, chunkOffsets}
 use Rattle.chunks.specs.Chunks.{perChunk, endWithin}
 use Rattle.pairs.specs.Pairs.{touched, flat}
 use Rattle.edits.specs.declared.MediaTime.{MediaTime}
-use Rattle.slip.specs.Slip.{Rules, Reads}
+use Rattle.slip.specs.Slip.{Rules, IsSlip, Reads}
 use Rattle.slip.specs.declared.Head.{Head}
 use Rattle.slip.specs.declared.read.SlipRead.{SlipRead}
 use Rattle.slip.specs.declared.read.SlipRead.the-variants.{Accepted}
-use Rattle.slip.proofs.Promises.{reads-back}
-use Rattle.structure.specs.Track.{samplesOf}
+use Rattle.slip.proofs.Promises.{reads-back, accepted-only, one-slip}
+use Rattle.structure.specs.Track.{scaleOf, samplesOf}
 use Rattle.structure.proofs.Callers.{none-else}
 use Rattle.track.specs.Track.{trackOf}
-use Rattle.track.specs.Refusals.{beyond}
+use Rattle.track.specs.Refusals.{totalIn, beyond}
 use Rattle.movie.specs.Rooms.{filled, roomAfter}
 use Rattle.questions.specs.Asked.{askRefusal, trackAsked}
 use Rattle.stretch.specs.Stretches.{firstIn, pastIn, pairsIn, stretchPairs, Stretches}
 use Rattle.stretch.specs.Slips.{slipHead, slipOfStretch, slipRefusal, slipAnswer, Slips}
-use Rattle.stretch.specs.declared.StretchAnswer.{StretchAnswer}
 use Rattle.stretch.specs.declared.StretchAnswer.the-variants as stretch
-use Rattle.stretch.specs.declared.slips.SlipAnswer.{SlipAnswer}
 use Rattle.stretch.specs.declared.slips.SlipAnswer.the-variants as slip
 use Rattle.questions.proofs.Asking.{asked}
-use Rattle.theorems.specs.Demand.{tables}
-use Rattle.theorems.proofs.Bytes.{Bytes, scale-small, asked-id}
+use Rattle.theorems.specs.Slips.{Bytes, headOf, ReadsBack, OnlyWriting}
+use Rattle.theorems.proofs.Bytes.{scale-small, asked-id, id-small}
 use Rattle.pairs.proofs.Touched.{touched-few, some-touched, touched-fits, fits-below}
-use Rattle.theorems.proofs.Lists.{listed}
+use Rattle.theorems.proofs.Lists.{tables, listed}
 use Rattle.stretch.proofs.Spanning.{flat-length}
 use Rattle.theorems.proofs.Answers.{Span, span-told, pairs-told}
 
@@ -80,14 +78,14 @@ chunks-end : (s : List ℕ) (id : ℕ) → askRefusal s id ≡ 0 → endWithin (
 unfolding trackOf beyond
 chunks-end s id e = not-false _ (asked s id e .track .within)
 
-some-scale-of : (s : List ℕ) (id : ℕ) → askRefusal s id ≡ 0 → tables s id .scale ≡ 0 → ⊥
-unfolding trackOf
-some-scale-of s id e = asked s id e .track .some-scale
+-- and each time of the stretch is a number of 32 bits
+total-small : (s : List ℕ) (id : ℕ) → askRefusal s id ≡ 0 → sum (tables s id .durations) < 2 ^ 32
+unfolding trackOf totalIn
+total-small s id e = omega (arith, asked s id e .track .total-fits)
 
-slip-rules : (s : List ℕ) (id : ℕ) (a b : MediaTime) → Bytes s → id < 2 ^ 32 → a .0 < 2 ^ 32 → b .0 < 2 ^ 32 → Span s id a b
-    → Rules (2 ^ 32) (slipHead s id a b) (flat (stretchPairs s id a b))
-unfolding slipHead stretchPairs pairsIn
-slip-rules s id a b bytes low-id low-a low-b p =
+slip-rules : (s : List ℕ) (id : ℕ) (a b : MediaTime) → Bytes s → Span s id a b → Rules (2 ^ 32) (slipHead s id a b) (flat (stretchPairs s id a b))
+unfolding slipHead stretchPairs pairsIn trackOf
+slip-rules s id a b bytes p =
     let k = asked s id (p .ask) in
     let l = listed s id (p .ask) in
     let ps = tables s id .perChunk in
@@ -97,45 +95,52 @@ slip-rules s id a b bytes low-id low-a low-b p =
     let j = pastIn (tables s id) b in
     let o = span-samples s id a b p in
     let n = asked-id s id (k .has) in
-    let y = some-scale-of s id (p .ask) in
+    let y = total-small s id (p .ask) in
     record {
       some-id = not-zero id (λ z. k .track .some-id (n ∙ z));
-      some-scale = not-zero (tables s id .scale) y;
+      some-scale = not-zero (scaleOf (trackAsked s id)) (k .track .some-scale);
       order = p .order;
       some-pairs = some-touched i j 0 ps cs zs (o .0) (omega arith) (omega (arith, o .0, o .1, l .dealt));
       few-pairs = omega (arith, touched-few i j 0 ps cs zs, l .chunks, k .track .shape .few-chunks);
       all-pairs = flat-length (touched i j 0 ps cs zs);
-      below = (low-id, (scale-small s id bytes, (low-a, (low-b, fits-below (touched i j 0 ps cs zs) (touched-fits (length s) i j 0 ps cs zs (omega (arith, o .0)) (omega (arith, k .file .shape .short)) (chunks-end s id (p .ask)))))));
+      below = (id-small s id bytes (k .has), (scale-small s id bytes, (omega (arith, p .order, p .within), (omega (arith, p .within), fits-below (touched i j 0 ps cs zs) (touched-fits (length s) i j 0 ps cs zs (omega (arith, o .0)) (omega (arith, k .file .shape .short)) (chunks-end s id (p .ask)))))));
     }
 
 -- ---- written, and read
 
--- the slip that reading answers
-abbrev pub headOf : List ℕ → ℕ → MediaTime → MediaTime → ℕ → Head
-headOf s id a b k = record { id = id; scale = tables s id .scale; a = a .0; b = b .0; pairs = k }
-
--- The file s holds bytes, and the numbers asked are of 32 bits. A slip question on s has written n bytes, and a stretch question of the same stretch, in a room of its
--- own, has answered k pairs. Then those n bytes, read into any room of 2 * k places or more, are accepted as the ID, the track's scale, a, b and k; the first
--- 2 * k places are what the stretch question put into its room, and the rest of the room is as it was
-module _ (s : List ℕ) (id : ℕ) (a b : MediaTime) (bytes : Bytes s) (low-id : id < 2 ^ 32) (low-a : a .0 < 2 ^ 32) (low-b : b .0 < 2 ^ 32)
-    (out : List ℕ) (w : SlipAnswer) (after : List ℕ) (n : ℕ) (slips : Slips s id a b out w after) (written : w ≡ slip.Written n)
-    (room : List ℕ) (q : StretchAnswer) (put : List ℕ) (k total : ℕ) (stretches : Stretches s id a b room q put) (pairs : q ≡ stretch.Pairs k total)
-    (places : List ℕ) (r : SlipRead) (read : List ℕ) (reads : Reads (take n after) places r read) (enough : 2 * k ≤ length places) where
-  pub whole : (r ≡ Accepted (headOf s id a b k)) × (take (2 * k) read ≡ take (2 * k) put) × (drop (2 * k) read ≡ drop (2 * k) places)
-  unfolding slipOfStretch slipHead slipRefusal
-  whole =
+pub written-reads-back : (s : List ℕ) → Bytes s → (id : ℕ) (a b : MediaTime) → ReadsBack s id a b
+unfolding slipOfStretch slipHead slipRefusal trackOf
+written-reads-back s bytes id a b = record {
+  same = λ out after n slips room put k total stretches places enough r read reads.
       let ps = stretchPairs s id a b in
-      let u = slip-told s id a b out n (sym (slips .answer) ∙ written) in
-      let v = pairs-told s id a b room k total (sym (stretches .answer) ∙ pairs) in
+      let u = slip-told s id a b out n (sym (slips .answer)) in
+      let v = pairs-told s id a b room k total (sym (stretches .answer)) in
       let p = span-told s id a b (none-else _ _ (u .0) .0) in
-      let c = flat-length ps in
-      let e : length (flat ps) ≡ 2 * k = omega (arith, c, v .count) in
+      let e : length (flat ps) ≡ 2 * k = omega (arith, flat-length ps, v .count) in
       let f : take n after ≡ slipOfStretch s id a b =
       ap (take n) (filled-told _ (slipOfStretch s id a b) out after (u .0) (slips .places)) ∙ take-at (slipOfStretch s id a b) (drop (length (slipOfStretch s id a b)) out) n (sym (u .1)) in
       let g = filled-told _ (flat ps) room put (v .refusal) (stretches .places) in
-      let h = reads-back (take n after) places r read reads (slipHead s id a b) (flat ps) (record { bytes = f; rules = slip-rules s id a b bytes low-id low-a low-b p }) (omega (arith, e)) in
+      let h = reads-back (take n after) places r read reads (slipHead s id a b) (flat ps) (record { bytes = f; rules = slip-rules s id a b bytes p }) (omega (arith, e)) in
       let m : length ps ≡ k = sym (v .count) in (
         h .0 ∙ ap (λ (x : ℕ). Accepted (headOf s id a b x)) m,
         ap (take (2 * k)) (h .1) ∙ take-at (flat ps) (drop (length (flat ps)) places) (2 * k) e ∙ sym (ap (take (2 * k)) g ∙ take-at (flat ps) (drop (length (flat ps)) room) (2 * k) e),
         ap (drop (2 * k)) (h .1) ∙ drop-at (flat ps) (drop (length (flat ps)) places) (2 * k) e ∙ ap (λ (x : ℕ). drop x places) e,
-      )
+      );
+}
+
+-- ---- read twice
+
+pub only-writing : (h : Head) → OnlyWriting h
+only-writing h = record {
+  same = λ bs cs room₁ room₂ after₁ after₂ p q e.
+      let u = accepted-only bs room₁ (Accepted h) after₁ p h refl in
+      let v = accepted-only cs room₂ (Accepted h) after₂ q h refl in
+      let x = pairs-in (u .0) room₁ after₁ (h .pairs) (u .1 .rules .all-pairs) (u .2) in
+      let y = pairs-in (v .0) room₂ after₂ (h .pairs) (v .1 .rules .all-pairs) (v .2) in
+      let same : v .0 ≡ u .0 = sym y ∙ sym e ∙ x in
+      one-slip bs cs h (u .0) (u .1) (subst (IsSlip cs h) same (v .1));
+}
+  where
+    -- the pairs are the first places of the room
+    pairs-in : (pairs room after : List ℕ) (n : ℕ) → length pairs ≡ 2 * n → after ≡ pairs ++ drop (length pairs) room → take (2 * n) after ≡ pairs
+    pairs-in pairs room after n c e = ap (take (2 * n)) e ∙ take-at pairs (drop (length pairs) room) (2 * n) c

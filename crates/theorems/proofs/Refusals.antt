@@ -1,0 +1,90 @@
+-- The number that a file is refused with is the lowest that applies. The idea: the numbers of the rows rise, so that the first row that holds has the lowest.
+-- Assumes nothing.
+use Prim.Native.Nat.{ℕ, zero, suc, _≤_, _<_}
+use mathlib.Core.Path.{_≡_, refl, sym, subst, _∙_}
+use mathlib.Core.Logic.{_⊎_, inl, inr, ⊎-elim}
+use mathlib.Core.Bool.{Bool, true, false, cond, _||_}
+use mathlib.Core.List.{List, [], _∷_}
+use native.Mathlib.Omega.{arith}
+use lib.ListN.{length}
+use lib.Dec.{ltb, eqb·suc-zero}
+use borrow.Author.Tests.{ltb-true}
+use Rattle.atoms.proofs.Laws.{and-left, and-right}
+use Rattle.structure.specs.Rows.{Row, some, first, lowest, ofWhole, orElse, rising}
+use Rattle.structure.specs.Movie.{moovOf, movieScale, tracksOf}
+use Rattle.structure.specs.Refusals.{fileRows}
+use Rattle.structure.proofs.Tracks.{file-rows-rise}
+use Rattle.movie.specs.Refusals.{moovRows, moovRefusal, fileRefusal}
+use Rattle.theorems.specs.Refusals.{OneHolds, Applies, LowestApplies}
+
+-- ---- some rows
+
+given : (f : Row → Bool) (rs : List Row) → (first f rs ≡ 0 → ⊥) → OneHolds f rs (first f rs)
+unfolding first
+given f [] h = h refl
+given f (r ∷ rs) h = go (f r) refl h (given f rs)
+  where
+    go : (b : Bool) → f r ≡ b → (cond b (r .number) (first f rs) ≡ 0 → ⊥) → ((first f rs ≡ 0 → ⊥) → OneHolds f rs (first f rs))
+        → ((f r ≡ true) × (r .number ≡ cond b (r .number) (first f rs))) ⊎ OneHolds f rs (cond b (r .number) (first f rs))
+    go true e g i = inl (e, refl)
+    go false e g i = inr (i g)
+
+above : (f : Row → Bool) (n : ℕ) (rs : List Row) → rising n rs ≡ true → (k : ℕ) → OneHolds f rs k → n < k
+unfolding rising
+above f n [] h k o = absurd o
+above f n (r ∷ rs) h k o =
+    let l = ltb-true n (r .number) (and-left _ _ h) in
+    ⊎-elim (λ w. omega (arith, w .1)) (λ w. omega (arith, above f (r .number) rs (and-right (ltb n (r .number)) _ h) k w)) o
+
+no-lower : (f : Row → Bool) (n : ℕ) (rs : List Row) → rising n rs ≡ true → (k : ℕ) → OneHolds f rs k → (0 < first f rs) × (first f rs ≤ k)
+unfolding first rising
+no-lower f n [] h k o = absurd o
+no-lower f n (r ∷ rs) h k o =
+    let l = ltb-true n (r .number) (and-left _ _ h) in
+    let i = and-right (ltb n (r .number)) _ h in
+    go (f r) refl l o (above f (r .number) rs i k) (no-lower f (r .number) rs i k)
+  where
+    go : (b : Bool) → f r ≡ b → n < r .number → ((f r ≡ true) × (r .number ≡ k)) ⊎ OneHolds f rs k → (OneHolds f rs k → r .number < k)
+        → (OneHolds f rs k → (0 < first f rs) × (first f rs ≤ k)) → (0 < cond b (r .number) (first f rs)) × (cond b (r .number) (first f rs) ≤ k)
+    go true e l o a i = (omega arith, ⊎-elim (λ w. omega (arith, w .1)) (λ w. omega (arith, a w)) o)
+    go false e l o a i = ⊎-elim (λ w. let t = w .0 in let z : _≡_ {A = ℕ} 0 1 = cc in absurd (omega arith)) i o
+
+-- ---- the table
+
+three : (f : Row → Bool) (k : ℕ) → OneHolds f fileRows k → k ≤ 3
+unfolding fileRows
+three f k o = ⊎-elim (λ w. omega (arith, w .1)) (⊎-elim (λ w. omega (arith, w .1)) (⊎-elim (λ w. omega (arith, w .1)) (λ w. absurd w))) o
+
+moov-rows-rise : (scale len : ℕ) → rising 3 (moovRows scale len) ≡ true
+unfolding rising moovRows
+moov-rows-rise scale len = refl
+
+else-cases : (a b : ℕ) → ((a ≡ 0) × (orElse a b ≡ b)) ⊎ ((a ≡ 0 → ⊥) × (orElse a b ≡ a))
+unfolding orElse
+else-cases zero b = inl (refl, refl)
+else-cases (suc a) b = inr (λ e. omega arith, rw (eqb·suc-zero a))
+
+pub lowest-applies : (s : List ℕ) → LowestApplies s
+unfolding fileRefusal moovRefusal
+lowest-applies s =
+    let m = moovOf s in
+    let f : Row → Bool = λ r. r .whole s in
+    let g : Row → Bool = λ r. r .whole m || some (r .track) (tracksOf m) in
+    let rows = moovRows (movieScale m) (length s) in
+    let cases = else-cases (first f fileRows) (first g rows) in
+    record {
+      applies = λ h.
+          ⊎-elim (λ c. subst (Applies s) (sym (c .1)) (inr (given g rows (λ z. h (c .1 ∙ z))))) (λ c. subst (Applies s) (sym (c .1)) (inl (given f fileRows (c .0)))) cases;
+      lowest = λ n o.
+          ⊎-elim (λ w.
+          let q = no-lower f 0 fileRows file-rows-rise n w in
+          ⊎-elim (λ c. absurd (omega (arith, c .0, q .0))) (λ c. (omega (arith, c .1, q .0), omega (arith, c .1, q .1))) cases)
+          (λ w.
+          let q = no-lower g 3 rows (moov-rows-rise (movieScale m) (length s)) n w in
+          let l = above g 3 rows (moov-rows-rise (movieScale m) (length s)) n w in
+          ⊎-elim (λ c. (omega (arith, c .1, q .0), omega (arith, c .1, q .1)))
+          (λ c. let k = three f (first f fileRows) (given f fileRows (c .0)) in (pos (c .0) (c .1), omega (arith, c .1, k, l))) cases) o;
+    }
+  where
+    pos : {a b : ℕ} → (a ≡ 0 → ⊥) → b ≡ a → 0 < b
+    pos h e = omega arith
