@@ -4,7 +4,8 @@ use Prim.Native.Nat.{ℕ}
 use mathlib.Core.Path.{_≡_, refl}
 use mathlib.Core.List.{List}
 use lib.ListN.{getD, take, drop}
-use Rattle.questions.specs.Samples.{sampleAnswer, bytesStart, bytesLength, sampleBytes}
+use denote.Ref.{RefT, now}
+use Rattle.questions.specs.Samples.{sampleAnswer, bytesStart, bytesLength, sampleBytes, PartOf, SampleBytes}
 use Rattle.questions.specs.declared.samples.SampleAnswer.{SampleAnswer}
 use Rattle.questions.specs.declared.samples.SampleAnswer.the-variants.{Found, Refused}
 use Rattle.capi.specs.Numbers.{bytesNumbers, ofSampleBytes}
@@ -16,3 +17,12 @@ handed-bytes s id n = by-case (sampleAnswer s id n)
     by-case : (a : SampleAnswer) → take (getD (bytesNumbers a) 2 0) (drop (getD (bytesNumbers a) 1 0) s) ≡ take (bytesLength a) (drop (bytesStart a) s)
     by-case (Found x) = refl
     by-case (Refused r) = refl
+
+-- and they are the place in the lent file of the part that the question hands back
+pub handed-part : (file r : RefT (List ℕ)) (id n : ℕ) → SampleBytes file id n r → PartOf file (getD (ofSampleBytes (now file) id n) 1 0) (getD (ofSampleBytes (now file) id n) 2 0) r
+unfolding bytesNumbers bytesStart bytesLength
+handed-part file r id n = by-case (sampleAnswer (now file) id n)
+  where
+    by-case : (a : SampleAnswer) → PartOf file (bytesStart a) (bytesLength a) r → PartOf file (getD (bytesNumbers a) 1 0) (getD (bytesNumbers a) 2 0) r
+    by-case (Found x) p = p
+    by-case (Refused k) p = p

@@ -6,9 +6,10 @@ use mathlib.Core.List.{List}
 use mathlib.Core.Bool.{Bool, true, false, cond}
 use native.Mathlib.Omega.{arith}
 use borrow.Author.Tests.{eq-eqb, ne-eqb, lt-ltb, le-leb, lt-leb, eqb-true, ltb-true, leb-true, not-false}
-use lib.ListN.{length, getD, take, drop}
+use lib.ListN.{length, getD}
 use lib.Dec.{eqb, ltb}
 use lib.IntN.{ℤ, pos, _+ℤ_}
+use denote.Ref.{RefT, now}
 use Rattle.bigendian.specs.BigEndian.{u32At}
 use Rattle.atoms.specs.Kinds.{stts, ctts, stsc, stsz, stco, stss}
 use Rattle.atoms.proofs.Laws.{and-left, and-right}
@@ -29,7 +30,7 @@ use Rattle.track.specs.Track.{trackOf}
 use Rattle.track.specs.Refusals.{contradicts, totalIn, beyond}
 use Rattle.track.proofs.Agreed.{agreed-tables}
 use Rattle.questions.specs.Asked.{askRefusal, trackAsked}
-use Rattle.questions.specs.Samples.{sampleOf, sampleRefusal, sampleAnswer, sampleNumbers, Samples, bytesStart, bytesLength, sampleBytes}
+use Rattle.questions.specs.Samples.{sampleOf, sampleRefusal, sampleAnswer, sampleNumbers, Samples, bytesStart, bytesLength, PartOf, SampleBytes}
 use Rattle.questions.specs.declared.samples.Sample.{Sample}
 use Rattle.questions.specs.declared.samples.SampleAnswer.{SampleAnswer}
 use Rattle.questions.specs.declared.samples.SampleAnswer.the-variants.{Found, Refused}
@@ -162,13 +163,11 @@ refused-bytes s id n r k a e = let q = sym (a .answer) ∙ e in (ap bytesStart q
 pub found-fits : (s : List ℕ) (id n : ℕ) (r : SampleAnswer) (v : Sample) → Samples s id n r → r ≡ Found v → v .offset + v .size ≤ length s
 found-fits s id n r v a e = let q = found-bytes s id n r v a e in omega (arith, q .0, q .1, bytes-within s id n)
 
-pub found-part : (s : List ℕ) (id n : ℕ) (r : SampleAnswer) (v : Sample) → Samples s id n r → r ≡ Found v → take (v .size) (drop (v .offset) s) ≡ sampleBytes s id n
-unfolding sampleBytes
-found-part s id n r v a e = let q = found-bytes s id n r v a e in rw (q .0, q .1)
+pub found-part : (file r : RefT (List ℕ)) (id n : ℕ) (a : SampleAnswer) (v : Sample) → Samples (now file) id n a → a ≡ Found v → PartOf file (v .offset) (v .size) r → SampleBytes file id n r
+found-part file r id n a v p e q = let w = found-bytes (now file) id n a v p e in rw (w .0, w .1) q
 
-pub refused-part : (s : List ℕ) (id n : ℕ) (r : SampleAnswer) (k : ℕ) → Samples s id n r → r ≡ Refused k → take 0 (drop 0 s) ≡ sampleBytes s id n
-unfolding sampleBytes
-refused-part s id n r k a e = let q = refused-bytes s id n r k a e in rw (q .0, q .1)
+pub refused-part : (file r : RefT (List ℕ)) (id n : ℕ) (a : SampleAnswer) (k : ℕ) → Samples (now file) id n a → a ≡ Refused k → PartOf file 0 0 r → SampleBytes file id n r
+refused-part file r id n a k p e q = let w = refused-bytes (now file) id n a k p e in rw (w .0, w .1) q
 
 -- ---- the answer's numbers are low
 

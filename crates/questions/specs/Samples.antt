@@ -1,11 +1,12 @@
 -- "Sample n" and "Sample bytes".
-use Prim.Native.Nat.{ℕ, suc, _-_}
+use Prim.Native.Nat.{ℕ, suc, _+_, _-_}
 use mathlib.Core.Path.{_≡_}
 use mathlib.Core.List.{List, [], _∷_, map}
 use mathlib.Core.Bool.{false, cond, _&&_}
-use lib.ListN.{getD, take, drop}
+use lib.ListN.{length, getD, take, drop}
 use lib.Dec.{eqb, ltb, leb}
 use lib.IntN.{ℤ, pos, _+ℤ_}
+use denote.Ref.{RefT, ptr, now}
 use Rattle.lists.specs.Lists.{before, holder}
 use Rattle.chunks.specs.Chunks.{offsetOf}
 use Rattle.structure.specs.Track.{samplesOf}
@@ -65,7 +66,10 @@ sampleNumbers (Refused r) = map pos (refusedWith 8 r)
 pub record Samples (s : List ℕ) (id n : ℕ) (r : SampleAnswer) : Type 0 where
   pub answer : r ≡ sampleAnswer s id n
   pub numbers : sampleNumbers r
-      ≡ cond (eqb (sampleRefusal s id n) 0) (pos 0 ∷ sampleValues (sampleOf (trackOf (trackAsked s id)) (n - 1))) (map pos (refusedWith 8 (sampleRefusal s id n)))
+      ≡ cond
+      (eqb (sampleRefusal s id n) 0)
+      (pos 0 ∷ sampleValues (sampleOf (trackOf (trackAsked s id)) (n - 1)))
+      (map pos (refusedWith 8 (sampleRefusal s id n)))
 
 -- ---- "the sample's own bytes, as they stand in the file lent"
 
@@ -80,3 +84,14 @@ bytesLength (Refused r) = 0
 
 unfoldable pub sampleBytes : List ℕ → ℕ → ℕ → List ℕ
 sampleBytes s id n = take (bytesLength (sampleAnswer s id n)) (drop (bytesStart (sampleAnswer s id n)) s)
+
+-- "a part of the lent file; the promise fixes its start and length": a reference's pointer is a block and an offset in it
+pub record PartOf (file : RefT (List ℕ)) (start size : ℕ) (r : RefT (List ℕ)) : Type 0 where
+  pub bytes : now r ≡ take size (drop start (now file))
+  pub count : length (now r) ≡ size
+  pub block : ptr r .0 ≡ ptr file .0
+  pub offset : ptr r .1 ≡ start + ptr file .1
+
+-- the promise of the question: the part r
+abbrev pub SampleBytes : RefT (List ℕ) → ℕ → ℕ → RefT (List ℕ) → Type 0
+SampleBytes file id n r = PartOf file (bytesStart (sampleAnswer (now file) id n)) (bytesLength (sampleAnswer (now file) id n)) r

@@ -11,13 +11,13 @@ use words::size_of;
 ghost use mathlib.Core.Path.{_≡_};
 ghost use mathlib.Core.Bool.{false};
 ghost use Prim.Native.Nat.{_+_, _≤_, _<_, _^_};
-ghost use lib.ListN.{length, take, drop};
+ghost use lib.ListN.{length};
 ghost use lib.IntN.{pos, _+ℤ_};
 ghost use lib.Signed.{mag};
 ghost use Rattle.structure.specs.Track.{samplesOf};
 ghost use Rattle.track.specs.Track.{trackOf};
 ghost use Rattle.track.specs.Refusals.{contradicts, totalIn};
-ghost use Rattle.questions.specs.Samples.{sampleOf, Samples, sampleBytes};
+ghost use Rattle.questions.specs.Samples.{sampleOf, Samples, PartOf, SampleBytes};
 
 // What the tables say of a sample.
 pub struct Sample {
@@ -89,7 +89,7 @@ pub fn sample_by_number(file: &[u8], id: u32, n: u32) -> SampleAnswer
 // A part of the file by its start and length.
 fn part_of<'a>(file: &'a [u8], start: u64, size: u32) -> &'a [u8]
     requires { ⌜ start + size ≤ length (now file) ⌝ }
-    ensures { λ r. ⌜ now r ≡ take size (drop start (now (file .entry))) ⌝ }
+    ensures { λ r. ⌜ PartOf (file .entry) start size r ⌝ }
 {
     let from = start as usize;
     let end = from + size as usize;
@@ -98,7 +98,7 @@ fn part_of<'a>(file: &'a [u8], start: u64, size: u32) -> &'a [u8]
 
 // The bytes of sample n, as they stand in the file; on refusal its empty beginning.
 pub fn sample_bytes<'a>(file: &'a [u8], id: u32, n: u32) -> &'a [u8]
-    ensures { λ r. ⌜ now r ≡ sampleBytes (now (file .entry)) id n ⌝ }
+    ensures { λ r. ⌜ SampleBytes (file .entry) id n r ⌝ }
 {
     let answer = sample_by_number(file, id, n);
     match answer {

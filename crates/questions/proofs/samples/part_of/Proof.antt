@@ -2,7 +2,7 @@
 -- Assumes nothing.
 use borrow.Author.Needs.{needs}
 use Prim.Native.Nat.{_+_, _-_}
-use mathlib.Core.Path.{_≡_}
+use mathlib.Core.Path.{_≡_, refl, _∙_}
 use native.Mathlib.Omega.{arith}
 use Rattle.questions.proofs.samples.part_of.Statement.{statement}
 use Rattle.questions.proofs.samples.part_of.Tie as tie
@@ -24,7 +24,7 @@ returns c =
     let s = c .before .args .start in
     let z = c .before .args .size in
     let e : s + z - s ≡ z = omega arith in
-    rw e
+    record { bytes = rw e; count = c .result .given .2 ∙ e; block = refl; offset = refl }
 
 pub part-of-spec : {M : Type 1} → statement M
 part-of-spec = tie.close (tie.spec add-end sub-result part-result-start part-result-end returns)

@@ -1,7 +1,6 @@
 -- `questions::samples::sample_bytes` meets its contract: the part of the file is the one that the sample's answer gives.
 -- Assumes nothing.
 use borrow.Author.Needs.{needs}
-use mathlib.Core.Path.{_∙_}
 use Rattle.questions.proofs.Found.{found-fits, found-part, refused-part}
 use Rattle.questions.proofs.samples.sample_bytes.Statement.{statement}
 use Rattle.questions.proofs.samples.sample_bytes.Tie as tie
@@ -22,10 +21,10 @@ part-of-requires-2 : tie.Need-part-of-requires-2
 part-of-requires-2 c κs = search needs
 
 returns : tie.Need-returns
-returns c = c .part-of .ensures ∙ found-part _ _ _ _ _ (c .before .before .before .before .sample-by-number .ensures) (c .before .before .answer .given .1)
+returns c = found-part _ _ _ _ _ _ (c .before .before .before .before .sample-by-number .ensures) (c .before .before .answer .given .1) (c .part-of .ensures)
 
 returns-2 : tie.Need-returns-2
-returns-2 c = c .part-of2 .ensures ∙ refused-part _ _ _ _ _ (c .before .before .before .sample-by-number .ensures) (c .before .enum-told .given .1)
+returns-2 c = refused-part _ _ _ _ _ _ (c .before .before .before .sample-by-number .ensures) (c .before .enum-told .given .1) (c .part-of2 .ensures)
 
 pub sample-bytes-spec : {M : Type 1} → statement M
 sample-bytes-spec =
