@@ -19,7 +19,7 @@ use Rattle.words.proofs.Turns.{offsets-in, words-drop}
 use Rattle.chunks.specs.Chunks.{perChunk, offsetOf, endWithin}
 use Rattle.chunks.specs.Cursors.{ahead, Stands, startCursor, readied, past}
 use Rattle.chunks.specs.declared.Cursor.{Cursor}
-use Rattle.chunks.proofs.Cursors.{start-samples, Same, ready-same, ahead-run}
+use Rattle.chunks.proofs.Cursors.{start-samples, Same, ready-same, no-samples, ahead-run}
 use Rattle.chunk_ends.proofs.RunEnds.{run-then}
 
 -- ---- samples, up to the largest index
@@ -34,7 +34,7 @@ sizes-after zs few begin count end p = drop-drop count begin zs ∙ elim (decLe 
 
 -- c stands before a chunk if one is ahead; what the chunks ahead, the offsets of t and the sizes from `begin` on say is what the whole says
 pub record Ending (limit : ℕ) (s : List ℕ) (chunks : ℕ) (zs t : List ℕ) (whole : Bool) (c : Cursor) (begin : ℕ) : Type 0 where
-  pub stands : Stands s chunks c
+  pub stands : Stands s c
   pub same : endWithin limit (ahead s chunks c) (wordsIn t) (drop begin zs) ≡ whole
 
 -- before the first chunk
@@ -49,7 +49,7 @@ ending-start limit stsc stco zs {chunks} k {t} p {i} {r} a e =
 
 -- no chunk is ahead
 pub ended : {limit : ℕ} {s : List ℕ} {chunks : ℕ} {zs t : List ℕ} {whole : Bool} {c : Cursor} {begin : ℕ} → Ending limit s chunks zs t whole c begin → c .remaining ≡ 0 → whole ≡ true
-ended {limit} {s} {chunks} {zs} {t} {whole} {c} {begin} w z = sym (w .same) ∙ rw (w .stands .no-samples z)
+ended {limit} {s} {chunks} {zs} {t} {whole} {c} {begin} w z = sym (w .same) ∙ rw (no-samples chunks (w .stands) z)
 
 -- a run is ahead, and whether its chunks end within the limit is known
 module _ {limit : ℕ} {s : List ℕ} {chunks : ℕ} {zs t : List ℕ} {whole : Bool} {c : Cursor} {begin : ℕ} (w : Ending limit s chunks zs t whole c begin) {within : Bool}

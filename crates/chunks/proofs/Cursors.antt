@@ -1,18 +1,20 @@
 -- Laws of the cursor: to ready it changes nothing that lies ahead, to pass chunks drops them, and one that is ready stands in a run if a chunk is ahead.
+-- The cursor before a chunk is the same from whichever cursor behind it the entries are read.
 -- Assumes nothing.
 use Prim.Native.Nat.{ℕ, zero, suc, _+_, _-_, _≤_, _<_}
 use mathlib.Core.Path.{_≡_, refl, sym, ap, _∙_}
 use mathlib.Core.List.{List, [], _∷_, _++_}
 use native.Mathlib.Omega.{arith}
-use native.Mathlib.Decide.{ℕ-discrete, decLt}
-use lib.ListN.{length, drop, getD, replicate}
+use native.Mathlib.Decide.{ℕ-discrete, decLt, decLe}
+use lib.ListN.{length, drop, getD, replicate, drop-of-length-le}
 use lib.Seq.{drop-drop, getD-drop}
-use borrow.Author.Tests.{eq-eqb, ne-eqb}
+use borrow.Author.Tests.{eq-eqb, ne-eqb, lt-ltb, le-ltb}
 use Rattle.bigendian.specs.BigEndian.{u32At}
-use Rattle.chunks.specs.Chunks.{Deal, dealsIn, firstOf, dealt, perChunk, descriptionIds}
-use Rattle.chunks.specs.Cursors.{ahead, idsAhead, Valid, Stands, startCursor, loaded, readiedIn, readied, past}
+use Rattle.chunks.specs.Chunks.{Deal, dealsIn, deals, firstOf, dealt, perChunk, descriptionIds}
+use Rattle.lists.proofs.Laws.{length-run}
+use Rattle.chunks.specs.Cursors.{ahead, idsAhead, Valid, Stands, startCursor, loaded, readiedIn, readied, past, cursorIn, cursorAt}
 use Rattle.chunks.specs.declared.Cursor.{Cursor}
-use Rattle.chunks.proofs.Turns.{deals-none, deals-next, samples-in, ids-in}
+use Rattle.chunks.proofs.Turns.{deals-in, deals-none, deals-next, samples-in, ids-in}
 
 -- ---- before the first chunk
 
@@ -52,11 +54,21 @@ module _ (s : List ℕ) (chunks : ℕ) (r : Cursor) {t : List ℕ} (p : t ≡ dr
 
 -- ---- what lies ahead
 
+-- a cursor that stands in a run if a chunk is ahead, where none remains
+module _ {s : List ℕ} {c : Cursor} (chunks : ℕ) (w : Stands s c) (z : c .remaining ≡ 0) where
+  pub no-samples : ahead s chunks c ≡ []
+  unfolding ahead
+  no-samples = rw (z, w .all-read z)
+
+  pub no-ids : idsAhead s chunks c ≡ []
+  unfolding idsAhead
+  no-ids = rw (z, w .all-read z)
+
 -- r has the same chunks ahead as c, and stands in a run if there is one
 pub record Same (s : List ℕ) (chunks : ℕ) (c r : Cursor) : Type 0 where
   pub samples : ahead s chunks r ≡ ahead s chunks c
   pub ids : idsAhead s chunks r ≡ idsAhead s chunks c
-  pub stands : Stands s chunks r
+  pub stands : Stands s r
 
 module _ (s : List ℕ) (chunks : ℕ) where
   -- the first entry of what a cursor has not read, and the rest
@@ -72,7 +84,7 @@ module _ (s : List ℕ) (chunks : ℕ) where
 
   same-in : (es : List Deal) (c : Cursor) → dealsIn (drop (c .at) s) ≡ es → Same s chunks c (readiedIn chunks es c)
   unfolding ahead idsAhead
-  same-in [] c q = record { samples = refl; ids = refl; stands = record { no-samples = λ z. rw (z, q); no-ids = λ z. rw (z, q) } }
+  same-in [] c q = record { samples = refl; ids = refl; stands = record { all-read = λ z. q } }
   same-in (e ∷ es) c q = elim (ℕ-discrete (c .remaining) 0) [
     | yes z ↦
         let m = split (c .at) e es q in
@@ -82,7 +94,7 @@ module _ (s : List ℕ) (chunks : ℕ) where
           ids = w .ids ∙ rw (m, z, q);
           stands = w .stands;
         })
-    | no z ↦ rw (ne-eqb (c .remaining) 0 z) (record { samples = refl; ids = refl; stands = record { no-samples = λ y. absurd (z y); no-ids = λ y. absurd (z y) } })
+    | no z ↦ rw (ne-eqb (c .remaining) 0 z) (record { samples = refl; ids = refl; stands = record { all-read = λ y. absurd (z y) } })
   ]
 
   pub ready-same : (c : Cursor) → Same s chunks c (readied s chunks c)
@@ -141,3 +153,116 @@ module _ (s : List ℕ) (chunks : ℕ) (c : Cursor) (h : 0 < c .remaining) where
         ap (λ (j : ℕ). getD (perChunk s chunks) j 0) e ∙ sym (getD-drop k (perChunk s chunks) 0 0) ∙ ap (λ (l : List ℕ). getD l 0 0) (sym (v .samples) ∙ ahead-cons),
         ap (λ (j : ℕ). getD (descriptionIds s chunks) j 0) e ∙ sym (getD-drop k (descriptionIds s chunks) 0 0) ∙ ap (λ (l : List ℕ). getD l 0 0) (sym (v .descriptions) ∙ ids-cons),
       )
+
+-- ---- the cursor before a chunk
+
+-- from the entries of a cursor on
+abbrev pub cursorFrom : List ℕ → ℕ → Cursor → ℕ → Cursor
+cursorFrom s chunks c k = cursorIn chunks (dealsIn (drop (c .at) s)) c k
+
+past-none : (c : Cursor) → past 0 c ≡ c
+past-none c = let e : c .remaining - 0 ≡ c .remaining = omega arith in λ i. record { at = c .at; remaining = e i; per = c .per; description = c .description }
+
+past-past : (c : Cursor) (j k : ℕ) → past j (past k c) ≡ past (k + j) c
+past-past c j k =
+    let e : c .remaining - k - j ≡ c .remaining - (k + j) = omega arith in λ i. record { at = c .at; remaining = e i; per = c .per; description = c .description }
+
+module _ (s : List ℕ) (chunks : ℕ) where
+  pub from-start : (k : ℕ) → cursorFrom s chunks startCursor k ≡ cursorAt s chunks k
+  unfolding cursorAt
+  from-start k = rw (deals-in s)
+
+  -- a chunk of the run
+  pub from-in : (c : Cursor) (k : ℕ) → k < c .remaining → cursorFrom s chunks c k ≡ past k c
+  from-in c k h = go (dealsIn (drop (c .at) s))
+    where
+      go : (es : List Deal) → cursorIn chunks es c k ≡ past k c
+      go [] = refl
+      go (e ∷ es) = rw (lt-ltb k (c .remaining) h)
+
+  -- no entry is left to read
+  pub from-end : (c : Cursor) → dealsIn (drop (c .at) s) ≡ [] → cursorFrom s chunks c 0 ≡ c
+  from-end c e = rw e (past-none c)
+
+  -- readied
+  from-readied-in : (es : List Deal) (c : Cursor) (k : ℕ) → dealsIn (drop (c .at) s) ≡ es → cursorFrom s chunks (readiedIn chunks es c) k ≡ cursorIn chunks es c k
+  from-readied-in [] c k q = rw q
+  from-readied-in (e ∷ es) c k q = elim (ℕ-discrete (c .remaining) 0) [
+    | yes z ↦
+        let m = split s chunks (c .at) e es q in
+        let n : k - 0 ≡ k = omega arith in
+        rw (eq-eqb (c .remaining) 0 z, z, le-ltb k 0 (omega arith), n) (from-readied-in es (loaded chunks e es c) k m)
+    | no z ↦ rw (ne-eqb (c .remaining) 0 z, q)
+  ]
+
+  pub from-readied : (c : Cursor) (k : ℕ) → cursorFrom s chunks (readied s chunks c) k ≡ cursorFrom s chunks c k
+  unfolding readied
+  from-readied c k = from-readied-in (dealsIn (drop (c .at) s)) c k refl
+
+  -- some chunks of the run passed
+  pub from-past : (c : Cursor) (k j : ℕ) → k ≤ c .remaining → cursorFrom s chunks (past k c) j ≡ cursorFrom s chunks c (k + j)
+  from-past c k j h = go (dealsIn (drop (c .at) s))
+    where
+      go : (es : List Deal) → cursorIn chunks es (past k c) j ≡ cursorIn chunks es c (k + j)
+      go [] = past-past c j k
+      go (e ∷ es) = elim (decLt (k + j) (c .remaining)) [
+        | yes l ↦ rw (lt-ltb j (c .remaining - k) (omega arith), lt-ltb (k + j) (c .remaining) l) (past-past c j k)
+        | no l ↦
+            let n : j - (c .remaining - k) ≡ k + j - c .remaining = omega arith in
+            rw (le-ltb j (c .remaining - k) (omega arith), le-ltb (k + j) (c .remaining) (omega arith), n)
+      ]
+
+-- r has the chunks from the k-th after c on ahead, and stands in a run if there is one
+pub record Further (s : List ℕ) (chunks : ℕ) (c : Cursor) (k : ℕ) (r : Cursor) : Type 0 where
+  pub samples : ahead s chunks r ≡ drop k (ahead s chunks c)
+  pub ids : idsAhead s chunks r ≡ drop k (idsAhead s chunks c)
+  pub stands : Stands s r
+
+module _ (s : List ℕ) (chunks : ℕ) where
+  -- past the last entry
+  further-end : (c : Cursor) (k : ℕ) → dealsIn (drop (c .at) s) ≡ [] → Further s chunks c k (past k c)
+  unfolding ahead idsAhead
+  further-end c k q = elim (decLe k (c .remaining)) [
+    | yes l ↦ record { samples = past-samples s chunks c k l; ids = past-ids s chunks c k l; stands = record { all-read = λ z. q } }
+    | no l ↦
+        let z : c .remaining - k ≡ 0 = omega arith in
+        record {
+          samples = rw (z, q) (sym (drop-of-length-le _ {i = k} (omega (arith, length-run (c .per) [] (c .remaining)))));
+          ids = rw (z, q) (sym (drop-of-length-le _ {i = k} (omega (arith, length-run (c .description) [] (c .remaining)))));
+          stands = record { all-read = λ z. q };
+        }
+  ]
+
+  further-in : (es : List Deal) (c : Cursor) (k : ℕ) → dealsIn (drop (c .at) s) ≡ es → Further s chunks c k (cursorIn chunks es c k)
+  unfolding ahead idsAhead
+  further-in [] c k q = further-end c k q
+  further-in (e ∷ es) c k q = elim (decLt k (c .remaining)) [
+    | yes l ↦
+        rw (lt-ltb k (c .remaining) l) (record {
+          samples = past-samples s chunks c k (omega arith);
+          ids = past-ids s chunks c k (omega arith);
+          stands = record { all-read = λ z. absurd (omega arith) };
+        })
+    | no l ↦
+        let m = split s chunks (c .at) e es q in
+        let w = further-in es (loaded chunks e es c) (k - c .remaining) m in
+        let z : c .remaining - c .remaining ≡ 0 = omega arith in
+        let n : c .remaining + (k - c .remaining) ≡ k = omega arith in
+        let a : ahead s chunks (loaded chunks e es c) ≡ ahead s chunks (past (c .remaining) c) = rw (m, z, q) in
+        let b : idsAhead s chunks (loaded chunks e es c) ≡ idsAhead s chunks (past (c .remaining) c) = rw (m, z, q) in
+        rw (le-ltb k (c .remaining) (omega arith)) (record {
+          samples = w .samples ∙ ap (drop (k - c .remaining)) (a ∙ past-samples s chunks c (c .remaining) (omega arith)) ∙ drop-drop (k - c .remaining) (c .remaining) _ ∙ rw n;
+          ids = w .ids ∙ ap (drop (k - c .remaining)) (b ∙ past-ids s chunks c (c .remaining) (omega arith)) ∙ drop-drop (k - c .remaining) (c .remaining) _ ∙ rw n;
+          stands = w .stands;
+        })
+  ]
+
+  pub cursor-further : (k : ℕ) → Further s chunks startCursor k (cursorAt s chunks k)
+  unfolding cursorAt
+  cursor-further k = further-in (deals s) startCursor k (sym (deals-in s))
+
+  pub cursor-valid : (k : ℕ) → Valid s chunks k (cursorAt s chunks k)
+  cursor-valid k =
+      let w = cursor-further k in
+      let v = start-valid s chunks in
+      record { samples = w .samples ∙ ap (drop k) (v .samples); descriptions = w .ids ∙ ap (drop k) (v .descriptions) }

@@ -4,9 +4,9 @@ use mathlib.Core.Path.{_≡_}
 use mathlib.Core.Bool.{cond}
 use mathlib.Core.List.{List, [], _∷_, _++_}
 use lib.ListN.{drop, replicate}
-use lib.Dec.{eqb}
+use lib.Dec.{eqb, ltb}
 use Rattle.lists.specs.Lists.{before, holder}
-use Rattle.chunks.specs.Chunks.{Deal, dealsIn, firstOf, dealt, perChunk, descriptionIds}
+use Rattle.chunks.specs.Chunks.{Deal, dealsIn, deals, firstOf, dealt, perChunk, descriptionIds}
 use Rattle.chunks.specs.declared.Cursor.{Cursor}
 use Rattle.chunks.specs.declared.Sought.{Sought}
 
@@ -22,10 +22,9 @@ pub record Valid (s : List ℕ) (chunks k : ℕ) (c : Cursor) : Type 0 where
   pub samples : ahead s chunks c ≡ drop k (perChunk s chunks)
   pub descriptions : idsAhead s chunks c ≡ drop k (descriptionIds s chunks)
 
--- a cursor that stands in a run, if a chunk is ahead
-pub record Stands (s : List ℕ) (chunks : ℕ) (c : Cursor) : Type 0 where
-  pub no-samples : c .remaining ≡ 0 → ahead s chunks c ≡ []
-  pub no-ids : c .remaining ≡ 0 → idsAhead s chunks c ≡ []
+-- a cursor that stands in a run, if a chunk is ahead: where none remains of a run, all entries are read
+pub record Stands (s : List ℕ) (c : Cursor) : Type 0 where
+  pub all-read : c .remaining ≡ 0 → dealsIn (drop (c .at) s) ≡ []
 
 -- before the first entry
 abbrev pub startCursor : Cursor
@@ -47,10 +46,17 @@ readied s chunks c = readiedIn chunks (dealsIn (drop (c .at) s)) c
 abbrev pub past : ℕ → Cursor → Cursor
 past k c = record { at = c .at; remaining = c .remaining - k; per = c .per; description = c .description }
 
--- sample i was found: the index of its chunk, its index in the chunk, and a cursor before that chunk, which stands in a run if a chunk is ahead. How many of
--- the entries that hold for no chunk such a cursor has read is left open
-pub record Finds (s : List ℕ) (chunks i : ℕ) (r : Sought) : Type 0 where
-  pub place : r .chunk ≡ holder (perChunk s chunks) i
-  pub start : r .within ≡ i - before (perChunk s chunks) (holder (perChunk s chunks) i)
-  pub valid : Valid s chunks (r .chunk) (r .cursor)
-  pub stands : Stands s chunks (r .cursor)
+-- before the chunk that is k further on than c, es being the entries not yet read: they are read up to the one that holds for it, or all
+abbrev pub cursorIn : ℕ → List Deal → Cursor → ℕ → Cursor
+cursorIn chunks [] c k = past k c
+cursorIn chunks (e ∷ es) c k = cond (ltb k (c .remaining)) (past k c) (cursorIn chunks es (loaded chunks e es c) (k - c .remaining))
+
+-- before the chunk with index k
+unfoldable pub cursorAt : List ℕ → ℕ → ℕ → Cursor
+cursorAt s chunks k = cursorIn chunks (deals s) startCursor k
+
+-- sample i: a cursor before its chunk, the index of the chunk, and its index in the chunk
+unfoldable pub sought : List ℕ → ℕ → ℕ → Sought
+sought s chunks i =
+    let k = holder (perChunk s chunks) i in
+    record { cursor = cursorAt s chunks k; chunk = k; within = i - before (perChunk s chunks) k }

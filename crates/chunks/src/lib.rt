@@ -13,7 +13,7 @@ ghost use Rattle.lists.specs.Lists.{sum};
 ghost use Rattle.lists.specs.Totals.{totalOf};
 ghost use Rattle.words.specs.Words.{sizes, chunkOffsets};
 ghost use Rattle.chunks.specs.Chunks.{dealsIn, firstOf, rightEntry, dealsAgree, perChunk, descriptionIds, locatedIn, offsetAt};
-ghost use Rattle.chunks.specs.Cursors.{startCursor, readied, past, Finds};
+ghost use Rattle.chunks.specs.Cursors.{startCursor, readied, past, sought};
 
 // The chunk at which the entries of a part begin: one past the last chunk where there is none. So the last entry holds for all chunks that remain.
 fn first_of(part: &[u8], chunks: u32) -> u64
@@ -158,7 +158,7 @@ pub struct Sought {
 // The chunk of the sample with an index. Past the last sample that is one past the last chunk, with what the index has over.
 pub fn seek(stsc: &[u8], chunks: u32, index: u32) -> Sought
     requires { ⌜ length (now stsc) < 2 ^ 32 ⌝ }
-    ensures { λ r. ⌜ Finds (now (stsc .entry)) chunks index r ⌝ }
+    ensures { λ r. ⌜ r ≡ sought (now (stsc .entry)) chunks index ⌝ }
 {
     let mut c = ready(stsc, chunks, start_cursor());
     let mut passed: u64 = 0;

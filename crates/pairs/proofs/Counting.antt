@@ -11,9 +11,10 @@ use lib.Dec.{eqb, leb}
 use Rattle.lists.specs.Lists.{holder}
 use Rattle.lists.proofs.Laws.{holder-hit, holder-miss}
 use Rattle.chunks.specs.Chunks.{perChunk}
-use Rattle.chunks.specs.Cursors.{Finds}
+use Rattle.chunks.specs.Cursors.{sought}
 use Rattle.chunks.specs.declared.Sought.{Sought}
-use Rattle.chunks.proofs.Cursors.{ahead-cons}
+use Rattle.chunks.proofs.Cursors.{no-samples, ahead-cons}
+use Rattle.chunks.proofs.Finding.{Finds, finds}
 use Rattle.chunks.proofs.Turns.{few-chunks}
 use Rattle.pairs.specs.Pairs.{touched}
 use Rattle.pairs.specs.Walks.{countBetween, chunksTo, At, AtOnce}
@@ -106,11 +107,14 @@ holder-few (p ∷ ps) t = elim (decLt t p) [
   | no l ↦ let h : p ≤ t = omega arith in omega (arith, holder-miss p ps t h, holder-few ps (t - p))
 ]
 
-module _ (stsc : List ℕ) (chunks t : ℕ) (f : Sought) (w : Finds stsc chunks t f) where
+module _ (stsc : List ℕ) (chunks t : ℕ) (f : Sought) (o : f ≡ sought stsc chunks t) where
+  w : Finds stsc chunks t f
+  w = finds o
+
   pub found-none : f .cursor .remaining ≡ 0 → f .chunk ≡ chunksTo (perChunk stsc chunks) t
   found-none z =
       let ps = perChunk stsc chunks in
-      omega (arith, w .place, holder-few ps t, ap length (sym (w .valid .samples) ∙ w .stands .no-samples z), length-drop (f .chunk) ps)
+      omega (arith, w .place, holder-few ps t, ap length (sym (w .valid .samples) ∙ no-samples chunks (w .stands) z), length-drop (f .chunk) ps)
 
   some-found : (f .cursor .remaining ≡ 0 → ⊥) → f .chunk < length (perChunk stsc chunks)
   some-found n =

@@ -16,11 +16,11 @@ use Rattle.lists.proofs.Laws.{sum-append, holder-miss, length-run, before-in}
 use Rattle.lists.proofs.Places.{holder-holds}
 use Rattle.words.specs.Words.{sizes, chunkOffsets}
 use Rattle.chunks.specs.Chunks.{perChunk}
-use Rattle.chunks.specs.Cursors.{ahead, readied, past, Finds}
+use Rattle.chunks.specs.Cursors.{ahead, readied, past, sought}
 use Rattle.chunks.specs.declared.Cursor.{Cursor}
 use Rattle.chunks.specs.declared.Sought.{Sought}
-use Rattle.chunks.proofs.Cursors.{Same, ready-same, ready-valid, past-valid, ahead-cons, stands-at}
-use Rattle.chunks.proofs.Finding.{before-holder}
+use Rattle.chunks.proofs.Cursors.{Same, ready-same, ready-valid, past-valid, no-samples, ahead-cons, stands-at}
+use Rattle.chunks.proofs.Finding.{finds, before-holder}
 use Rattle.pairs.specs.Pairs.{pairOf}
 use Rattle.pairs.specs.Walks.{pairsBetween, pairsAhead, At, placeAfter, placePast, StartsAt, AtOnce, pairsAtOnce}
 use Rattle.pairs.specs.declared.Pair.{Pair}
@@ -58,9 +58,10 @@ past-fits begin n per h g f = elim (ℕ-discrete n 1) [
 
 -- ---- the first place
 
-pub starts : (stsc : List ℕ) (chunks i : ℕ) (f : Sought) (c : Cursor) (b : ℕ) → Finds stsc chunks i f → c ≡ f .cursor → b ≡ i - f .within
+pub starts : (stsc : List ℕ) (chunks i : ℕ) (f : Sought) (c : Cursor) (b : ℕ) → f ≡ sought stsc chunks i → c ≡ f .cursor → b ≡ i - f .within
     → StartsAt stsc chunks i (record { cursor = c; chunk = f .chunk; begin = b })
-starts stsc chunks i f c b w e d =
+starts stsc chunks i f c b o e d =
+    let w = finds o in
     let ps = perChunk stsc chunks in
     let k = holder ps i in
     let q : b ≡ before ps k = omega (arith, w .start, before-holder ps i) in
@@ -117,7 +118,7 @@ module _ (stsc stsz stco : List ℕ) (chunks i j : ℕ) (p : Place) (w : At stsc
   at-end e = go (eqb (p .cursor .remaining) 0) refl e
     where
       go : (b : Bool) → eqb (p .cursor .remaining) 0 ≡ b → (b || leb j (p .begin)) ≡ true → pairsAhead stsc stsz stco chunks i j p ≡ []
-      go true q h = rw (w .stands .no-samples (eqb-true _ _ q))
+      go true q h = rw (no-samples chunks (w .stands) (eqb-true _ _ q))
       go false q h = touched-none i j (p .begin) (ahead stsc chunks (p .cursor)) (drop (p .chunk) (chunkOffsets stco)) (sizes stsz) (leb-true _ _ h)
 
   -- a pair does

@@ -49,7 +49,7 @@ pairsAhead stsc stsz stco chunks i j p = touched i j (p .begin) (ahead stsc chun
 -- a place before a chunk, if one is ahead, whose samples begin at the place's own; sample i does not lie behind that chunk
 pub record At (stsc : List ℕ) (chunks i : ℕ) (p : Place) : Type 0 where
   pub valid : Valid stsc chunks (p .chunk) (p .cursor)
-  pub stands : Stands stsc chunks (p .cursor)
+  pub stands : Stands stsc (p .cursor)
   pub begins : p .begin ≡ before (perChunk stsc chunks) (p .chunk)
   pub reaches : (p .cursor .remaining ≡ 0 → ⊥) → i < p .begin + p .cursor .per
 
