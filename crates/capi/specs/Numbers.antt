@@ -28,7 +28,7 @@ movie t = record { 0 = t }
 abbrev pub ofTrackList : List ℕ → List ℕ → List ℕ
 ofTrackList s room = trackNumbers (listAnswer s room)
 
--- "decode time, duration, composition time, whether sync, description ID, chunk, offset, size": signed, for the composition time's sake
+-- "decode time .., duration, composition time .., whether sync .., description ID, chunk, offset .., size": signed, for the composition time's sake
 abbrev pub ofSample : List ℕ → ℕ → ℕ → List ℤ
 ofSample s id n = sampleNumbers (sampleAnswer s id n)
 

@@ -41,13 +41,15 @@ placeOf (pos m) = From m
 placeOf (negsuc zero) = Empty
 placeOf (negsuc (suc k)) = Wrong
 
--- "floor(t × media scale / movie scale)"; a movie scale of 0, which refusal 8 excludes, gives 0
+-- a time in an entry, counted in the media's scale: "floor((t-S) × media scale / movie scale)", "floor((d-1) × media scale / movie scale)"; a movie
+-- scale of 0, which refusal 8 excludes, gives 0
 abbrev pub inMedia : ℕ → ℕ → ℕ → ℕ
 inMedia scale movie t = t * scale / movie
 
 -- ---- refusal 13
 
--- "a media time below -1; or an entry with media time m ≥ 0 and duration d where m + floor((d-1) × media scale / movie scale) is not below the sample total"
+-- "a media time below -1; or an entry with media time m ≥ 0 and duration d where m + floor((d-1) × media scale / movie scale) is not below the
+-- sample total"
 abbrev pub placeOk : ℕ → ℕ → ℕ → ℕ → Place → Bool
 placeOk scale movie total d (From m) = ltb (m + inMedia scale movie (d - 1)) total
 placeOk scale movie total d Empty = true
@@ -75,8 +77,8 @@ editsOk scale movie total s = cond (eqb (length s) 0) true (listOk scale movie t
 
 -- ---- movie time to media time
 
--- "where the media time isn't below the media total" it lies outside. The paper says so of a track without a list; with one it decides nothing where refusal 13
--- does not apply, since no entry then shows such a media time (`media-shown` of `proofs/Sentences.antt`)
+-- "where the media time isn't below the media total" it lies outside. The paper says so of a track without a list; with one it decides nothing where
+-- refusal 13 does not apply, since no entry then shows such a media time (`media-shown` of `proofs/Sentences.antt`)
 abbrev pub placed : ℕ → ℕ → Mapped
 placed total place = cond (ltb place total) (Media (record { 0 = place })) Outside
 

@@ -1,4 +1,4 @@
--- "Track list: for each trak in file order, ID, subtype, media time scale, total, N, C, edits (0 without a list). Names play no part."
+-- "Track list: for each trak in file order, ID, subtype, media time scale .. total, N, C, edits (0 without a list). Names play no part."
 use Prim.Native.Nat.{ℕ, _<_}
 use mathlib.Core.Path.{_≡_}
 use mathlib.Core.List.{List, [], _∷_, _++_}
