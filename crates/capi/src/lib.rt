@@ -1,7 +1,7 @@
 // The questions of document 01 for programs in C and Rust: numbers and slices alone. Each function answers the number of a refusal, or 0, and puts
 // the values that document 01 names into lent places, in its order.
 pub mod feature;
-pub mod places;
+mod places;
 pub mod profile;
 pub mod samples;
 pub mod slips;

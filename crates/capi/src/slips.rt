@@ -26,7 +26,7 @@ pub extern "C" fn chaldoref_write_slip(
     ensures { λ r. ⌜ Fills (ofSlipWriting (now (file .entry)) id a b (now (out .entry))) (now (places .entry)) (slipOfStretch (now (file .entry)) id (media a) (media b)) (now (out .entry)) r (now (places .exit)) (now (out .exit)) ⌝ }
 {
     if places.len() < 1 {
-        return or_short(span_refusal(file, id, a, b));
+        return or_short(span_refusal(file, id, MediaTime(a), MediaTime(b)));
     }
     match write_slip(file, id, MediaTime(a), MediaTime(b), out) {
         SlipAnswer::Written(n) => hand(0, &[n as u64], places),

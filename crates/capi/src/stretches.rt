@@ -23,7 +23,7 @@ pub extern "C" fn chaldoref_stretch(
     ensures { λ r. ⌜ Fills (ofStretch (now (file .entry)) id a b (now (room .entry))) (now (places .entry)) (flat (stretchPairs (now (file .entry)) id (media a) (media b))) (now (room .entry)) r (now (places .exit)) (now (room .exit)) ⌝ }
 {
     if places.len() < 2 {
-        return or_short(span_refusal(file, id, a, b));
+        return or_short(span_refusal(file, id, MediaTime(a), MediaTime(b)));
     }
     match stretch_of(file, id, MediaTime(a), MediaTime(b), room) {
         StretchAnswer::Pairs(n, bytes) => hand(0, &[n as u64, bytes], places),

@@ -30,7 +30,7 @@ pub const TVSZ: u32 = 0x7476737a;
 
 pub const VFPS: u32 = 0x76667073;
 
-pub const SOUN: u32 = 0x736f756e;
+const SOUN: u32 = 0x736f756e;
 
 // The average rate of the media, in bits a second.
 fn average_rate(trak: &[u8]) -> Feature

@@ -4,7 +4,7 @@ ghost use Prim.Native.Nat.{_*_, _<_};
 ghost use Rattle.features.specs.Rates.{Least, productOf, rateOf};
 
 // The least number that, times the divisor, reaches the numerator.
-pub fn ceiling(n: u64, d: u64) -> u64
+fn ceiling(n: u64, d: u64) -> u64
     requires { ⌜ 0 < d ⌝ }
     ensures { λ r. ⌜ Least n d r ⌝ }
 {
@@ -21,7 +21,7 @@ pub enum Product {
     TooLarge,
 }
 
-pub fn multiply(a: u64, b: u64) -> Product
+fn multiply(a: u64, b: u64) -> Product
     ensures { λ r. ⌜ r ≡ productOf a b ⌝ }
 {
     if a == 0 {
@@ -40,7 +40,7 @@ pub enum Feature {
 }
 
 // a × b / d, rounded up.
-pub fn rate(a: u64, b: u64, d: u64) -> Feature
+pub(crate) fn rate(a: u64, b: u64, d: u64) -> Feature
     ensures { λ r. ⌜ r ≡ rateOf (a * b) d ⌝ }
 {
     if d == 0 {

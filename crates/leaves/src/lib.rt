@@ -36,7 +36,7 @@ fn inside(there: bool, f: Form) -> Form
 }
 
 // The form of an atom of that kind in that parent.
-pub fn form_of(parent: u32, kind: u32) -> Form
+fn form_of(parent: u32, kind: u32) -> Form
     ensures { λ r. ⌜ r ≡ formOf parent kind ⌝ }
 {
     match kind {
@@ -163,7 +163,7 @@ fn leaf_ok(rule: LeafRule, f: Form, atom: &[u8]) -> bool
 }
 
 // Whether the rule holds of each read leaf in the body of that parent.
-pub fn leaves_ok(body: &[u8], parent: u32, rule: LeafRule) -> bool
+fn leaves_ok(body: &[u8], parent: u32, rule: LeafRule) -> bool
     ensures { λ r. ⌜ r ≡ leavesOk rule parent (now (body .entry)) ⌝ }
 {
     let mut t = body;

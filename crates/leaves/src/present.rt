@@ -25,7 +25,7 @@ pub fn both(a: bool, b: bool) -> bool
 }
 
 // Whether the body of that parent has the atoms that it must have, and none too often.
-pub fn has_its_atoms(body: &[u8], parent: u32) -> bool
+pub(crate) fn has_its_atoms(body: &[u8], parent: u32) -> bool
     ensures { λ r. ⌜ r ≡ present parent (now (body .entry)) ⌝ }
 {
     match parent {

@@ -32,7 +32,7 @@ fn own_refusal(moov: &[u8], scale: u32, len: u64) -> u32
 }
 
 // The lowest of 7 to 13 that applies to a movie, from the body of its moov and the length of its file; 0 where none does.
-pub fn tables_refusal(moov: &[u8], len: u64) -> u32
+fn tables_refusal(moov: &[u8], len: u64) -> u32
     requires { ⌜ length (now moov) < 2 ^ 32 ⌝ }
     ensures { λ r. ⌜ r ≡ tablesRefusal len (now (moov .entry)) ⌝ }
 {

@@ -27,7 +27,7 @@ pub fn has_track(moov: &[u8], id: u32) -> bool
 }
 
 // Whether two tracks have one ID. Each is compared with those after it, so it is asked where their number is limited.
-pub fn ids_repeat(moov: &[u8]) -> bool
+pub(crate) fn ids_repeat(moov: &[u8]) -> bool
     ensures { λ r. ⌜ r ≡ repeats (idsOf (now (moov .entry))) ⌝ }
 {
     let mut t = moov;

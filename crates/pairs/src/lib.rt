@@ -52,7 +52,7 @@ fn larger(a: u32, b: u32) -> u32
 }
 
 // Before the chunk of the sample with an index.
-pub fn start_place(stsc: &[u8], chunks: u32, from: u32) -> Place
+fn start_place(stsc: &[u8], chunks: u32, from: u32) -> Place
     requires { ⌜ length (now stsc) < 2 ^ 32 ⌝ }
     ensures { λ r. ⌜ StartsAt (now (stsc .entry)) chunks from r ⌝ }
 {
@@ -67,7 +67,7 @@ pub fn start_place(stsc: &[u8], chunks: u32, from: u32) -> Place
 }
 
 // Before the next chunk.
-pub fn next_place(stsc: &[u8], chunks: u32, p: Place) -> Place
+fn next_place(stsc: &[u8], chunks: u32, p: Place) -> Place
     requires { ⌜ (p .begin < 2 ^ 32) × (p .chunk < 2 ^ 63) ⌝ }
     ensures { λ r. ⌜ r ≡ placeAfter (now (stsc .entry)) chunks p ⌝ }
 {
@@ -83,7 +83,7 @@ pub fn next_place(stsc: &[u8], chunks: u32, p: Place) -> Place
 }
 
 // Whether no sample below `stop` lies ahead.
-pub fn is_past(p: Place, stop: u32) -> bool
+fn is_past(p: Place, stop: u32) -> bool
     ensures { λ r. ⌜ r ≡ (eqb (p .cursor .remaining) 0 || leb stop (p .begin)) ⌝ }
 {
     let c = p.cursor;
@@ -104,7 +104,7 @@ fn bytes_before(stsz: &[u8], begin: u32, first: u32) -> u64
 }
 
 // The pair of the chunk at a place.
-pub fn pair_at(stsz: &[u8], stco: &[u8], p: Place, from: u32, stop: u32) -> Pair
+fn pair_at(stsz: &[u8], stco: &[u8], p: Place, from: u32, stop: u32) -> Pair
     requires { ⌜ p .begin < stop ⌝ }
     ensures { λ r. ⌜ r ≡ pairOf from stop (p .begin) (p .cursor .per) (getD (chunkOffsets (now (stco .entry))) (p .chunk) 0) (sizes (now (stsz .entry))) ⌝ }
 {

@@ -22,7 +22,7 @@ ghost use Rattle.track.specs.Refusals.{totalIn};
 ghost use Rattle.pairs.specs.Pairs.{flat};
 ghost use Rattle.pairs.specs.Walks.{lengthsOf};
 ghost use Rattle.stretch.specs.Spans.{Usable, spanIn, spanAsked, spanPairs};
-ghost use Rattle.stretch.specs.Stretches.{spanAt, Stretches};
+ghost use Rattle.stretch.specs.Stretches.{spanRefusal, Stretches};
 
 // Samples by their indices: from the first up to, not including, `stop`.
 pub struct Span {
@@ -78,10 +78,12 @@ fn span_asked(file: &[u8], id: u32, a: u32, b: u32) -> Asked
 }
 
 // The refusal before the room is looked at: the file's, 14, or 15; 0 where there is none.
-pub fn span_refusal(file: &[u8], id: u32, a: u32, b: u32) -> u32
-    ensures { λ r. ⌜ r ≡ spanAt (now (file .entry)) id a b ⌝ }
+pub fn span_refusal(file: &[u8], id: u32, a: MediaTime, b: MediaTime) -> u32
+    ensures { λ r. ⌜ r ≡ spanRefusal (now (file .entry)) id a b ⌝ }
 {
-    match span_asked(file, id, a, b) {
+    let first = a.0;
+    let last = b.0;
+    match span_asked(file, id, first, last) {
         Asked::Samples(_) => 0,
         Asked::Refused(r) => r,
     }

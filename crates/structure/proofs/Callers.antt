@@ -306,7 +306,7 @@ shaped s e =
       movie = shaped-movie (moovOf s) (everywhere-into present 5 file moov 0 s P refl (there file moov s one-moov)) (n .1);
     }
 
--- the track at i, from what a caller has of `refusal`, `moov_body`, `track_count` and `track_body`
+-- the track at i, from what a caller has of `refusal`, `moov_body` and `track_count`
 pub shaped-at : (s m t : List ℕ) (r n i : ℕ) → r ≡ refusalOf s → r ≡ 0 → m ≡ moovOf s → n ≡ length (tracksOf m) → i < n → t ≡ trackAt i m → Shaped t
 shaped-at s m t r n i e z d c h b =
     rw b (rw d (shaped s (sym e ∙ z) .movie .tracks i (rw (c, d) at h)))

@@ -1,6 +1,6 @@
 // The structure of a movie file: refusals 1 to 6.
 pub mod moov;
-pub mod profile;
+mod profile;
 pub mod trak;
 
 use atoms::body_of;
@@ -26,12 +26,12 @@ ghost use Rattle.structure.specs.Rows.{lowerOf, ofWhole, ofTrack};
 ghost use Rattle.structure.specs.Refusals.{wrongVersion, wrongSize, narrow, wrongTrackSize, fileRows, movieRows, movieRefusal, refusalOf};
 
 // The longest file.
-pub const LONGEST: usize = 2147483647;
+const LONGEST: usize = 2147483647;
 
 // How many levels a file and a moov have.
-pub const FILE_LEVELS: u32 = 6;
+const FILE_LEVELS: u32 = 6;
 
-pub const MOOV_LEVELS: u32 = 5;
+const MOOV_LEVELS: u32 = 5;
 
 // `||` of two answers that are both had: code without a branch is shorter to prove.
 fn either(a: bool, b: bool) -> bool
@@ -113,7 +113,7 @@ fn is_too_many(moov: &[u8]) -> bool
 }
 
 // The refusal that the file gives before its movie is judged: 1, 2 or 3; 0 where it gives none.
-pub fn file_refusal(file: &[u8]) -> u32
+fn file_refusal(file: &[u8]) -> u32
     ensures { λ r. ⌜ r ≡ ofWhole fileRows (now (file .entry)) ⌝ }
 {
     if file.len() > LONGEST {
@@ -158,7 +158,7 @@ fn track_refusal(trak: &[u8]) -> u32
 }
 
 // The refusal of a movie, from the body of its moov: the lowest of its own and of each track's; 0 where there is none.
-pub fn movie_refusal(moov: &[u8]) -> u32
+fn movie_refusal(moov: &[u8]) -> u32
     ensures { λ r. ⌜ r ≡ movieRefusal (now (moov .entry)) ⌝ }
 {
     let mut t = moov;

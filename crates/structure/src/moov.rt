@@ -7,7 +7,7 @@ use atoms::kinds;
 use bigendian::u32_at;
 ghost use mathlib.Core.Path.{_≡_};
 ghost use lib.ListN.{length};
-ghost use Rattle.structure.specs.Movie.{moovOf, tracksOf, trackAt, movieScale, movieProfile};
+ghost use Rattle.structure.specs.Movie.{moovOf, tracksOf, movieScale, movieProfile};
 
 // The body of the first moov; empty where there is none.
 pub fn moov_body<'a>(file: &'a [u8]) -> &'a [u8]
@@ -20,13 +20,6 @@ pub fn track_count(moov: &[u8]) -> usize
     ensures { λ r. ⌜ r ≡ length (tracksOf (now (moov .entry))) ⌝ }
 {
     count_of(moov, kinds::MOOV, kinds::TRAK)
-}
-
-// The body of the trak at i, counted from 0 in file order; empty where there are no more than i.
-pub fn track_body<'a>(moov: &'a [u8], i: usize) -> &'a [u8]
-    ensures { λ r. ⌜ now r ≡ trackAt i (now (moov .entry)) ⌝ }
-{
-    child_body(moov, kinds::MOOV, kinds::TRAK, i)
 }
 
 pub fn movie_scale(moov: &[u8]) -> u32

@@ -15,7 +15,7 @@ fn mdia_body<'a>(trak: &'a [u8]) -> &'a [u8]
 }
 
 // The body of the stbl, in which the sample tables stand.
-pub fn stbl_body<'a>(trak: &'a [u8]) -> &'a [u8]
+fn stbl_body<'a>(trak: &'a [u8]) -> &'a [u8]
     ensures { λ r. ⌜ now r ≡ stblOf (now (trak .entry)) ⌝ }
 {
     let minf = child_body(mdia_body(trak), kinds::MDIA, kinds::MINF, 0);

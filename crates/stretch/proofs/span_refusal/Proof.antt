@@ -2,6 +2,7 @@
 -- Assumes nothing.
 use borrow.Author.Needs.{needs}
 use mathlib.Core.Path.{sym, _∙_}
+use Rattle.stretch.specs.Stretches.{spanRefusal}
 use Rattle.stretch.proofs.Spanning.{asked-refused, asked-samples}
 use Rattle.stretch.proofs.span_refusal.Statement.{statement}
 use Rattle.stretch.proofs.span_refusal.Tie as tie
@@ -16,9 +17,11 @@ enum-known-r : tie.Need-enum-known-r
 enum-known-r c = search needs
 
 returns : tie.Need-returns
+unfolding spanRefusal
 returns c = asked-samples _ _ _ _ _ (sym (c .enum-told .given .1) ∙ c .before .before .span-asked .ensures) .0
 
 returns-2 : tie.Need-returns-2
+unfolding spanRefusal
 returns-2 c = asked-refused _ _ _ _ _ (sym (c .before .r .given .1) ∙ c .before .before .before .span-asked .ensures) .0
 
 pub span-refusal-spec : {M : Type 1} → statement M

@@ -3,7 +3,6 @@
 use borrow.Author.Needs.{needs}
 use mathlib.Core.Path.{refl}
 use Rattle.capi.proofs.Answered.{too-few, fills, of-case}
-use Rattle.stretch.specs.Stretches.{spanRefusal}
 use Rattle.stretch.specs.Slips.{slipRefusal, slipNumbers}
 use Rattle.capi.proofs.Judged.{slip-judged}
 use Rattle.capi.proofs.slips.chaldoref_write_slip.Statement.{statement}
@@ -16,7 +15,7 @@ or-short-requires : tie.Need-or-short-requires
 or-short-requires c κs = search needs
 
 returns : tie.Need-returns
-unfolding slipRefusal spanRefusal
+unfolding slipRefusal
 returns c = too-few _ _ _ _ _ _ _ _ (slip-judged _ _ _ _ _) refl (c .before .before .if1 .taken) (rw (← c .before .span-refusal .ensures) (c .or-short .ensures))
 
 write-slip-requires : tie.Need-write-slip-requires

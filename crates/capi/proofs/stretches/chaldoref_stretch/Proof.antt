@@ -3,7 +3,7 @@
 use borrow.Author.Needs.{needs}
 use mathlib.Core.Path.{refl}
 use Rattle.capi.proofs.Answered.{too-few, fills, of-case}
-use Rattle.stretch.specs.Stretches.{spanRefusal, stretchRefusal, stretchNumbers}
+use Rattle.stretch.specs.Stretches.{stretchRefusal, stretchNumbers}
 use Rattle.capi.proofs.Judged.{stretch-judged}
 use Rattle.capi.proofs.stretches.chaldoref_stretch.Statement.{statement}
 use Rattle.capi.proofs.stretches.chaldoref_stretch.Tie as tie
@@ -15,7 +15,7 @@ or-short-requires : tie.Need-or-short-requires
 or-short-requires c κs = search needs
 
 returns : tie.Need-returns
-unfolding stretchRefusal spanRefusal
+unfolding stretchRefusal
 returns c = too-few _ _ _ _ _ _ _ _ (stretch-judged _ _ _ _ _) refl (c .before .before .if1 .taken) (rw (← c .before .span-refusal .ensures) (c .or-short .ensures))
 
 stretch-of-requires : tie.Need-stretch-of-requires
