@@ -4,7 +4,7 @@ use bigendian::i32_at;
 use bigendian::u32_at;
 use lists::Total;
 ghost use mathlib.Core.Path.{_≡_};
-ghost use Prim.Native.Nat.{_<_, _^_};
+ghost use Prim.Native.Nat.{_<_, _≤_, _^_, _/_};
 ghost use lib.ListN.{length, replicate};
 ghost use lib.Signed.{mag};
 ghost use Rattle.lists.specs.Lists.{sum};
@@ -57,6 +57,16 @@ pub enum Found {
     Outside,
 }
 
+// A quotient, rounded down; 0 where the divisor is 0.
+fn quotient(n: u64, d: u64) -> u64
+    ensures { λ r. ⌜ (r ≡ n / d) × (r ≤ n) ⌝ }
+{
+    if d == 0 {
+        return 0;
+    }
+    n / d
+}
+
 // The sample whose media times hold t.
 pub fn sample_at(stts: &[u8], t: u32) -> Found
     requires { ⌜ length (now stts) < 2 ^ 32 ⌝ }
@@ -71,7 +81,7 @@ pub fn sample_at(stts: &[u8], t: u32) -> Found
         let each = u32_at(s, 4) as u64;
         let span = count * each;
         if rest < span {
-            return Found::At(passed + rest / each);
+            return Found::At(passed + quotient(rest, each));
         }
         rest -= span;
         passed += count;

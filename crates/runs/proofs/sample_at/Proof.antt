@@ -4,20 +4,20 @@
 use borrow.Author.Needs.{needs}
 use Prim.Native.Nat.{_+_, _*_, _≤_}
 use native.Mathlib.Omega.{arith}
-use native.Mathlib.Nat.{div-lt-iff-lt-mul}
 use borrow.Author.Tests.{lt-ltb, le-ltb}
 use denote.Ref.{now}
 use lib.ListN.{length, length-drop, drop}
 use Rattle.bigendian.proofs.Parts.{rest as part-rest}
 use Rattle.lists.specs.Lists.{expand}
-use Rattle.lists.proofs.Laws.{Walk, Ahead, walk-start, walk-past, walk-in, walk-end, wide-mul, pos-of-lt-mul}
+use Rattle.lists.proofs.Laws.{Walk, Ahead, walk-start, walk-past, walk-in, walk-end, wide-mul}
 use Rattle.runs.specs.Runs.{runsIn, durations, sampleAt}
 use Rattle.runs.proofs.Turns.{spread-in, spread-none, spread-next}
 use Rattle.runs.proofs.sample_at.Statement.{statement}
 use Rattle.runs.proofs.sample_at.Tie as tie
 
 abbrev Inv-loop : tie.InvT-loop
-Inv-loop stts t s₀ passed₀ rest₀ s passed rest = (passed + length s * 4294967295 ≤ length stts * 4294967295) × Walk (durations stts) (expand (runsIn s)) t passed rest
+Inv-loop stts t s₀ passed₀ rest₀ s passed rest =
+    (passed + length s * 4294967295 ≤ length stts * 4294967295) × Walk (durations stts) (expand (runsIn s)) t passed rest × (rest ≤ t)
 
 abbrev μ-loop : tie.MeasureT-loop
 μ-loop stts t s₀ passed₀ rest₀ s passed rest = length s
@@ -36,7 +36,7 @@ after-requires : tie.Need-after-requires Inv-loop μ-loop
 after-requires c κs = search needs
 
 loop-holds : tie.Need-loop-holds Inv-loop μ-loop
-loop-holds c = let a = c .before .before .args in rw (c .after .ensures) (omega (arith, length-drop 16 (now (a .stts))), rw (spread-in (now (a .stts))) (walk-start _ _))
+loop-holds c = let a = c .before .before .args in rw (c .after .ensures) (omega (arith, length-drop 16 (now (a .stts))), rw (spread-in (now (a .stts))) (walk-start _ _), omega arith)
 
 u32-at-requires : tie.Need-u32-at-requires Inv-loop μ-loop
 u32-at-requires c κs = search needs
@@ -53,15 +53,18 @@ cast-each c = search needs
 mul-span : tie.Need-mul-span Inv-loop μ-loop
 mul-span c = record { fits = wide-mul (omega arith) (omega arith) }
 
-div-t13 : tie.Need-div-t13 Inv-loop μ-loop
-div-t13 c = pos-of-lt-mul _ _ _ (c .if1 .taken)
+quotient-requires : tie.Need-quotient-requires Inv-loop μ-loop
+quotient-requires c κs = search needs
 
 add-t14 : tie.Need-add-t14 Inv-loop μ-loop
-add-t14 c = let q = div-lt-iff-lt-mul {y = c .before .before .u32-at .result} (pos-of-lt-mul _ _ _ (c .if1 .taken)) .1 (c .if1 .taken) in omega arith
+add-t14 c = omega (arith, c .quotient .ensures .1)
 
 returns : tie.Need-returns Inv-loop μ-loop
 unfolding sampleAt
-returns c = let f = walk-in (here (c .before)) (c .if1 .taken) in simp (lt-ltb _ _ (f .below), f .place)
+returns c =
+    let i = c .before in
+    let f = walk-in (here (i .before)) (i .if1 .taken) in
+    simp (lt-ltb _ _ (f .below), f .place, c .quotient .ensures .0)
 
 add-passed : tie.Need-add-passed Inv-loop μ-loop
 add-passed c = omega (arith, c .before .before .before .loop-test .taken)
@@ -79,7 +82,7 @@ loop-less : tie.Need-loop-less Inv-loop μ-loop
 loop-less c = rw part-rest (simp length-drop (omega (arith, c .before .before .before .before .loop-test .taken)))
 
 loop-again : tie.Need-loop-again Inv-loop μ-loop
-loop-again c = rw part-rest (simp length-drop (omega arith), walk-past (here (c .before .before)) (c .before .if1 .left))
+loop-again c = rw part-rest (simp length-drop (omega arith), walk-past (here (c .before .before)) (c .before .if1 .left), omega arith)
 
 returns-2 : tie.Need-returns-2 Inv-loop μ-loop
 unfolding sampleAt
@@ -98,7 +101,7 @@ sample-at-spec =
     u32-at-requires-2
     cast-each
     mul-span
-    div-t13
+    quotient-requires
     add-t14
     returns
     add-passed

@@ -27,7 +27,7 @@ mul-if2 c =
 returns-2 : tie.Need-returns-2
 returns-2 c =
     let n = c .before in
-    short-list _ _ _ _ _ (n .before .before .before .refusal .ensures) (n .before .before .if1 .left) (n .before .moov-body .ensures) (n .track-count .ensures) (c .if2 .taken)
+    short-list _ _ _ _ _ (n .before .before .before .refusal .ensures) (n .before .before .if1 .left) (n .before .moov-body .ensures) (n .track-count .ensures) (omega (arith, c .if2 .taken))
 
 put-lines-requires : tie.Need-put-lines-requires
 put-lines-requires c κs =
