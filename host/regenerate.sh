@@ -22,7 +22,8 @@ host/target/debug/listing "$made/files/listing" "$made/films"
 rm -rf crates/listing/data
 cp -r "$made/files/listing/." crates/listing
 cp "$made/films/"*.mov films
-# The example of the README reads one of them from its standard input.
-cp films/two-hoses.mov crates/hoses_example/stdin
-host/target/debug/hoses_example < films/two-hoses.mov > "$made/hoses_example"
-cp "$made/hoses_example" crates/hoses_example/stdout
+# So does the example of the README, which has the film of two hoses there.
+mkdir -p "$made/files/hoses_example/data"
+host/target/debug/hoses_example "$made/files/hoses_example"
+rm -rf crates/hoses_example/data
+cp -r "$made/files/hoses_example/." crates/hoses_example

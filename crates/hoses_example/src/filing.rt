@@ -9,8 +9,17 @@ use stretch::slips::SlipAnswer;
 use stretch::slips::write_slip;
 ghost use Prim.Native.Nat.{_≤_};
 
-// The bytes of a slip at most, and places for the pairs that so many bytes can have.
-const BYTES: usize = 65536;
+// More bytes than a slip of a film of 65,536 bytes can have: its chunks are fewer than 16,384, and a pair takes six bytes at most.
+const BYTES: usize = 131072;
+
+// More places than the pairs of such a slip can have.
+const PLACES: usize = 65536;
+
+// The film time that a slip files, or the number of the refusal.
+enum FilmTime {
+    Units(u32),
+    Refused(u32),
+}
 
 // From a up to b.
 fn between(a: u32, b: u32) -> u32 {
@@ -20,13 +29,13 @@ fn between(a: u32, b: u32) -> u32 {
     0
 }
 
-// The film time that a slip files, which is read from its bytes alone; 0 where they are no slip.
-fn filed_by(bytes: &[u8]) -> u32 {
-    let mut room = [0u32; BYTES];
+// The film time of a slip, which is read from its bytes alone.
+fn filed_by(bytes: &[u8]) -> FilmTime {
+    let mut room = [0u32; PLACES];
     match read_slip(bytes, &mut room) {
-        SlipRead::Accepted(head) => between(head.a, head.b),
-        SlipRead::Malformed => 0,
-        SlipRead::NoRoom => 0,
+        SlipRead::Accepted(head) => FilmTime::Units(between(head.a, head.b)),
+        SlipRead::Malformed => FilmTime::Refused(17),
+        SlipRead::NoRoom => FilmTime::Refused(16),
     }
 }
 
@@ -41,14 +50,14 @@ fn written(count: usize, length: usize) -> usize
 }
 
 // Writes the slip of a track from a to b, and reads it back.
-fn filed(film: &[u8], id: u32, a: u32, b: u32) -> u32 {
+fn filed(film: &[u8], id: u32, a: u32, b: u32) -> FilmTime {
     let mut out = [0u8; BYTES];
     match write_slip(film, id, MediaTime(a), MediaTime(b), &mut out) {
         SlipAnswer::Written(count) => {
             let n = written(count, BYTES);
             filed_by(&out[..n])
         }
-        SlipAnswer::Refused(_) => 0,
+        SlipAnswer::Refused(number) => FilmTime::Refused(number),
     }
 }
 
@@ -68,22 +77,57 @@ fn second_start(film: &[u8], id: u32) -> u32 {
     }
 }
 
-fn verdict(first: u32, second: u32, total: u32) {
-    if first as u64 + second as u64 == total as u64 {
+fn verdict(units: u64, total: u32) {
+    show::field(b", the movie has ", total);
+    if units == total as u64 {
         show::text(b": adds up\n");
     } else {
         show::text(b": does not add up\n");
     }
 }
 
-// Files the whole of a track in two slips, which meet where its second sample starts.
+fn in_one_slip(film: &[u8], id: u32, total: u32) {
+    match filed(film, id, 0, total) {
+        FilmTime::Units(units) => {
+            show::field(b"one slip files ", units);
+            show::text(b" units of film time");
+            verdict(units as u64, total);
+        }
+        FilmTime::Refused(number) => show::refused(number),
+    }
+}
+
+// The second of two slips, after one that files so many units.
+fn second_slip(film: &[u8], id: u32, cut: u32, total: u32, first: u32) {
+    match filed(film, id, cut, total) {
+        FilmTime::Units(second) => {
+            show::field(b"one slip files ", first);
+            show::field(b" units of film time and one ", second);
+            verdict(first as u64 + second as u64, total);
+        }
+        FilmTime::Refused(number) => show::refused(number),
+    }
+}
+
+fn in_two_slips(film: &[u8], id: u32, cut: u32, total: u32) {
+    match filed(film, id, 0, cut) {
+        FilmTime::Units(first) => second_slip(film, id, cut, total, first),
+        FilmTime::Refused(number) => show::refused(number),
+    }
+}
+
+// Files the whole of a track in two slips, which meet where its second sample starts; in one where no film time lies before that or after it.
 pub fn account(film: &[u8], id: u32, total: u32) {
-    let cut = second_start(film, id);
-    let first = filed(film, id, 0, cut);
-    let second = filed(film, id, cut, total);
     show::field(b"track ", id);
-    show::field(b": one slip files ", first);
-    show::field(b" units of film time and one ", second);
-    show::field(b", the movie has ", total);
-    verdict(first, second, total);
+    show::text(b": ");
+    if total == 0 {
+        show::text(b"no film time\n");
+        return;
+    }
+    let cut = second_start(film, id);
+    if 0 < cut && cut < total {
+        in_two_slips(film, id, cut, total);
+    } else {
+        in_one_slip(film, id, total);
+    }
 }

@@ -1,124 +1,74 @@
-// Answers the regulator's three questions for the film of two hoses, which is read from standard input: which tracks the movie holds, which bytes show
-// the second hose, and whether the film time filed adds up.
+// Answers the regulator's three questions for a film of hoses, of up to 65,536 bytes, which is read from standard input; prints `refused` and a number for
+// one that is refused, and `too long` for a longer one. With arguments it answers for each file that they name, one after the other; `-` is standard input.
+mod answers;
 mod filing;
 mod show;
 
-use edits::MediaTime;
-use movie::list::LINE;
-use movie::list::Line;
-use movie::list::TrackList;
-use movie::list::track_list;
-use stretch::StretchAnswer;
-use stretch::stretch_of;
-ghost use Prim.Native.Nat.{_≤_};
+// The most bytes that a film may have.
+const MOST_BYTES: usize = 65536;
 
-// The track that films the second hose.
-const SECOND_HOSE: u32 = 2;
-
-// More places than the pairs of a film of 65,536 bytes can have.
-const PLACES: usize = 65536;
-
-fn print_tracks(list: &[u32]) {
-    let mut t = list;
-    while LINE <= t.len() {
-        show::track(Line {
-            id: t[0],
-            subtype: t[1],
-            scale: t[2],
-            total: t[3],
-            samples: t[4],
-            chunks: t[5],
-            edits: t[6],
-        });
-        t = &t[LINE..];
-    }
+// Whether the input has a byte more.
+fn has_more(fd: i32) -> bool {
+    let mut byte = [0u8; 1];
+    io::read_full(fd, &mut byte) > 0
 }
 
-// The total of the media time of a track; 0 where the list has not that ID.
-fn total_of(list: &[u32], id: u32) -> u32 {
-    let mut t = list;
-    while LINE <= t.len() {
-        if t[0] == id {
-            return t[3];
+// The film is read to the input's end, as the listing does: one byte more is asked for only after a full buffer.
+fn answer_input(fd: i32) {
+    let mut film = io::large_buffer();
+    let n = io::read_full(fd, &mut film);
+    if n == MOST_BYTES {
+        if has_more(fd) {
+            show::text(b"too long\n");
+            return;
         }
-        t = &t[LINE..];
     }
-    0
+    answers::answer(&film[..n]);
 }
 
-// How many numbers so many tracks fill; the whole room where it has no place for them, which an accepted list never needs.
-fn of_tracks(count: usize) -> usize
-    ensures { λ r. ⌜ r ≤ 112 ⌝ }
-{
-    if 16 < count {
-        return 112;
+fn answer_file(name: &[u8]) {
+    let fd = os::open_read(name);
+    if fd < 0 {
+        os::fail(name);
+        return;
     }
-    LINE * count
+    answer_input(fd);
+    libc::close(fd);
 }
 
-// The same of so many pairs.
-fn of_pairs(count: usize) -> usize
-    ensures { λ r. ⌜ r ≤ 65536 ⌝ }
-{
-    if PLACES / 2 < count {
-        return PLACES;
+fn is_dash(name: &[u8]) -> bool {
+    if name.len() != 1 {
+        return false;
     }
-    2 * count
+    name[0] == b'-'
 }
 
-fn print_pairs(pairs: &[u32]) {
-    let mut t = pairs;
-    while 2 <= t.len() {
-        show::pair(t[0], t[1]);
-        t = &t[2..];
+fn answer_named(name: &[u8]) {
+    if is_dash(name) {
+        answer_input(libc::STDIN_FILENO);
+    } else {
+        answer_file(name);
     }
 }
 
-// The bytes that show the whole of a track.
-fn print_bytes(film: &[u8], id: u32, total: u32) {
-    let mut room = [0u32; PLACES];
-    match stretch_of(film, id, MediaTime(0), MediaTime(total), &mut room) {
-        StretchAnswer::Pairs(count, bytes) => {
-            let n = of_pairs(count);
-            print_pairs(&room[..n]);
-            show::all(bytes);
-        }
-        StretchAnswer::Refused(number) => show::refused(number),
+fn argument(i: usize) {
+    let mut name = io::buffer();
+    let length = os::arg(i, &mut name);
+    if os::errno() != 0 {
+        os::fail(b"name");
+        return;
     }
-}
-
-fn print_accounts(film: &[u8], list: &[u32]) {
-    let mut t = list;
-    while LINE <= t.len() {
-        filing::account(film, t[0], t[3]);
-        t = &t[LINE..];
-    }
-}
-
-fn print_answers(film: &[u8], list: &[u32]) {
-    show::text(b"Which tracks does the movie hold?\n");
-    show::text(b"id subtype scale total samples chunks edits\n");
-    print_tracks(list);
-    show::text(b"Which bytes show the second hose?\n");
-    print_bytes(film, SECOND_HOSE, total_of(list, SECOND_HOSE));
-    show::text(b"Does the film time filed add up?\n");
-    print_accounts(film, list);
-}
-
-fn answer(film: &[u8]) {
-    // Seven numbers for each of 16 tracks: more tracks are refused 6.
-    let mut room = [0u32; 112];
-    match track_list(film, &mut room) {
-        TrackList::Tracks(count) => {
-            let n = of_tracks(count);
-            print_answers(film, &room[..n]);
-        }
-        TrackList::Refused(number) => show::refused(number),
-    }
+    answer_named(&name[..length]);
 }
 
 fn main() {
-    let mut film = io::large_buffer();
-    let n = io::read_full(libc::STDIN_FILENO, &mut film);
-    answer(&film[..n]);
+    let count = os::arg_count();
+    if count < 2 {
+        answer_input(libc::STDIN_FILENO);
+    }
+    let mut i = 1;
+    while i < count {
+        argument(i);
+        i += 1;
+    }
 }

@@ -28,8 +28,8 @@ slice-aggregate-filed-by c = sym (length-take-le _ _ (omega arith))
 filed-by-requires : tie.Need-filed-by-requires
 filed-by-requires c κs = search needs
 
-enum-told : tie.Need-enum-told
-enum-told c = search needs
+enum-known-number : tie.Need-enum-known-number
+enum-known-number c = search needs
 
 returns : tie.Need-returns
 returns c = search needs
@@ -48,6 +48,6 @@ filed-spec =
     array-share-prefix-out
     slice-aggregate-filed-by
     filed-by-requires
-    enum-told
+    enum-known-number
     returns
     returns-2)

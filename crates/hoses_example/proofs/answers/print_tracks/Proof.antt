@@ -1,9 +1,9 @@
--- `hoses_example::print_tracks` is safe and ends: its measure is how much of the list is left.
+-- `hoses_example::answers::print_tracks` is safe and ends: its measure is how much of the list is left.
 -- Assumes nothing.
 use lib.ListN.{length}
 use borrow.Author.Needs.{needs}
-use Rattle.hoses_example.proofs.print_tracks.Statement.{statement}
-use Rattle.hoses_example.proofs.print_tracks.Tie as tie
+use Rattle.hoses_example.proofs.answers.print_tracks.Statement.{statement}
+use Rattle.hoses_example.proofs.answers.print_tracks.Tie as tie
 
 abbrev Inv-loop : tie.InvT-loop
 Inv-loop list t₀ t = Unit {0}

@@ -1,9 +1,9 @@
--- `hoses_example::total_of` is safe and ends: its measure is how much of the list is left.
+-- `hoses_example::answers::total_of` is safe and ends: its measure is how much of the list is left.
 -- Assumes nothing.
 use lib.ListN.{length}
 use borrow.Author.Needs.{needs}
-use Rattle.hoses_example.proofs.total_of.Statement.{statement}
-use Rattle.hoses_example.proofs.total_of.Tie as tie
+use Rattle.hoses_example.proofs.answers.total_of.Statement.{statement}
+use Rattle.hoses_example.proofs.answers.total_of.Tie as tie
 
 abbrev Inv-loop : tie.InvT-loop
 Inv-loop list id t₀ t = Unit {0}

@@ -1,11 +1,11 @@
--- `hoses_example::answer` is safe and ends: the places filled are no more than the room has.
+-- `hoses_example::answers::answer` is safe and ends: the places filled are no more than the room has.
 -- Assumes nothing.
 use mathlib.Core.Path.{sym}
 use native.Mathlib.Omega.{arith}
 use lib.Seq.{length-take-le}
 use borrow.Author.Needs.{needs}
-use Rattle.hoses_example.proofs.answer.Statement.{statement}
-use Rattle.hoses_example.proofs.answer.Tie as tie
+use Rattle.hoses_example.proofs.answers.answer.Statement.{statement}
+use Rattle.hoses_example.proofs.answers.answer.Tie as tie
 
 slice-aggregate-track-list : tie.Need-slice-aggregate-track-list
 slice-aggregate-track-list c = search needs

@@ -1,9 +1,9 @@
--- `hoses_example::print_pairs` is safe and ends: its measure is how much of the pairs is left.
+-- `hoses_example::answers::print_pairs` is safe and ends: its measure is how much of the pairs is left.
 -- Assumes nothing.
 use lib.ListN.{length}
 use borrow.Author.Needs.{needs}
-use Rattle.hoses_example.proofs.print_pairs.Statement.{statement}
-use Rattle.hoses_example.proofs.print_pairs.Tie as tie
+use Rattle.hoses_example.proofs.answers.print_pairs.Statement.{statement}
+use Rattle.hoses_example.proofs.answers.print_pairs.Tie as tie
 
 abbrev Inv-loop : tie.InvT-loop
 Inv-loop pairs t₀ t = Unit {0}

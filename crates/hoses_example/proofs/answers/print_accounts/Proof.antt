@@ -1,9 +1,9 @@
--- `hoses_example::print_accounts` is safe and ends: its measure is how much of the list is left.
+-- `hoses_example::answers::print_accounts` is safe and ends: its measure is how much of the list is left.
 -- Assumes nothing.
 use lib.ListN.{length}
 use borrow.Author.Needs.{needs}
-use Rattle.hoses_example.proofs.print_accounts.Statement.{statement}
-use Rattle.hoses_example.proofs.print_accounts.Tie as tie
+use Rattle.hoses_example.proofs.answers.print_accounts.Statement.{statement}
+use Rattle.hoses_example.proofs.answers.print_accounts.Tie as tie
 
 abbrev Inv-loop : tie.InvT-loop
 Inv-loop film list t₀ t = Unit {0}

@@ -1,11 +1,11 @@
--- `hoses_example::print_bytes` is safe and ends: the places filled are no more than the room has.
+-- `hoses_example::answers::print_bytes` is safe and ends: the places filled are no more than the room has.
 -- Assumes nothing.
 use mathlib.Core.Path.{sym}
 use native.Mathlib.Omega.{arith}
 use lib.Seq.{length-take-le}
 use borrow.Author.Needs.{needs}
-use Rattle.hoses_example.proofs.print_bytes.Statement.{statement}
-use Rattle.hoses_example.proofs.print_bytes.Tie as tie
+use Rattle.hoses_example.proofs.answers.print_bytes.Statement.{statement}
+use Rattle.hoses_example.proofs.answers.print_bytes.Tie as tie
 
 slice-aggregate-stretch-of : tie.Need-slice-aggregate-stretch-of
 slice-aggregate-stretch-of c = search needs
