@@ -17,7 +17,7 @@
  *
  * Places fewer than a function names are refused 16 as room is, and then nothing
  * at all is written. The order of refusals is: the file's (1 to 13), 14, 15 or 18,
- * then 16; in reading a slip 17, then 16.
+ * then 16; in reading a slip 17, then 16. docs/RULES.md has each rule in full.
  *
  * Limits. A file has at most 2,147,483,647 bytes, a movie 16 tracks, a track
  * 1,048,576 samples, 1,048,576 chunks, 256 edits and 64 sample descriptions, a
