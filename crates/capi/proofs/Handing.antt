@@ -10,7 +10,7 @@ use borrow.Author.Tests.{ne-eqb, lt-ltb, le-ltb}
 use lib.ListN.{length, drop, getD, set, length-set}
 use lib.Seq.{sets, sets-eq, drop-cons, drop-length}
 use Rattle.structure.specs.Rows.{orElse}
-use Rattle.movie.specs.Rooms.{noRoom, filled, roomAfter}
+use Rattle.movie.specs.Rooms.{noRoom, filledRoom, roomAfter}
 use Rattle.capi.specs.Places.{Hands}
 
 -- a refusal that nothing comes after is itself
@@ -39,7 +39,7 @@ module _ {A : Type 0} (values places : List A) where
 
   -- all of them stored
   pub all : (refusal i : ℕ) (new : List A) → length values ≤ length places → length values ≤ i → Stored new i → Hands refusal values places refusal new
-  unfolding noRoom roomAfter filled
+  unfolding noRoom roomAfter filledRoom
   all refusal i new h l s =
       let z : i ≡ length values = omega (arith, s .within) in
       let e = rw (z, drop-length values) at (s .rest) in

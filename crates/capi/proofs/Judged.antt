@@ -11,27 +11,27 @@ use Rattle.slip.specs.declared.Head.{Head}
 use Rattle.structure.specs.Rows.{orElse}
 use Rattle.structure.specs.Movie.{moovOf, tracksOf}
 use Rattle.track.specs.Track.{trackOf}
-use Rattle.movie.specs.Rooms.{noRoom, filled, roomAfter, refusedWith}
-use Rattle.movie.specs.TrackList.{listRefusal, listAnswer, numbersOf}
+use Rattle.movie.specs.Rooms.{noRoom, filledRoom, roomAfter, refusedWith}
+use Rattle.movie.specs.TrackList.{listRefusal, listAnswer, trackListNumbers}
 use Rattle.movie.specs.declared.list.TrackList.the-variants as lists
 use Rattle.questions.specs.Asked.{trackAsked}
 use Rattle.stretch.specs.Stretches.{stretchPairs, bytesIn, stretchRefusal, stretchAnswer, stretchNumbers}
 use Rattle.stretch.specs.declared.StretchAnswer.the-variants as stretches
 use Rattle.stretch.specs.Slips.{slipOfStretch, slipRefusal, slipAnswer, slipNumbers}
 use Rattle.stretch.specs.declared.slips.SlipAnswer.the-variants as slips
-use Rattle.profiles.specs.Profiles.{keptOf, profileAsked, profileRefusal, profileAnswer, numbersOf as recordNumbers}
+use Rattle.profiles.specs.Profiles.{keptOf, profileAsked, profileRefusal, profileAnswer, profileAnswerNumbers}
 use Rattle.profiles.specs.declared.ProfileAnswer.the-variants as profiles
 use Rattle.capi.specs.Places.{refusalIn}
 use Rattle.capi.specs.Numbers.{media, ofTrackList, ofStretch, ofProfile, ofSlipWriting, pairsOf, faultOf}
 use Rattle.capi.proofs.Answered.{judged, numbers-are}
 
 pub list-judged : (s room : List ℕ) → ofTrackList s room ≡ judged (listRefusal s room) (length (tracksOf (moovOf s)) ∷ [])
-unfolding listAnswer numbersOf
-list-judged s room = numbers-are numbersOf (lists.Tracks (length (tracksOf (moovOf s)))) lists.Refused _ refl (λ r. refl) (listRefusal s room)
+unfolding listAnswer trackListNumbers
+list-judged s room = numbers-are trackListNumbers (lists.Tracks (length (tracksOf (moovOf s)))) lists.Refused _ refl (λ r. refl) (listRefusal s room)
 
 pub profile-judged : (s : List ℕ) (id : ℕ) (room : List ℕ) → ofProfile s id room ≡ judged (profileRefusal s id room) (length (keptOf (profileAsked s id)) ∷ [])
-unfolding profileAnswer recordNumbers
-profile-judged s id room = numbers-are recordNumbers (profiles.Records (length (keptOf (profileAsked s id)))) profiles.Refused _ refl (λ r. refl) (profileRefusal s id room)
+unfolding profileAnswer profileAnswerNumbers
+profile-judged s id room = numbers-are profileAnswerNumbers (profiles.Records (length (keptOf (profileAsked s id)))) profiles.Refused _ refl (λ r. refl) (profileRefusal s id room)
 
 module _ (s : List ℕ) (id a b : ℕ) (room : List ℕ) where
   pub stretch-judged : ofStretch s id a b room
@@ -68,7 +68,7 @@ read-judged (accepted h pairs) room = by-room (ltb (length room) (length pairs))
 read-judged malformed room = refl
 
 pub read-room : (o : Outcome) (room : List ℕ) → roomFor room o ≡ roomAfter (readRefusal o room) (pairsOf o) room
-unfolding roomFor faultOf pairsOf noRoom orElse roomAfter filled
+unfolding roomFor faultOf pairsOf noRoom orElse roomAfter filledRoom
 read-room (accepted h pairs) room = room-by (ltb (length room) (length pairs)) room _
 read-room malformed room = refl
 

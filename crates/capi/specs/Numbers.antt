@@ -7,7 +7,7 @@ use Rattle.edits.specs.declared.MediaTime.{MediaTime}
 use Rattle.edits.specs.declared.MovieTime.{MovieTime}
 use Rattle.slip.specs.Slip.{Outcome, accepted, malformed, slipIn, numbersFor}
 use Rattle.movie.specs.Rooms.{refusedWith}
-use Rattle.movie.specs.TrackList.{listAnswer, numbersOf as trackNumbers}
+use Rattle.movie.specs.TrackList.{listAnswer, trackListNumbers}
 use Rattle.questions.specs.Samples.{sampleAnswer, sampleNumbers}
 use Rattle.questions.specs.declared.samples.SampleAnswer.{SampleAnswer}
 use Rattle.questions.specs.declared.samples.SampleAnswer.the-variants.{Found, Refused}
@@ -15,7 +15,7 @@ use Rattle.questions.specs.Times.{atAnswer, numberNumbers, mapAnswer, timeNumbe
 use Rattle.stretch.specs.Stretches.{stretchAnswer, stretchNumbers}
 use Rattle.stretch.specs.Slips.{slipAnswer, slipNumbers}
 use Rattle.questions.specs.Feature.{featureAnswer, featureNumbers}
-use Rattle.profiles.specs.Profiles.{profileAnswer, numbersOf as recordNumbers}
+use Rattle.profiles.specs.Profiles.{profileAnswer, profileAnswerNumbers}
 
 -- a number that a host gives as a time of the media, or of the movie
 abbrev pub media : ℕ → MediaTime
@@ -26,7 +26,7 @@ movie t = record { 0 = t }
 
 -- "the count of tracks"
 abbrev pub ofTrackList : List ℕ → List ℕ → List ℕ
-ofTrackList s room = trackNumbers (listAnswer s room)
+ofTrackList s room = trackListNumbers (listAnswer s room)
 
 -- "decode time .., duration, composition time .., whether sync .., description ID, chunk, offset .., size": signed, for the composition time's sake
 abbrev pub ofSample : List ℕ → ℕ → ℕ → List ℤ
@@ -54,7 +54,7 @@ ofStretch s id a b room = stretchNumbers (stretchAnswer s id (media a) (media b)
 
 -- "the count of .. records"
 abbrev pub ofProfile : List ℕ → ℕ → List ℕ → List ℕ
-ofProfile s id room = recordNumbers (profileAnswer s id room)
+ofProfile s id room = profileAnswerNumbers (profileAnswer s id room)
 
 -- the feature's value
 abbrev pub ofFeature : List ℕ → ℕ → ℕ → List ℕ

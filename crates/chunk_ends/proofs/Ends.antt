@@ -18,7 +18,7 @@ use Rattle.words.specs.Words.{wordsIn, chunkOffsets}
 use Rattle.words.proofs.Turns.{offsets-in, words-drop}
 use Rattle.chunks.specs.Chunks.{perChunk, offsetOf, endWithin}
 use Rattle.chunks.specs.Cursors.{ahead, Stands, startCursor, readied, past}
-use Rattle.chunks.specs.declared.Cursor.{Cursor}
+use Rattle.chunks.specs.declared.ChunkCursor.{ChunkCursor}
 use Rattle.chunks.proofs.Cursors.{start-samples, Same, ready-same, no-samples, ahead-run}
 use Rattle.chunk_ends.proofs.RunEnds.{run-then}
 
@@ -33,13 +33,13 @@ sizes-after zs few begin count end p = drop-drop count begin zs ∙ elim (decLe 
 -- ---- the walk
 
 -- c stands before a chunk if one is ahead; what the chunks ahead, the offsets of t and the sizes from `begin` on say is what the whole says
-pub record Ending (limit : ℕ) (s : List ℕ) (chunks : ℕ) (zs t : List ℕ) (whole : Bool) (c : Cursor) (begin : ℕ) : Type 0 where
+pub record Ending (limit : ℕ) (s : List ℕ) (chunks : ℕ) (zs t : List ℕ) (whole : Bool) (c : ChunkCursor) (begin : ℕ) : Type 0 where
   pub stands : Stands s c
   pub same : endWithin limit (ahead s chunks c) (wordsIn t) (drop begin zs) ≡ whole
 
 -- before the first chunk
 pub ending-start : (limit : ℕ) (stsc stco zs : List ℕ) {chunks : ℕ} → chunks ≡ u32At stco 12 → {t : List ℕ} → t ≡ drop 16 stco →
-    {i r : Cursor} → i ≡ startCursor → r ≡ readied stsc chunks i →
+    {i r : ChunkCursor} → i ≡ startCursor → r ≡ readied stsc chunks i →
     Ending limit stsc chunks zs t (endWithin limit (perChunk stsc (u32At stco 12)) (chunkOffsets stco) zs) r 0
 ending-start limit stsc stco zs {chunks} k {t} p {i} {r} a e =
     let w : Same stsc chunks startCursor r = rw (e, a) (ready-same stsc chunks startCursor) in
@@ -48,11 +48,11 @@ ending-start limit stsc stco zs {chunks} k {t} p {i} {r} a e =
     record { stands = w .stands; same = rw (q, o) }
 
 -- no chunk is ahead
-pub ended : {limit : ℕ} {s : List ℕ} {chunks : ℕ} {zs t : List ℕ} {whole : Bool} {c : Cursor} {begin : ℕ} → Ending limit s chunks zs t whole c begin → c .remaining ≡ 0 → whole ≡ true
+pub ended : {limit : ℕ} {s : List ℕ} {chunks : ℕ} {zs t : List ℕ} {whole : Bool} {c : ChunkCursor} {begin : ℕ} → Ending limit s chunks zs t whole c begin → c .remaining ≡ 0 → whole ≡ true
 ended {limit} {s} {chunks} {zs} {t} {whole} {c} {begin} w z = sym (w .same) ∙ rw (no-samples chunks (w .stands) z)
 
 -- a run is ahead, and whether its chunks end within the limit is known
-module _ {limit : ℕ} {s : List ℕ} {chunks : ℕ} {zs t : List ℕ} {whole : Bool} {c : Cursor} {begin : ℕ} (w : Ending limit s chunks zs t whole c begin) {within : Bool}
+module _ {limit : ℕ} {s : List ℕ} {chunks : ℕ} {zs t : List ℕ} {whole : Bool} {c : ChunkCursor} {begin : ℕ} (w : Ending limit s chunks zs t whole c begin) {within : Bool}
     (b : within ≡ endWithin limit (replicate (c .remaining) (c .per)) (wordsIn t) (drop begin zs)) where
   opened : whole ≡ cond within (endWithin limit (ahead s chunks (past (c .remaining) c)) (drop (c .remaining) (wordsIn t)) (drop (c .remaining * c .per) (drop begin zs))) false
   opened =
@@ -62,7 +62,7 @@ module _ {limit : ℕ} {s : List ℕ} {chunks : ℕ} {zs t : List ℕ} {whole : 
   passes h = opened ∙ rw h
 
   -- r is the cursor readied past the run, u the offsets that follow
-  module _ {i r : Cursor} (a : i ≡ past (c .remaining) c) (e : r ≡ readied s chunks i) where
+  module _ {i r : ChunkCursor} (a : i ≡ past (c .remaining) c) (e : r ≡ readied s chunks i) where
     again : Same s chunks (past (c .remaining) c) r
     again = rw (e, a) (ready-same s chunks (past (c .remaining) c))
 

@@ -7,7 +7,7 @@ use mathlib.Core.List.{List, [], _∷_}
 use native.Mathlib.Omega.{arith}
 use lib.Dec.{ltb, leb, eqb}
 use borrow.Author.Tests.{lt-ltb, le-ltb, le-leb, lt-leb, eq-eqb, ne-eqb, ltb-false, leb-true, leb-false, eqb-true, eqb-false, not-false}
-use Rattle.chunks.specs.Chunks.{Deal, deals, firstOf, rightEntry, dealing, dealsAgree, any, startsElsewhere, notRising, passes, withoutChunks, withChunks, dealsNone, strange, dealsContradict}
+use Rattle.chunks.specs.Chunks.{Deal, deals, firstOf, rightEntry, dealing, dealsAgree, any, startsElsewhere, notRising, passes, withoutChunks, withChunks, dealsNone, wrongDescriptionId, dealsContradict}
 
 -- ---- Booleans
 
@@ -99,12 +99,12 @@ module _ (chunks descriptions : ℕ) where
       let p : e .per ≡ 0 → ⊥ = λ z. omega (arith, t .0 .full) in
       rw (ne-eqb (e .per) 0 p) (deals-some es (t .1))
 
-  strange-none : (es : List Deal) → dealing chunks descriptions es ≡ true → any (strange descriptions) es ≡ false
-  strange-none [] q = refl
-  strange-none (e ∷ es) q =
+  wrong-id-none : (es : List Deal) → dealing chunks descriptions es ≡ true → any (wrongDescriptionId descriptions) es ≡ false
+  wrong-id-none [] q = refl
+  wrong-id-none (e ∷ es) q =
       let t = dealing-cons e es q in
       let p : e .id ≡ 0 → ⊥ = λ z. omega (arith, t .0 .named) in
-      rw (ne-eqb (e .id) 0 p, le-ltb descriptions (e .id) (t .0 .known)) (strange-none es (t .1))
+      rw (ne-eqb (e .id) 0 p, le-ltb descriptions (e .id) (t .0 .known)) (wrong-id-none es (t .1))
 
   without-of : (es : List Deal) → firstOf chunks es ≡ 1 → dealing chunks descriptions es ≡ true → withoutChunks chunks es ≡ false
   without-of [] f q = and-false (eqb chunks 0)
@@ -122,7 +122,7 @@ module _ (chunks descriptions : ℕ) where
   -- ---- entries that contradict nothing are right
 
   dealing-if : (e : Deal) (es : List Deal) → notRising (e ∷ es) ≡ false → any (passes chunks) (e ∷ es) ≡ false → any dealsNone (e ∷ es) ≡ false →
-      any (strange descriptions) (e ∷ es) ≡ false → dealing chunks descriptions (e ∷ es) ≡ true
+      any (wrongDescriptionId descriptions) (e ∷ es) ≡ false → dealing chunks descriptions (e ∷ es) ≡ true
   dealing-if e [] r p d i =
       let a = or-false (ltb chunks (e .first)) false p in
       let b = or-false (eqb (e .per) 0) false d in
@@ -141,7 +141,7 @@ module _ (chunks descriptions : ℕ) where
       let o = or-false (leb (f .first) (e .first)) (notRising (f ∷ es)) r in
       let a = or-false (ltb chunks (e .first)) (any (passes chunks) (f ∷ es)) p in
       let b = or-false (eqb (e .per) 0) (any dealsNone (f ∷ es)) d in
-      let c = or-false (eqb (e .id) 0 || ltb descriptions (e .id)) (any (strange descriptions) (f ∷ es)) i in
+      let c = or-false (eqb (e .id) 0 || ltb descriptions (e .id)) (any (wrongDescriptionId descriptions) (f ∷ es)) i in
       let u = or-false (eqb (e .id) 0) (ltb descriptions (e .id)) (c .0) in
       let x = eqb-false (e .per) 0 (b .0) in
       let y = eqb-false (e .id) 0 (u .0) in
@@ -153,7 +153,7 @@ module _ (chunks descriptions : ℕ) where
       } in
       rw (right-is k) (dealing-if f es (o .1) (a .1) (b .1) (c .1))
 
-  right-if : (es : List Deal) → withoutChunks chunks es ≡ false → withChunks chunks es ≡ false → any dealsNone es ≡ false → any (strange descriptions) es ≡ false →
+  right-if : (es : List Deal) → withoutChunks chunks es ≡ false → withChunks chunks es ≡ false → any dealsNone es ≡ false → any (wrongDescriptionId descriptions) es ≡ false →
       (firstOf chunks es ≡ 1) × (dealing chunks descriptions es ≡ true)
   right-if [] w v d i = (omega (arith, ltb-false 0 chunks (and-true (ltb 0 chunks) v)), refl)
   right-if (e ∷ es) w v d i =
@@ -179,12 +179,12 @@ agree-clauses s chunks descriptions =
     opposite (dealsAgree s chunks descriptions) (dealsContradict s chunks descriptions)
     (λ e.
     let t = agreed s chunks descriptions e in
-    neither (withoutChunks chunks es) (withChunks chunks es || (any dealsNone es || any (strange descriptions) es)) (without-of chunks descriptions es (t .0) (t .1))
-    (neither (withChunks chunks es) (any dealsNone es || any (strange descriptions) es) (with-of chunks descriptions es (t .0) (t .1))
-    (neither (any dealsNone es) (any (strange descriptions) es) (deals-some chunks descriptions es (t .1)) (strange-none chunks descriptions es (t .1)))))
+    neither (withoutChunks chunks es) (withChunks chunks es || (any dealsNone es || any (wrongDescriptionId descriptions) es)) (without-of chunks descriptions es (t .0) (t .1))
+    (neither (withChunks chunks es) (any dealsNone es || any (wrongDescriptionId descriptions) es) (with-of chunks descriptions es (t .0) (t .1))
+    (neither (any dealsNone es) (any (wrongDescriptionId descriptions) es) (deals-some chunks descriptions es (t .1)) (wrong-id-none chunks descriptions es (t .1)))))
     (λ e.
-    let a = or-false (withoutChunks chunks es) (withChunks chunks es || (any dealsNone es || any (strange descriptions) es)) e in
-    let b = or-false (withChunks chunks es) (any dealsNone es || any (strange descriptions) es) (a .1) in
-    let c = or-false (any dealsNone es) (any (strange descriptions) es) (b .1) in
+    let a = or-false (withoutChunks chunks es) (withChunks chunks es || (any dealsNone es || any (wrongDescriptionId descriptions) es)) e in
+    let b = or-false (withChunks chunks es) (any dealsNone es || any (wrongDescriptionId descriptions) es) (a .1) in
+    let c = or-false (any dealsNone es) (any (wrongDescriptionId descriptions) es) (b .1) in
     let t = right-if chunks descriptions es (a .0) (b .0) (c .0) (c .1) in
     rw (eq-eqb (firstOf chunks es) 1 (t .0)) (t .1))

@@ -13,7 +13,7 @@ use Rattle.bigendian.specs.BigEndian.{u32At}
 use Rattle.chunks.specs.Chunks.{Deal, dealsIn, deals, firstOf, dealt, perChunk, descriptionIds}
 use Rattle.lists.proofs.Laws.{length-run}
 use Rattle.chunks.specs.Cursors.{ahead, idsAhead, Valid, Stands, startCursor, loaded, readiedIn, readied, past, cursorIn, cursorAt}
-use Rattle.chunks.specs.declared.Cursor.{Cursor}
+use Rattle.chunks.specs.declared.ChunkCursor.{ChunkCursor}
 use Rattle.chunks.proofs.Turns.{deals-in, deals-none, deals-next, samples-in, ids-in}
 
 -- ---- before the first chunk
@@ -28,7 +28,7 @@ start-valid s chunks = record { samples = start-samples s chunks; descriptions =
 
 -- ---- to ready a cursor: what the loop that reads entries keeps
 
-pub ready-stop : (s : List ℕ) (chunks : ℕ) (r : Cursor) → (r .remaining ≡ 0 → ⊥) → readied s chunks r ≡ r
+pub ready-stop : (s : List ℕ) (chunks : ℕ) (r : ChunkCursor) → (r .remaining ≡ 0 → ⊥) → readied s chunks r ≡ r
 unfolding readied
 ready-stop s chunks r z = go (dealsIn (drop (r .at) s))
   where
@@ -36,7 +36,7 @@ ready-stop s chunks r z = go (dealsIn (drop (r .at) s))
     go [] = refl
     go (e ∷ es) = rw (ne-eqb (r .remaining) 0 z)
 
-module _ (s : List ℕ) (chunks : ℕ) (r : Cursor) {t : List ℕ} (p : t ≡ drop (r .at) s) where
+module _ (s : List ℕ) (chunks : ℕ) (r : ChunkCursor) {t : List ℕ} (p : t ≡ drop (r .at) s) where
   pub ready-end : length t < 12 → readied s chunks r ≡ r
   unfolding readied
   ready-end h = ap (λ (l : List ℕ). readiedIn chunks (dealsIn l) r) (sym p) ∙ ap (λ (es : List Deal). readiedIn chunks es r) (deals-none t h)
@@ -55,7 +55,7 @@ module _ (s : List ℕ) (chunks : ℕ) (r : Cursor) {t : List ℕ} (p : t ≡ dr
 -- ---- what lies ahead
 
 -- a cursor that stands in a run if a chunk is ahead, where none remains
-module _ {s : List ℕ} {c : Cursor} (chunks : ℕ) (w : Stands s c) (z : c .remaining ≡ 0) where
+module _ {s : List ℕ} {c : ChunkCursor} (chunks : ℕ) (w : Stands s c) (z : c .remaining ≡ 0) where
   pub no-samples : ahead s chunks c ≡ []
   unfolding ahead
   no-samples = rw (z, w .all-read z)
@@ -65,7 +65,7 @@ module _ {s : List ℕ} {c : Cursor} (chunks : ℕ) (w : Stands s c) (z : c .rem
   no-ids = rw (z, w .all-read z)
 
 -- r has the same chunks ahead as c, and stands in a run if there is one
-pub record Same (s : List ℕ) (chunks : ℕ) (c r : Cursor) : Type 0 where
+pub record Same (s : List ℕ) (chunks : ℕ) (c r : ChunkCursor) : Type 0 where
   pub samples : ahead s chunks r ≡ ahead s chunks c
   pub ids : idsAhead s chunks r ≡ idsAhead s chunks c
   pub stands : Stands s r
@@ -82,7 +82,7 @@ module _ (s : List ℕ) (chunks : ℕ) where
         ap dealsIn (sym (drop-drop 12 at s)) ∙ t
   ]
 
-  same-in : (es : List Deal) (c : Cursor) → dealsIn (drop (c .at) s) ≡ es → Same s chunks c (readiedIn chunks es c)
+  same-in : (es : List Deal) (c : ChunkCursor) → dealsIn (drop (c .at) s) ≡ es → Same s chunks c (readiedIn chunks es c)
   unfolding ahead idsAhead
   same-in [] c q = record { samples = refl; ids = refl; stands = record { all-read = λ z. q } }
   same-in (e ∷ es) c q = elim (ℕ-discrete (c .remaining) 0) [
@@ -97,11 +97,11 @@ module _ (s : List ℕ) (chunks : ℕ) where
     | no z ↦ rw (ne-eqb (c .remaining) 0 z) (record { samples = refl; ids = refl; stands = record { all-read = λ y. absurd (z y) } })
   ]
 
-  pub ready-same : (c : Cursor) → Same s chunks c (readied s chunks c)
+  pub ready-same : (c : ChunkCursor) → Same s chunks c (readied s chunks c)
   unfolding readied
   ready-same c = same-in (dealsIn (drop (c .at) s)) c refl
 
-  pub ready-valid : {k : ℕ} {c : Cursor} → Valid s chunks k c → Valid s chunks k (readied s chunks c)
+  pub ready-valid : {k : ℕ} {c : ChunkCursor} → Valid s chunks k c → Valid s chunks k (readied s chunks c)
   ready-valid {k} {c} v = let w = ready-same c in record { samples = w .samples ∙ v .samples; descriptions = w .ids ∙ v .descriptions }
 
 -- ---- to pass chunks of the run
@@ -111,7 +111,7 @@ drop-in v r n zero h = let e : n ≡ n - 0 = omega arith in ap (λ (m : ℕ). re
 drop-in v r zero (suc k) h = absurd (omega arith)
 drop-in v r (suc n) (suc k) h = let e : n - k ≡ suc n - suc k = omega arith in drop-in v r n k (omega arith) ∙ ap (λ (m : ℕ). replicate m v ++ r) e
 
-module _ (s : List ℕ) (chunks : ℕ) (c : Cursor) (k : ℕ) (h : k ≤ c .remaining) where
+module _ (s : List ℕ) (chunks : ℕ) (c : ChunkCursor) (k : ℕ) (h : k ≤ c .remaining) where
   pub past-samples : ahead s chunks (past k c) ≡ drop k (ahead s chunks c)
   unfolding ahead
   past-samples = sym (drop-in (c .per) (dealt (λ e. e .per) chunks (dealsIn (drop (c .at) s))) (c .remaining) k h)
@@ -127,7 +127,7 @@ module _ (s : List ℕ) (chunks : ℕ) (c : Cursor) (k : ℕ) (h : k ≤ c .rema
   }
 
 -- the run at which a cursor stands, and what follows it
-pub ahead-run : (s : List ℕ) (chunks : ℕ) (c : Cursor) → ahead s chunks c ≡ replicate (c .remaining) (c .per) ++ ahead s chunks (past (c .remaining) c)
+pub ahead-run : (s : List ℕ) (chunks : ℕ) (c : ChunkCursor) → ahead s chunks c ≡ replicate (c .remaining) (c .per) ++ ahead s chunks (past (c .remaining) c)
 unfolding ahead
 ahead-run s chunks c = let z : c .remaining - c .remaining ≡ 0 = omega arith in rw z
 
@@ -137,7 +137,7 @@ replicate-cons : (n v : ℕ) (r : List ℕ) → 0 < n → replicate n v ++ r ≡
 replicate-cons zero v r h = absurd (omega arith)
 replicate-cons (suc n) v r h = let e : n ≡ suc n - 1 = omega arith in ap (λ (k : ℕ). v ∷ (replicate k v ++ r)) e
 
-module _ (s : List ℕ) (chunks : ℕ) (c : Cursor) (h : 0 < c .remaining) where
+module _ (s : List ℕ) (chunks : ℕ) (c : ChunkCursor) (h : 0 < c .remaining) where
   pub ahead-cons : ahead s chunks c ≡ c .per ∷ ahead s chunks (past 1 c)
   unfolding ahead
   ahead-cons = replicate-cons (c .remaining) (c .per) (dealt (λ e. e .per) chunks (dealsIn (drop (c .at) s))) h
@@ -157,13 +157,13 @@ module _ (s : List ℕ) (chunks : ℕ) (c : Cursor) (h : 0 < c .remaining) where
 -- ---- the cursor before a chunk
 
 -- from the entries of a cursor on
-abbrev pub cursorFrom : List ℕ → ℕ → Cursor → ℕ → Cursor
+abbrev pub cursorFrom : List ℕ → ℕ → ChunkCursor → ℕ → ChunkCursor
 cursorFrom s chunks c k = cursorIn chunks (dealsIn (drop (c .at) s)) c k
 
-past-none : (c : Cursor) → past 0 c ≡ c
+past-none : (c : ChunkCursor) → past 0 c ≡ c
 past-none c = let e : c .remaining - 0 ≡ c .remaining = omega arith in λ i. record { at = c .at; remaining = e i; per = c .per; description = c .description }
 
-past-past : (c : Cursor) (j k : ℕ) → past j (past k c) ≡ past (k + j) c
+past-past : (c : ChunkCursor) (j k : ℕ) → past j (past k c) ≡ past (k + j) c
 past-past c j k =
     let e : c .remaining - k - j ≡ c .remaining - (k + j) = omega arith in λ i. record { at = c .at; remaining = e i; per = c .per; description = c .description }
 
@@ -173,7 +173,7 @@ module _ (s : List ℕ) (chunks : ℕ) where
   from-start k = rw (deals-in s)
 
   -- a chunk of the run
-  pub from-in : (c : Cursor) (k : ℕ) → k < c .remaining → cursorFrom s chunks c k ≡ past k c
+  pub from-in : (c : ChunkCursor) (k : ℕ) → k < c .remaining → cursorFrom s chunks c k ≡ past k c
   from-in c k h = go (dealsIn (drop (c .at) s))
     where
       go : (es : List Deal) → cursorIn chunks es c k ≡ past k c
@@ -181,11 +181,11 @@ module _ (s : List ℕ) (chunks : ℕ) where
       go (e ∷ es) = rw (lt-ltb k (c .remaining) h)
 
   -- no entry is left to read
-  pub from-end : (c : Cursor) → dealsIn (drop (c .at) s) ≡ [] → cursorFrom s chunks c 0 ≡ c
+  pub from-end : (c : ChunkCursor) → dealsIn (drop (c .at) s) ≡ [] → cursorFrom s chunks c 0 ≡ c
   from-end c e = rw e (past-none c)
 
   -- readied
-  from-readied-in : (es : List Deal) (c : Cursor) (k : ℕ) → dealsIn (drop (c .at) s) ≡ es → cursorFrom s chunks (readiedIn chunks es c) k ≡ cursorIn chunks es c k
+  from-readied-in : (es : List Deal) (c : ChunkCursor) (k : ℕ) → dealsIn (drop (c .at) s) ≡ es → cursorFrom s chunks (readiedIn chunks es c) k ≡ cursorIn chunks es c k
   from-readied-in [] c k q = rw q
   from-readied-in (e ∷ es) c k q = elim (ℕ-discrete (c .remaining) 0) [
     | yes z ↦
@@ -195,12 +195,12 @@ module _ (s : List ℕ) (chunks : ℕ) where
     | no z ↦ rw (ne-eqb (c .remaining) 0 z, q)
   ]
 
-  pub from-readied : (c : Cursor) (k : ℕ) → cursorFrom s chunks (readied s chunks c) k ≡ cursorFrom s chunks c k
+  pub from-readied : (c : ChunkCursor) (k : ℕ) → cursorFrom s chunks (readied s chunks c) k ≡ cursorFrom s chunks c k
   unfolding readied
   from-readied c k = from-readied-in (dealsIn (drop (c .at) s)) c k refl
 
   -- some chunks of the run passed
-  pub from-past : (c : Cursor) (k j : ℕ) → k ≤ c .remaining → cursorFrom s chunks (past k c) j ≡ cursorFrom s chunks c (k + j)
+  pub from-past : (c : ChunkCursor) (k j : ℕ) → k ≤ c .remaining → cursorFrom s chunks (past k c) j ≡ cursorFrom s chunks c (k + j)
   from-past c k j h = go (dealsIn (drop (c .at) s))
     where
       go : (es : List Deal) → cursorIn chunks es (past k c) j ≡ cursorIn chunks es c (k + j)
@@ -213,14 +213,14 @@ module _ (s : List ℕ) (chunks : ℕ) where
       ]
 
 -- r has the chunks from the k-th after c on ahead, and stands in a run if there is one
-pub record Further (s : List ℕ) (chunks : ℕ) (c : Cursor) (k : ℕ) (r : Cursor) : Type 0 where
+pub record Further (s : List ℕ) (chunks : ℕ) (c : ChunkCursor) (k : ℕ) (r : ChunkCursor) : Type 0 where
   pub samples : ahead s chunks r ≡ drop k (ahead s chunks c)
   pub ids : idsAhead s chunks r ≡ drop k (idsAhead s chunks c)
   pub stands : Stands s r
 
 module _ (s : List ℕ) (chunks : ℕ) where
   -- past the last entry
-  further-end : (c : Cursor) (k : ℕ) → dealsIn (drop (c .at) s) ≡ [] → Further s chunks c k (past k c)
+  further-end : (c : ChunkCursor) (k : ℕ) → dealsIn (drop (c .at) s) ≡ [] → Further s chunks c k (past k c)
   unfolding ahead idsAhead
   further-end c k q = elim (decLe k (c .remaining)) [
     | yes l ↦ record { samples = past-samples s chunks c k l; ids = past-ids s chunks c k l; stands = record { all-read = λ z. q } }
@@ -233,7 +233,7 @@ module _ (s : List ℕ) (chunks : ℕ) where
         }
   ]
 
-  further-in : (es : List Deal) (c : Cursor) (k : ℕ) → dealsIn (drop (c .at) s) ≡ es → Further s chunks c k (cursorIn chunks es c k)
+  further-in : (es : List Deal) (c : ChunkCursor) (k : ℕ) → dealsIn (drop (c .at) s) ≡ es → Further s chunks c k (cursorIn chunks es c k)
   unfolding ahead idsAhead
   further-in [] c k q = further-end c k q
   further-in (e ∷ es) c k q = elim (decLt k (c .remaining)) [

@@ -10,9 +10,9 @@ use lib.ListN.{length, getD, drop}
 use lib.Seq.{getD-drop}
 use Rattle.lists.specs.Lists.{before, between, holder}
 use Rattle.lists.proofs.Laws.{Walk, Ahead, walk-start, walk-past, walk-in, walk-fits, in-within, holder-hit, holder-miss, length-run, pos-of-lt-mul}
-use Rattle.chunks.specs.Chunks.{dealsIn, dealt, perChunk, descriptionIds, locatedIn, offsetOf, offsetAt}
+use Rattle.chunks.specs.Chunks.{dealsIn, dealt, perChunk, descriptionIds, locatedIn, offsetOf, locatedOffset}
 use Rattle.chunks.specs.Cursors.{ahead, idsAhead, Valid, Stands, startCursor, readied, past, cursorAt, sought}
-use Rattle.chunks.specs.declared.Cursor.{Cursor}
+use Rattle.chunks.specs.declared.ChunkCursor.{ChunkCursor}
 use Rattle.chunks.specs.declared.Located.{Located}
 use Rattle.chunks.specs.declared.Sought.{Sought}
 use Rattle.chunks.proofs.Cursors.{
@@ -33,20 +33,20 @@ use Rattle.chunks.proofs.Cursors.{
 }
 
 -- the cursor c stands before chunk `passed`, and `rest` samples of the chunks ahead come before the one sought
-pub record Seeking (s : List ℕ) (chunks index : ℕ) (c : Cursor) (passed rest : ℕ) : Type 0 where
+pub record Seeking (s : List ℕ) (chunks index : ℕ) (c : ChunkCursor) (passed rest : ℕ) : Type 0 where
   pub walk : Walk (perChunk s chunks) (ahead s chunks c) index passed rest
   pub cursors : (k : ℕ) → cursorFrom s chunks c k ≡ cursorAt s chunks (passed + k)
   pub stands : Stands s c
   pub low : rest ≤ index
 
-pub seeking-start : (s : List ℕ) (chunks index : ℕ) {i c : Cursor} → i ≡ startCursor → c ≡ readied s chunks i → Seeking s chunks index c 0 index
+pub seeking-start : (s : List ℕ) (chunks index : ℕ) {i c : ChunkCursor} → i ≡ startCursor → c ≡ readied s chunks i → Seeking s chunks index c 0 index
 seeking-start s chunks index {i} {c} a e =
     let w : Same s chunks startCursor c = rw (e, a) (ready-same s chunks startCursor) in
     record {
       walk = rw (w .samples, start-samples s chunks) (walk-start (perChunk s chunks) index);
       cursors = λ k.
           let z : k ≡ 0 + k = omega arith in
-          ap (λ (x : Cursor). cursorFrom s chunks x k) (e ∙ ap (readied s chunks) a)
+          ap (λ (x : ChunkCursor). cursorFrom s chunks x k) (e ∙ ap (readied s chunks) a)
           ∙ from-readied s chunks startCursor k
           ∙ from-start s chunks k
           ∙ ap (cursorAt s chunks) z;
@@ -55,7 +55,7 @@ seeking-start s chunks index {i} {c} a e =
     }
 
 -- the run in which the cursor stands
-module _ {s : List ℕ} {chunks index : ℕ} {c : Cursor} {passed rest : ℕ} (k : Seeking s chunks index c passed rest) where
+module _ {s : List ℕ} {chunks index : ℕ} {c : ChunkCursor} {passed rest : ℕ} (k : Seeking s chunks index c passed rest) where
   here : Ahead (perChunk s chunks) (c .remaining) (c .per) (dealt (λ e. e .per) chunks (dealsIn (drop (c .at) s))) index passed rest
   unfolding ahead
   here = record { walk = k .walk }
@@ -68,7 +68,7 @@ module _ {s : List ℕ} {chunks index : ℕ} {c : Cursor} {passed rest : ℕ} (k
     pub seeking-skip : rest / c .per < c .remaining
     seeking-skip = div-lt-iff-lt-mul {y = c .remaining} (pos-of-lt-mul (c .remaining) (c .per) rest h) .1 h
 
-    pub seeking-in : {i : Cursor} → i ≡ past (rest / c .per) c →
+    pub seeking-in : {i : ChunkCursor} → i ≡ past (rest / c .per) c →
         _≡_ {A = Sought} (record { cursor = i; chunk = passed + rest / c .per; within = rest % c .per }) (sought s chunks index)
     unfolding sought
     seeking-in {i} a =
@@ -77,7 +77,7 @@ module _ {s : List ℕ} {chunks index : ℕ} {c : Cursor} {passed rest : ℕ} (k
         λ j. record { cursor = g j; chunk = sym (f .place) j; within = sym (in-within f) j }
 
   -- the sample lies past them
-  module _ {i r : Cursor} (a : i ≡ past (c .remaining) c) (e : r ≡ readied s chunks i) where
+  module _ {i r : ChunkCursor} (a : i ≡ past (c .remaining) c) (e : r ≡ readied s chunks i) where
     after : Same s chunks (past (c .remaining) c) r
     after = rw (e, a) (ready-same s chunks (past (c .remaining) c))
 
@@ -90,7 +90,7 @@ module _ {s : List ℕ} {chunks index : ℕ} {c : Cursor} {passed rest : ℕ} (k
       walk = rw (after .samples, others) (walk-past here h);
       cursors = λ j.
           let z : passed + (c .remaining + j) ≡ passed + c .remaining + j = omega arith in
-          ap (λ (x : Cursor). cursorFrom s chunks x j) (e ∙ ap (readied s chunks) a)
+          ap (λ (x : ChunkCursor). cursorFrom s chunks x j) (e ∙ ap (readied s chunks) a)
           ∙ from-readied s chunks (past (c .remaining) c) j
           ∙ from-past s chunks c (c .remaining) j (omega arith)
           ∙ k .cursors (c .remaining + j)
@@ -159,8 +159,8 @@ before-holder (p ∷ ps) i = elim (decLt i p) [
   | no l ↦ let h : p ≤ i = omega arith in rw (holder-miss p ps i h) (omega (arith, before-holder ps (i - p)))
 ]
 
-pub offset-located : (ps ids cs zs : List ℕ) (i : ℕ) → offsetAt cs zs (locatedIn ps ids i) i ≡ offsetOf ps cs zs i
-unfolding offsetAt offsetOf locatedIn
+pub offset-located : (ps ids cs zs : List ℕ) (i : ℕ) → locatedOffset cs zs (locatedIn ps ids i) i ≡ offsetOf ps cs zs i
+unfolding locatedOffset offsetOf locatedIn
 offset-located ps ids cs zs i =
     let e : i - (i - before ps (holder ps i)) ≡ before ps (holder ps i) = omega (arith, before-holder ps i) in
     ap (λ (b : ℕ). getD cs (holder ps i) 0 + between zs b i) e

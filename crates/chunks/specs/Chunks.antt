@@ -100,12 +100,12 @@ abbrev pub dealsNone : Deal → Bool
 dealsNone e = eqb (e .per) 0
 
 -- "an ID is 0 or above the number of descriptions"
-abbrev pub strange : ℕ → Deal → Bool
-strange descriptions e = eqb (e .id) 0 || ltb descriptions (e .id)
+abbrev pub wrongDescriptionId : ℕ → Deal → Bool
+wrongDescriptionId descriptions e = eqb (e .id) 0 || ltb descriptions (e .id)
 
 unfoldable pub dealsContradict : List ℕ → ℕ → ℕ → Bool
 dealsContradict s chunks descriptions =
-    withoutChunks chunks (deals s) || (withChunks chunks (deals s) || (any dealsNone (deals s) || any (strange descriptions) (deals s)))
+    withoutChunks chunks (deals s) || (withChunks chunks (deals s) || (any dealsNone (deals s) || any (wrongDescriptionId descriptions) (deals s)))
 
 -- ---- what is asked of the lists
 
@@ -118,8 +118,8 @@ unfoldable pub offsetOf : List ℕ → List ℕ → List ℕ → ℕ → ℕ
 offsetOf ps cs zs i = getD cs (holder ps i) 0 + between zs (before ps (holder ps i)) i
 
 -- the same of a place that was found
-unfoldable pub offsetAt : List ℕ → List ℕ → Located → ℕ → ℕ
-offsetAt cs zs p i = getD cs (p .chunk) 0 + between zs (i - p .within) i
+unfoldable pub locatedOffset : List ℕ → List ℕ → Located → ℕ → ℕ
+locatedOffset cs zs p i = getD cs (p .chunk) 0 + between zs (i - p .within) i
 
 -- whether each chunk ends within a limit, not so if "a chunk's offset plus the sizes of its samples passes the file's end" (refusal 12): chunk after chunk
 -- gets the next samples

@@ -12,7 +12,7 @@ ghost use lib.ListN.{length};
 ghost use Rattle.lists.specs.Lists.{sum};
 ghost use Rattle.lists.specs.Totals.{totalOf};
 ghost use Rattle.words.specs.Words.{sizes, chunkOffsets};
-ghost use Rattle.chunks.specs.Chunks.{dealsIn, firstOf, rightEntry, dealsAgree, perChunk, descriptionIds, locatedIn, offsetAt};
+ghost use Rattle.chunks.specs.Chunks.{dealsIn, firstOf, rightEntry, dealsAgree, perChunk, descriptionIds, locatedIn, locatedOffset};
 ghost use Rattle.chunks.specs.Cursors.{startCursor, readied, past, sought};
 
 // The chunk at which the entries of a part begin: one past the last chunk where there is none. So the last entry holds for all chunks that remain.
@@ -94,7 +94,7 @@ pub fn total_dealt(stsc: &[u8], chunks: u32) -> Total
 }
 
 // A place in stsc: how many chunks remain of a run, with the samples and the description ID of each, and where the entries not yet read begin.
-pub struct Cursor {
+pub struct ChunkCursor {
     pub at: usize,
     pub remaining: u64,
     pub per: u32,
@@ -102,10 +102,10 @@ pub struct Cursor {
 }
 
 // Before the first entry.
-pub fn start_cursor() -> Cursor
+pub fn start_cursor() -> ChunkCursor
     ensures { λ r. ⌜ r ≡ startCursor ⌝ }
 {
-    Cursor {
+    ChunkCursor {
         at: 16,
         remaining: 0,
         per: 0,
@@ -114,7 +114,7 @@ pub fn start_cursor() -> Cursor
 }
 
 // Entries are read until a chunk remains, if there is one. The bound lets callers count samples.
-pub fn ready(stsc: &[u8], chunks: u32, c: Cursor) -> Cursor
+pub fn ready(stsc: &[u8], chunks: u32, c: ChunkCursor) -> ChunkCursor
     ensures { λ r. ⌜ (r ≡ readied (now (stsc .entry)) chunks c) × (c .remaining ≤ 2 ^ 32 → r .remaining ≤ 2 ^ 32) ⌝ }
 {
     let mut r = c;
@@ -126,7 +126,7 @@ pub fn ready(stsc: &[u8], chunks: u32, c: Cursor) -> Cursor
         }
         let first = u32_at(t, 0);
         let next = first_of(&t[12..], chunks);
-        r = Cursor {
+        r = ChunkCursor {
             at: at + 12,
             remaining: span(first as u64, next),
             per: u32_at(t, 4),
@@ -137,10 +137,10 @@ pub fn ready(stsc: &[u8], chunks: u32, c: Cursor) -> Cursor
 }
 
 // Past some chunks of the run.
-pub fn pass(c: Cursor, count: u64) -> Cursor
+pub fn pass(c: ChunkCursor, count: u64) -> ChunkCursor
     ensures { λ r. ⌜ r ≡ past count c ⌝ }
 {
-    Cursor {
+    ChunkCursor {
         at: c.at,
         remaining: span(count, c.remaining),
         per: c.per,
@@ -150,7 +150,7 @@ pub fn pass(c: Cursor, count: u64) -> Cursor
 
 // A sample found: a cursor before its chunk, the index of the chunk, and its own index in the chunk.
 pub struct Sought {
-    pub cursor: Cursor,
+    pub cursor: ChunkCursor,
     pub chunk: u64,
     pub within: u32,
 }
@@ -210,8 +210,8 @@ pub fn locate(stsc: &[u8], chunks: u32, index: u32) -> Located
 }
 
 // The offset of the sample with an index, whose place was found.
-pub fn offset_at(stsz: &[u8], stco: &[u8], place: Located, index: u32) -> u64
-    ensures { λ r. ⌜ r ≡ offsetAt (chunkOffsets (now (stco .entry))) (sizes (now (stsz .entry))) place index ⌝ }
+pub fn located_offset(stsz: &[u8], stco: &[u8], place: Located, index: u32) -> u64
+    ensures { λ r. ⌜ r ≡ locatedOffset (chunkOffsets (now (stco .entry))) (sizes (now (stsz .entry))) place index ⌝ }
 {
     let begin = words::span(place.within, index);
     chunk_offset(stco, place.chunk) as u64 + bytes_between(stsz, begin, index)

@@ -16,7 +16,7 @@ use Rattle.lists.proofs.Places.{holder-holds, holds-below}
 use Rattle.edits.specs.declared.Edit.{Edit}
 use Rattle.edits.specs.declared.Mapped.the-variants.{Media, Nothing, Outside}
 use Rattle.edits.specs.declared.MovieTime.{MovieTime}
-use Rattle.edits.specs.Edits.{edits, durationsOf, editTotal, placeOf, inMedia, placeOk, editOk, allOk, listOk, editsOk, placed, shownAt, mapIn, mediaAt}
+use Rattle.edits.specs.Edits.{edits, durationsOf, editTotal, startOf, inMedia, startOk, editOk, allOk, listOk, editsOk, placed, shownAt, mapIn, mediaAt}
 use Rattle.edits.proofs.Turns.{edits-in, media-absent, media-listed}
 
 -- ---- refusal 13
@@ -38,26 +38,26 @@ pub record Right (scale movie total : ℕ) (e : Edit) : Type 0 where
   pub ends : (m : ℕ) → e .media ≡ pos m → m + inMedia scale movie (e .duration - 1) < total
 
 module _ (scale movie total : ℕ) where
-  below : (d : ℕ) (z : ℤ) → placeOk scale movie total d (placeOf z) ≡ true → (k : ℕ) → z ≡ negsuc (suc k) → ⊥
+  below : (d : ℕ) (z : ℤ) → startOk scale movie total d (startOf z) ≡ true → (k : ℕ) → z ≡ negsuc (suc k) → ⊥
   below d (pos n) o k e = let x : _≡_ {A = ℕ} 0 1 = cc in omega arith
   below d (negsuc zero) o k e = let x : 0 ≡ suc k = cc in omega arith
   below d (negsuc (suc j)) o k e = let x : _≡_ {A = ℕ} 0 1 = cc in omega arith
 
-  last : (d : ℕ) (z : ℤ) → placeOk scale movie total d (placeOf z) ≡ true → (m : ℕ) → z ≡ pos m → m + inMedia scale movie (d - 1) < total
+  last : (d : ℕ) (z : ℤ) → startOk scale movie total d (startOf z) ≡ true → (m : ℕ) → z ≡ pos m → m + inMedia scale movie (d - 1) < total
   last d (pos n) o m e = let x : n ≡ m = cc in omega (arith, x, ltb-true (n + inMedia scale movie (d - 1)) total o)
   last d (negsuc k) o m e = let x : _≡_ {A = ℕ} 0 1 = cc in absurd (omega arith)
 
   right-place : (d : ℕ) (z : ℤ) → ((k : ℕ) → z ≡ negsuc (suc k) → ⊥) → ((m : ℕ) → z ≡ pos m → m + inMedia scale movie (d - 1) < total) →
-      placeOk scale movie total d (placeOf z) ≡ true
+      startOk scale movie total d (startOf z) ≡ true
   right-place d (pos m) f g = lt-ltb _ _ (g m refl)
   right-place d (negsuc zero) f g = refl
   right-place d (negsuc (suc k)) f g = absurd (f k refl)
 
-  pub edit-told : (e : Edit) → editOk scale movie total e ≡ true → Right scale movie total e
+  pub edit-known : (e : Edit) → editOk scale movie total e ≡ true → Right scale movie total e
   unfolding editOk
-  edit-told e o =
+  edit-known e o =
       let p = neither (eqb (e .duration) 0) _ o in
-      let q = both (eqb (e .rate) 65536) (placeOk scale movie total (e .duration) (placeOf (e .media))) (p .1) in
+      let q = both (eqb (e .rate) 65536) (startOk scale movie total (e .duration) (startOf (e .media))) (p .1) in
       let z = eqb-false (e .duration) 0 (p .0) in
       record { lasts = omega arith; plain = eqb-true (e .rate) 65536 (q .0); above = below (e .duration) (e .media) (q .1); ends = last (e .duration) (e .media) (q .1) }
 
@@ -69,19 +69,19 @@ module _ (scale movie total : ℕ) where
 
   -- e₀ is what `getD` gives past the end of a list
   module _ (e₀ : Edit) where
-    pub all-told : (es : List Edit) → allOk scale movie total es ≡ true → (i : ℕ) → i < length es → Right scale movie total (getD es i e₀)
-    all-told [] o i h = absurd (omega arith)
-    all-told (e ∷ es) o zero h = edit-told e (both (editOk scale movie total e) (allOk scale movie total es) o .0)
-    all-told (e ∷ es) o (suc i) h = all-told es (both (editOk scale movie total e) (allOk scale movie total es) o .1) i (omega arith)
+    pub all-known : (es : List Edit) → allOk scale movie total es ≡ true → (i : ℕ) → i < length es → Right scale movie total (getD es i e₀)
+    all-known [] o i h = absurd (omega arith)
+    all-known (e ∷ es) o zero h = edit-known e (both (editOk scale movie total e) (allOk scale movie total es) o .0)
+    all-known (e ∷ es) o (suc i) h = all-known es (both (editOk scale movie total e) (allOk scale movie total es) o .1) i (omega arith)
 
     all-only : (es : List Edit) → ((i : ℕ) → i < length es → Right scale movie total (getD es i e₀)) → allOk scale movie total es ≡ true
     all-only [] f = refl
     all-only (e ∷ es) f = rw (edit-only e (f 0 (omega arith))) (all-only es (λ i h. f (suc i) (omega arith)))
 
     -- a list has an entry, and each is right
-    pub list-told : (es : List Edit) → listOk scale movie total es ≡ true → (0 < length es) × ((i : ℕ) → i < length es → Right scale movie total (getD es i e₀))
-    list-told [] o = let z : _≡_ {A = ℕ} 0 1 = cc in absurd (omega arith)
-    list-told (e ∷ es) o = (omega arith, all-told (e ∷ es) o)
+    pub list-known : (es : List Edit) → listOk scale movie total es ≡ true → (0 < length es) × ((i : ℕ) → i < length es → Right scale movie total (getD es i e₀))
+    list-known [] o = let z : _≡_ {A = ℕ} 0 1 = cc in absurd (omega arith)
+    list-known (e ∷ es) o = (omega arith, all-known (e ∷ es) o)
 
     pub list-only : (es : List Edit) → 0 < length es → ((i : ℕ) → i < length es → Right scale movie total (getD es i e₀)) → listOk scale movie total es ≡ true
     list-only [] h f = absurd (omega arith)
@@ -122,18 +122,18 @@ module _ (scale movie total : ℕ) where
   -- the entry that holds t, starting at S, shows what stands t - S after its media time
   falls-in : (e₀ : Edit) (es : List Edit) (t : ℕ) → t < sum (durationsOf es) →
       mapIn scale movie total es t
-      ≡ shownAt scale movie total (t - before (durationsOf es) (holder (durationsOf es) t)) (placeOf (getD es (holder (durationsOf es) t) e₀ .media))
+      ≡ shownAt scale movie total (t - before (durationsOf es) (holder (durationsOf es) t)) (startOf (getD es (holder (durationsOf es) t) e₀ .media))
   falls-in e₀ [] t h = absurd (omega arith)
   falls-in e₀ (e ∷ es) t h = elim (decLt t (e .duration)) [
     | yes l ↦
         let z : t ≡ t - 0 = omega arith in
-        rw (lt-ltb t (e .duration) l) (ap (λ (x : ℕ). shownAt scale movie total x (placeOf (e .media))) z)
+        rw (lt-ltb t (e .duration) l) (ap (λ (x : ℕ). shownAt scale movie total x (startOf (e .media))) z)
     | no l ↦
         let k : e .duration ≤ t = omega arith in
         let i = holder (durationsOf es) (t - e .duration) in
         let z : t - e .duration - before (durationsOf es) i ≡ t - (e .duration + before (durationsOf es) i) = omega arith in
         rw (le-ltb t (e .duration) k)
-        (falls-in e₀ es (t - e .duration) (omega arith) ∙ ap (λ (x : ℕ). shownAt scale movie total x (placeOf (getD es i e₀ .media))) z)
+        (falls-in e₀ es (t - e .duration) (omega arith) ∙ ap (λ (x : ℕ). shownAt scale movie total x (startOf (getD es i e₀ .media))) z)
   ]
 
   falls-outside : (es : List Edit) (t : ℕ) → sum (durationsOf es) ≤ t → mapIn scale movie total es t ≡ Outside
@@ -151,7 +151,7 @@ module _ (scale movie total : ℕ) where
     pub media-in : (e₀ : Edit) → t .0 < editTotal s →
         mediaAt scale movie total s t
         ≡ shownAt scale movie total (t .0 - before (durationsOf (edits s)) (holder (durationsOf (edits s)) (t .0)))
-        (placeOf (getD (edits s) (holder (durationsOf (edits s)) (t .0)) e₀ .media))
+        (startOf (getD (edits s) (holder (durationsOf (edits s)) (t .0)) e₀ .media))
     unfolding editTotal
     media-in e₀ h = sym (media-listed scale movie total s t z) ∙ ap (λ es. mapIn scale movie total es (t .0)) (edits-in s) ∙ falls-in e₀ (edits s) (t .0) h
 
@@ -172,15 +172,15 @@ module _ (scale movie total : ℕ) where
           (f, omega (arith, q .from, q .to, duration-at e₀ (edits s) (holder ds (t .0)) f))
 
       pub media-nothing : here .media ≡ negsuc 0 → mediaAt scale movie total s t ≡ Nothing
-      media-nothing e = media-in e₀ h ∙ ap (λ y. shownAt scale movie total (t .0 - before ds (holder ds (t .0))) (placeOf y)) e
+      media-nothing e = media-in e₀ h ∙ ap (λ y. shownAt scale movie total (t .0 - before ds (holder ds (t .0))) (startOf y)) e
 
       pub media-shown : (m : ℕ) → here .media ≡ pos m →
           mediaAt scale movie total s t ≡ Media (record { 0 = m + inMedia scale movie (t .0 - before ds (holder ds (t .0))) })
       media-shown m e =
           let w = within in
-          let r = list-told scale movie total e₀ (edits s) (sym (ok-listed scale movie total s z) ∙ o) .1 (holder ds (t .0)) (w .0) in
+          let r = list-known scale movie total e₀ (edits s) (sym (ok-listed scale movie total s z) ∙ o) .1 (holder ds (t .0)) (w .0) in
           let p = r .ends m e in
           media-in e₀ h
-          ∙ ap (λ y. shownAt scale movie total (t .0 - before ds (holder ds (t .0))) (placeOf y)) e
+          ∙ ap (λ y. shownAt scale movie total (t .0 - before ds (holder ds (t .0))) (startOf y)) e
           ∙ placed-in total (m + inMedia scale movie (t .0 - before ds (holder ds (t .0))))
           (omega (arith, p, in-media-mono scale movie (t .0 - before ds (holder ds (t .0))) (here .duration - 1) (omega (arith, w .1))))

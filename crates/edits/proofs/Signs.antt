@@ -11,10 +11,10 @@ use mir.Syntax.{w64}
 use mir.Val.{Fits, toZ, ofZ}
 use borrow.Author.Tests.{leb-false}
 use Rattle.bigendian.proofs.Halves.{kept}
-use Rattle.edits.specs.declared.Place.the-variants.{From, Empty, Wrong}
-use Rattle.edits.specs.Edits.{placeOf}
+use Rattle.edits.specs.declared.EditStart.the-variants.{From, Empty, Wrong}
+use Rattle.edits.specs.Edits.{startOf}
 
-from-z : (z : ℤ) → leZ (pos 0) z ≡ true → From (natAbs z) ≡ placeOf z
+from-z : (z : ℤ) → leZ (pos 0) z ≡ true → From (natAbs z) ≡ startOf z
 from-z (pos m) e = refl
 from-z (negsuc k) e = let x : _≡_ {A = ℕ} 0 1 = cc in absurd (omega arith)
 
@@ -22,28 +22,28 @@ cast-z : (z : ℤ) → mag z < 9223372036854775808 → leZ (pos 0) z ≡ true �
 cast-z (pos m) h e = (tt, record { fits = omega arith })
 cast-z (negsuc k) h e = let x : _≡_ {A = ℕ} 0 1 = cc in absurd (omega arith)
 
-wrong-z : (z : ℤ) → leZ (pos 0) z ≡ false → (ofZ w64 z ≡ 18446744073709551615 → ⊥) → Wrong ≡ placeOf z
+wrong-z : (z : ℤ) → leZ (pos 0) z ≡ false → (ofZ w64 z ≡ 18446744073709551615 → ⊥) → Wrong ≡ startOf z
 wrong-z (pos m) e f = absurd (omega (arith, leb-false 0 m e))
 wrong-z (negsuc zero) e f = absurd (f refl)
 wrong-z (negsuc (suc k)) e f = refl
 
 module _ (z : ℤ) (h : mag z < 9223372036854775808) where
-  pub from-at : leZ (pos 0) (toZ w64 (ofZ w64 z)) ≡ true → From (natAbs (toZ w64 (ofZ w64 z))) ≡ placeOf z
+  pub from-at : leZ (pos 0) (toZ w64 (ofZ w64 z)) ≡ true → From (natAbs (toZ w64 (ofZ w64 z))) ≡ startOf z
   from-at e = rw (kept z h) (from-z z (rw (kept z h) at e))
 
   pub cast-at : leZ (pos 0) (toZ w64 (ofZ w64 z)) ≡ true → T (nonNeg (toZ w64 (ofZ w64 z))) × Fits w64 (natAbs (toZ w64 (ofZ w64 z)))
   cast-at e = rw (kept z h) (cast-z z h (rw (kept z h) at e))
 
-  pub wrong-at : leZ (pos 0) (toZ w64 (ofZ w64 z)) ≡ false → (ofZ w64 z ≡ 18446744073709551615 → ⊥) → Wrong ≡ placeOf z
+  pub wrong-at : leZ (pos 0) (toZ w64 (ofZ w64 z)) ≡ false → (ofZ w64 z ≡ 18446744073709551615 → ⊥) → Wrong ≡ startOf z
   wrong-at e f = wrong-z z (rw (kept z h) at e) f
 
-pub empty-at : (z : ℤ) → mag z < 9223372036854775808 → ofZ w64 z ≡ 18446744073709551615 → Empty ≡ placeOf z
+pub empty-at : (z : ℤ) → mag z < 9223372036854775808 → ofZ w64 z ≡ 18446744073709551615 → Empty ≡ startOf z
 empty-at (pos m) h e = absurd (omega arith)
 empty-at (negsuc zero) h e = refl
 empty-at (negsuc (suc k)) h e = absurd (omega arith)
 
 -- a place of the media is the size of its media time
-pub from-mag : (z : ℤ) (m : ℕ) → From m ≡ placeOf z → m ≡ mag z
+pub from-mag : (z : ℤ) (m : ℕ) → From m ≡ startOf z → m ≡ mag z
 from-mag (pos n) m e = cc
 from-mag (negsuc zero) m e = let x : _≡_ {A = ℕ} 0 1 = cc in absurd (omega arith)
 from-mag (negsuc (suc k)) m e = let x : _≡_ {A = ℕ} 0 1 = cc in absurd (omega arith)

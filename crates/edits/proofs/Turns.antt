@@ -17,9 +17,9 @@ use Rattle.lists.proofs.Rows.{rows-none, rows-next}
 use Rattle.edits.specs.declared.Edit.{Edit}
 use Rattle.edits.specs.declared.Mapped.the-variants.{Outside}
 use Rattle.edits.specs.declared.MovieTime.{MovieTime}
-use Rattle.edits.specs.declared.Place.{Place}
-use Rattle.edits.specs.declared.Place.the-variants.{From}
-use Rattle.edits.specs.Edits.{editOf, editsIn, edits, durationsOf, editTotal, placeOf, placeOk, editOk, allOk, editsOk, shownAt, mapIn, mediaAt}
+use Rattle.edits.specs.declared.EditStart.{EditStart}
+use Rattle.edits.specs.declared.EditStart.the-variants.{From}
+use Rattle.edits.specs.Edits.{editOf, editsIn, edits, durationsOf, editTotal, startOf, startOk, editOk, allOk, editsOk, shownAt, mapIn, mediaAt}
 
 -- a list's entries are those of what follows its head
 pub edits-in : (s : List ℕ) → editsIn (drop 16 s) ≡ edits s
@@ -66,9 +66,9 @@ module _ (scale movie total : ℕ) where
     unfolding editOk
     ok-rate z r = rw (ne-eqb (e .duration) 0 z, ne-eqb (e .rate) 65536 r)
 
-    pub ok-place : {p : Place} → (e .duration ≡ 0 → ⊥) → e .rate ≡ 65536 → p ≡ placeOf (e .media) → editOk scale movie total e ≡ placeOk scale movie total (e .duration) p
+    pub ok-start : {p : EditStart} → (e .duration ≡ 0 → ⊥) → e .rate ≡ 65536 → p ≡ startOf (e .media) → editOk scale movie total e ≡ startOk scale movie total (e .duration) p
     unfolding editOk
-    ok-place z r q = rw (ne-eqb (e .duration) 0 z, eq-eqb (e .rate) 65536 r, q)
+    ok-start z r q = rw (ne-eqb (e .duration) 0 z, eq-eqb (e .rate) 65536 r, q)
 
   -- ---- all entries
 
@@ -99,7 +99,7 @@ module _ (scale movie total : ℕ) where
   -- ---- where a time falls
 
   module _ (t : List ℕ) (x : ℕ) {e : Edit} (h : 12 ≤ length t) (p : e ≡ editOf t) where
-    pub map-here : x < e .duration → mapIn scale movie total (editsIn t) x ≡ shownAt scale movie total x (placeOf (e .media))
+    pub map-here : x < e .duration → mapIn scale movie total (editsIn t) x ≡ shownAt scale movie total x (startOf (e .media))
     map-here l = ap (λ es. mapIn scale movie total es x) (edits-next t h p) ∙ rw (lt-ltb x (e .duration) l)
 
     pub map-past : e .duration ≤ x → mapIn scale movie total (editsIn t) x ≡ mapIn scale movie total (editsIn (drop 12 t)) (x - e .duration)

@@ -13,8 +13,8 @@ use Rattle.edits.specs.declared.Edit.{Edit}
 use Rattle.edits.specs.declared.Mapped.{Mapped}
 use Rattle.edits.specs.declared.Mapped.the-variants.{Media, Nothing, Outside}
 use Rattle.edits.specs.declared.MovieTime.{MovieTime}
-use Rattle.edits.specs.declared.Place.{Place}
-use Rattle.edits.specs.declared.Place.the-variants.{From, Empty, Wrong}
+use Rattle.edits.specs.declared.EditStart.{EditStart}
+use Rattle.edits.specs.declared.EditStart.the-variants.{From, Empty, Wrong}
 
 -- an entry: "duration, signed media time, rate"
 abbrev pub editOf : List ℕ → Edit
@@ -36,10 +36,10 @@ unfoldable pub editTotal : List ℕ → ℕ
 editTotal s = sum (durationsOf (edits s))
 
 -- a media time: a place of the media, -1 where nothing is shown (negsuc k is -(k + 1)), or below -1
-abbrev pub placeOf : ℤ → Place
-placeOf (pos m) = From m
-placeOf (negsuc zero) = Empty
-placeOf (negsuc (suc k)) = Wrong
+abbrev pub startOf : ℤ → EditStart
+startOf (pos m) = From m
+startOf (negsuc zero) = Empty
+startOf (negsuc (suc k)) = Wrong
 
 -- a time in an entry, counted in the media's scale: "floor((t-S) × media scale / movie scale)", "floor((d-1) × media scale / movie scale)"; a movie
 -- scale of 0, which refusal 8 excludes, gives 0
@@ -50,16 +50,16 @@ inMedia scale movie t = t * scale / movie
 
 -- "a media time below -1; or an entry with media time m ≥ 0 and duration d where m + floor((d-1) × media scale / movie scale) is not below the
 -- sample total"
-abbrev pub placeOk : ℕ → ℕ → ℕ → ℕ → Place → Bool
-placeOk scale movie total d (From m) = ltb (m + inMedia scale movie (d - 1)) total
-placeOk scale movie total d Empty = true
-placeOk scale movie total d Wrong = false
+abbrev pub startOk : ℕ → ℕ → ℕ → ℕ → EditStart → Bool
+startOk scale movie total d (From m) = ltb (m + inMedia scale movie (d - 1)) total
+startOk scale movie total d Empty = true
+startOk scale movie total d Wrong = false
 
 -- "a duration 0; a rate other than 65536 (1.0)"; and the above
 unfoldable pub editOk : ℕ → ℕ → ℕ → Edit → Bool
 editOk scale movie total e =
     cond (eqb (e .duration) 0) false
-    (cond (eqb (e .rate) 65536) (placeOk scale movie total (e .duration) (placeOf (e .media))) false)
+    (cond (eqb (e .rate) 65536) (startOk scale movie total (e .duration) (startOf (e .media))) false)
 
 -- each entry is right
 abbrev pub allOk : ℕ → ℕ → ℕ → List Edit → Bool
@@ -83,7 +83,7 @@ abbrev pub placed : ℕ → ℕ → Mapped
 placed total place = cond (ltb place total) (Media (record { 0 = place })) Outside
 
 -- t after an entry's start: "nothing shown if its media time is -1, else that plus floor((t-S) × media scale / movie scale)"
-abbrev pub shownAt : ℕ → ℕ → ℕ → ℕ → Place → Mapped
+abbrev pub shownAt : ℕ → ℕ → ℕ → ℕ → EditStart → Mapped
 shownAt scale movie total t (From m) = placed total (m + inMedia scale movie t)
 shownAt scale movie total t Empty = Nothing
 shownAt scale movie total t Wrong = Outside
@@ -92,7 +92,7 @@ shownAt scale movie total t Wrong = Outside
 abbrev pub mapIn : ℕ → ℕ → ℕ → List Edit → ℕ → Mapped
 mapIn scale movie total [] t = Outside
 mapIn scale movie total (e ∷ es) t =
-    cond (ltb t (e .duration)) (shownAt scale movie total t (placeOf (e .media))) (mapIn scale movie total es (t - e .duration))
+    cond (ltb t (e .duration)) (shownAt scale movie total t (startOf (e .media))) (mapIn scale movie total es (t - e .duration))
 
 -- "Without an edit list the media starts at 0"
 unfoldable pub mediaAt : ℕ → ℕ → ℕ → List ℕ → MovieTime → Mapped

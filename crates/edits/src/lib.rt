@@ -8,7 +8,7 @@ ghost use mathlib.Core.Path.{_≡_};
 ghost use Prim.Native.Nat.{_≤_, _<_, _^_};
 ghost use lib.Signed.{mag};
 ghost use Rattle.lists.specs.Totals.{totalOf};
-ghost use Rattle.edits.specs.Edits.{editOf, editTotal, placeOf, inMedia, editOk, editsOk, placed, shownAt, mediaAt};
+ghost use Rattle.edits.specs.Edits.{editOf, editTotal, startOf, inMedia, editOk, editsOk, placed, shownAt, mediaAt};
 
 // A time of the movie, in the movie's scale.
 pub struct MovieTime(pub u32);
@@ -31,23 +31,23 @@ pub struct Edit {
 }
 
 // What a signed media time stands for: a place of the media, nothing (-1), or no right value.
-pub enum Place {
+pub enum EditStart {
     From(u64),
     Empty,
     Wrong,
 }
 
 // The only place that tests a sign.
-fn place_of(media: i64) -> Place
-    ensures { λ r. ⌜ r ≡ placeOf media ⌝ }
+fn start_of(media: i64) -> EditStart
+    ensures { λ r. ⌜ r ≡ startOf media ⌝ }
 {
     if media >= 0 {
-        return Place::From(media as u64);
+        return EditStart::From(media as u64);
     }
     if media == -1 {
-        return Place::Empty;
+        return EditStart::Empty;
     }
-    Place::Wrong
+    EditStart::Wrong
 }
 
 // The first entry of a part.
@@ -102,14 +102,14 @@ fn edit_ok(e: Edit, scale: u32, movie: u32, total: u32) -> bool
         return false;
     }
     let media = e.media;
-    let p = place_of(media);
+    let p = start_of(media);
     match p {
-        Place::From(m) => {
+        EditStart::From(m) => {
             let last = m + scaled(d - 1, scale, movie);
             last < total as u64
         }
-        Place::Empty => true,
-        Place::Wrong => false,
+        EditStart::Empty => true,
+        EditStart::Wrong => false,
     }
 }
 
@@ -148,16 +148,16 @@ fn within(place: u64, total: u32) -> Mapped
 // What an entry with a media time shows, a time t after its start.
 fn shown(media: i64, t: u32, scale: u32, movie: u32, total: u32) -> Mapped
     requires { ⌜ mag media < 2 ^ 31 ⌝ }
-    ensures { λ r. ⌜ r ≡ shownAt scale movie total t (placeOf media) ⌝ }
+    ensures { λ r. ⌜ r ≡ shownAt scale movie total t (startOf media) ⌝ }
 {
-    let p = place_of(media);
+    let p = start_of(media);
     match p {
-        Place::From(m) => {
+        EditStart::From(m) => {
             let place = m + scaled(t, scale, movie);
             within(place, total)
         }
-        Place::Empty => Mapped::Nothing,
-        Place::Wrong => Mapped::Outside,
+        EditStart::Empty => Mapped::Nothing,
+        EditStart::Wrong => Mapped::Outside,
     }
 }
 

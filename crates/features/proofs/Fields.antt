@@ -9,7 +9,7 @@ use lib.ListN.{length}
 use borrow.Author.Tests.{eq-eqb, ne-eqb}
 use Rattle.atoms.specs.Kinds.{stts, stsz, stsd, vide}
 use Rattle.lists.specs.Lists.{sum}
-use Rattle.runs.specs.Runs.{durations, leastOf}
+use Rattle.runs.specs.Runs.{perSample, leastOf}
 use Rattle.words.specs.Words.{sizes}
 use Rattle.descriptions.specs.Descriptions.{descriptions, pictureSize}
 use Rattle.descriptions.specs.declared.PictureSize.{PictureSize}
@@ -37,7 +37,7 @@ unfolding average trackOf totalIn
 average-is t s bytes scale total r p b c d e =
     e ∙ ap (λ (n : ℕ). rateOf n total) (eightfold bytes scale) ∙ rw (b, p, c, d) refl
 
-pub frames-are : (t s : List ℕ) (scale least : ℕ) (r : Feature) → s ≡ tableOf stts t → least ≡ leastOf (durations s) → scale ≡ scaleOf t
+pub frames-are : (t s : List ℕ) (scale least : ℕ) (r : Feature) → s ≡ tableOf stts t → least ≡ leastOf (perSample s) → scale ≡ scaleOf t
     → r ≡ rateOf (65536 * scale) least → r ≡ frames (trackOf t)
 unfolding frames trackOf
 frames-are t s scale least r p b c e = e ∙ rw (b, p, c) refl

@@ -16,17 +16,17 @@ use Rattle.structure.specs.Track.{mdiaOf, minfOf, stblOf, tableOf, elstOf, idOf
 use Rattle.structure.specs.Movie.{moovOf, movieScale, movieProfile}
 use Rattle.structure.specs.Limits.{overLimits, tooMany}
 use Rattle.structure.specs.Rows.{some, first, orElse}
-use Rattle.structure.specs.Refusals.{wrongVersion, wrongSize, narrow, wrongTrackSize, fileRows}
+use Rattle.structure.specs.Refusals.{wrongVersion, wrongSize, shortVideoDescription, wrongTrackSize, fileRows}
 use Rattle.lists.specs.Entries.{rowsOf, entries}
-use Rattle.runs.specs.Runs.{runsOf, durations, offsetAt}
+use Rattle.runs.specs.Runs.{runsOf, perSample, compositionOffset}
 use Rattle.words.specs.Words.{wordsAfter, sizes, chunkOffsets, syncs, syncsAgree, isSync}
 use Rattle.chunks.specs.Chunks.{deals, perChunk, descriptionIds, dealsContradict, offsetOf}
 use Rattle.pairs.specs.Pairs.{pairOf}
 use Rattle.edits.specs.Edits.{edits, editTotal, editsOk}
 use Rattle.track.specs.Track.{leastSize, trackOf}
-use Rattle.track.specs.Refusals.{miscounted, contradicts, totalIn, tooLong, otherDuration, beyond, wrongEdits}
+use Rattle.track.specs.Refusals.{miscounted, contradicts, totalIn, totalTooLarge, otherDuration, chunkPastEnd, wrongEdits}
 use Rattle.movie.specs.Tracks.{hasTrack, trackWith}
-use Rattle.movie.specs.Rooms.{noRoom, filled, roomAfter}
+use Rattle.movie.specs.Rooms.{noRoom, filledRoom, roomAfter}
 use Rattle.movie.specs.Refusals.{sameIds, idIsZero, movieScaleIsZero, scaleIsZero, moovRows, moovRefusal, fileRefusal}
 use Rattle.leb128.specs.Numbers.{groupsIn, groups, writes}
 use Rattle.slip.specs.Slip.{slipBytes}
@@ -44,7 +44,7 @@ length-w = refl
 
 -- unfoldable only so that the lines below, by naming it, open all that it opens
 unfoldable pub accepted-w : fileRefusal bytes ≡ 0
-unfolding beAt container piecesAfter total filledBy fitting headerOf bodyOf sizeInside sizeTop sizeIn ofKind all everywhere one atMostOne tables present formOf skipped versionOk holdsEntries sizeEntry filledWith sizedEntries sizeOk leafOk firstBefore ofVersion0 profileIn profileOk mdiaOf minfOf stblOf tableOf elstOf idOf scaleOf durationOf subtypeOf profileOf moovOf movieScale movieProfile overLimits tooMany some first orElse wrongVersion wrongSize narrow wrongTrackSize fileRows rowsOf entries runsOf durations wordsAfter sizes chunkOffsets syncs syncsAgree deals perChunk dealsContradict edits editTotal editsOk miscounted contradicts totalIn tooLong otherDuration beyond wrongEdits sameIds idIsZero movieScaleIsZero scaleIsZero moovRows moovRefusal fileRefusal
+unfolding beAt container piecesAfter total filledBy fitting headerOf bodyOf sizeInside sizeTop sizeIn ofKind all everywhere one atMostOne tables present formOf skipped versionOk holdsEntries sizeEntry filledWith sizedEntries sizeOk leafOk firstBefore ofVersion0 profileIn profileOk mdiaOf minfOf stblOf tableOf elstOf idOf scaleOf durationOf subtypeOf profileOf moovOf movieScale movieProfile overLimits tooMany some first orElse wrongVersion wrongSize shortVideoDescription wrongTrackSize fileRows rowsOf entries runsOf perSample wordsAfter sizes chunkOffsets syncs syncsAgree deals perChunk dealsContradict edits editTotal editsOk miscounted contradicts totalIn totalTooLarge otherDuration chunkPastEnd wrongEdits sameIds idIsZero movieScaleIsZero scaleIsZero moovRows moovRefusal fileRefusal
 accepted-w = refl
 
 -- the track with ID 1: that there is one, its samples, and its lists
@@ -57,12 +57,12 @@ unfolding accepted-w trackWith trackAsked
 samples-w = refl
 
 pub track-w : trackOf (trackAsked bytes 1) ≡ plain
-unfolding accepted-w trackWith trackAsked signed32 offsetAt isSync descriptionIds leastSize trackOf
+unfolding accepted-w trackWith trackAsked signed32 compositionOffset isSync descriptionIds leastSize trackOf
 track-w = refl
 
 -- the cases hold of each file that has such a track, from the lists alone
 from-lists : (s : List ℕ) → askRefusal s 1 ≡ 0 → samplesOf (trackAsked s 1) ≡ 4 → trackOf (trackAsked s 1) ≡ plain → AllHold s cases
-unfolding offsetOf pairOf noRoom filled roomAfter orElse groupsIn groups writes slipBytes atRefusal atNumber atAnswer sampleOf sampleRefusal sampleAnswer firstIn pastIn pairsIn bytesIn stretchPairs spanRefusal stretchRefusal stretchAnswer slipHead slipOfStretch slipRefusal slipAnswer
+unfolding offsetOf pairOf noRoom filledRoom roomAfter orElse groupsIn groups writes slipBytes atRefusal atNumber atAnswer sampleOf sampleRefusal sampleAnswer firstIn pastIn pairsIn bytesIn stretchPairs spanRefusal stretchRefusal stretchAnswer slipHead slipOfStretch slipRefusal slipAnswer
 from-lists s asked four track =
     rw (asked, four, track)
     (refl, (refl, (refl, (refl, (refl, (refl, (refl, (refl, (refl, (refl, ((refl, refl), ((refl, refl), ((refl, refl), ((refl, refl), tt))))))))))))))

@@ -63,17 +63,17 @@ abbrev pub media : ℕ → MediaTime
 media t = record { 0 = t }
 
 -- the question, put to the file s of the track with ID 1, has the answer
-abbrev pub Holds : List ℕ → Case → Type 0
-Holds s (time t r) = atAnswer s 1 (media t) ≡ r
-Holds s (sample n r) = sampleAnswer s 1 n ≡ r
-Holds s (stretch a b room r after) =
+abbrev pub CaseHolds : List ℕ → Case → Type 0
+CaseHolds s (time t r) = atAnswer s 1 (media t) ≡ r
+CaseHolds s (sample n r) = sampleAnswer s 1 n ≡ r
+CaseHolds s (stretch a b room r after) =
     (stretchAnswer s 1 (media a) (media b) room ≡ r)
     × (roomAfter (stretchRefusal s 1 (media a) (media b) room) (flat (stretchPairs s 1 (media a) (media b))) room ≡ after)
-Holds s (slip a b out r after) =
+CaseHolds s (slip a b out r after) =
     (slipAnswer s 1 (media a) (media b) out ≡ r)
     × (roomAfter (slipRefusal s 1 (media a) (media b) out) (slipOfStretch s 1 (media a) (media b)) out ≡ after)
 
 -- each of some cases does
 abbrev pub AllHold : List ℕ → List Case → Type 0
 AllHold s [] = Unit {0}
-AllHold s (c ∷ cs) = Holds s c × AllHold s cs
+AllHold s (c ∷ cs) = CaseHolds s c × AllHold s cs

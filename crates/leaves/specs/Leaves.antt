@@ -15,34 +15,34 @@ use Rattle.leaves.specs.declared.LeafRule.{LeafRule}
 use Rattle.leaves.specs.declared.LeafRule.the-variants.{Version, Size}
 
 -- an atom is a read leaf only in the parent that it belongs to; anywhere else it is skipped
-abbrev pub inside : Bool → Form → Form
-inside there f = cond there f Skipped
+abbrev pub inParent : Bool → Form → Form
+inParent there f = cond there f Skipped
 
 -- the table of the leaves: the form of an atom of kind k in the parent p
 unfoldable pub formOf : ℕ → ℕ → Form
 formOf p k =
     -- "mvhd | 108"
-    cond (eqb k mvhd) (inside (eqb p moov) (Exactly 108))
+    cond (eqb k mvhd) (inParent (eqb p moov) (Exactly 108))
     -- "tkhd | 92"
-    (cond (eqb k tkhd) (inside (eqb p trak) (Exactly 92))
+    (cond (eqb k tkhd) (inParent (eqb p trak) (Exactly 92))
     -- "mdhd | 32"
-    (cond (eqb k mdhd) (inside (eqb p mdia) (Exactly 32))
+    (cond (eqb k mdhd) (inParent (eqb p mdia) (Exactly 32))
     -- "hdlr | at least 32"
-    (cond (eqb k hdlr) (inside (eqb p mdia) (AtLeast 32))
+    (cond (eqb k hdlr) (inParent (eqb p mdia) (AtLeast 32))
     -- "elst | 16+12n"
-    (cond (eqb k elst) (inside (eqb p edts) (Entries 12))
+    (cond (eqb k elst) (inParent (eqb p edts) (Entries 12))
     -- "stts | 16+8n", "ctts | 16+8n"
-    (cond (eqb k stts) (inside (eqb p stbl) (Entries 8))
-    (cond (eqb k ctts) (inside (eqb p stbl) (Entries 8))
+    (cond (eqb k stts) (inParent (eqb p stbl) (Entries 8))
+    (cond (eqb k ctts) (inParent (eqb p stbl) (Entries 8))
     -- "stsc | 16+12n"
-    (cond (eqb k stsc) (inside (eqb p stbl) (Entries 12))
+    (cond (eqb k stsc) (inParent (eqb p stbl) (Entries 12))
     -- "stsz | 20+4n, or 20"
-    (cond (eqb k stsz) (inside (eqb p stbl) Sizes)
+    (cond (eqb k stsz) (inParent (eqb p stbl) Sizes)
     -- "stco, stss | 16+4n"
-    (cond (eqb k stco) (inside (eqb p stbl) (Entries 4))
-    (cond (eqb k stss) (inside (eqb p stbl) (Entries 4))
+    (cond (eqb k stco) (inParent (eqb p stbl) (Entries 4))
+    (cond (eqb k stss) (inParent (eqb p stbl) (Entries 4))
     -- "stsd | filled exactly by n descriptions", "each: size (at least 16)"
-    (cond (eqb k stsd) (inside (eqb p stbl) (Sized 16))
+    (cond (eqb k stsd) (inParent (eqb p stbl) (Sized 16))
     Skipped)))))))))))
 
 -- whether it is no read leaf

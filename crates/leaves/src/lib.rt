@@ -29,7 +29,7 @@ pub enum LeafRule {
     Size,
 }
 
-fn inside(there: bool, f: Form) -> Form
+fn in_parent(there: bool, f: Form) -> Form
     ensures { λ r. ⌜ r ≡ cond there f Form.Skipped ⌝ }
 {
     if there { f } else { Form::Skipped }
@@ -40,16 +40,16 @@ fn form_of(parent: u32, kind: u32) -> Form
     ensures { λ r. ⌜ r ≡ formOf parent kind ⌝ }
 {
     match kind {
-        kinds::MVHD => inside(parent == kinds::MOOV, Form::Exactly(108)),
-        kinds::TKHD => inside(parent == kinds::TRAK, Form::Exactly(92)),
-        kinds::MDHD => inside(parent == kinds::MDIA, Form::Exactly(32)),
-        kinds::HDLR => inside(parent == kinds::MDIA, Form::AtLeast(32)),
-        kinds::ELST => inside(parent == kinds::EDTS, Form::Entries(12)),
-        kinds::STTS | kinds::CTTS => inside(parent == kinds::STBL, Form::Entries(8)),
-        kinds::STSC => inside(parent == kinds::STBL, Form::Entries(12)),
-        kinds::STSZ => inside(parent == kinds::STBL, Form::Sizes),
-        kinds::STCO | kinds::STSS => inside(parent == kinds::STBL, Form::Entries(4)),
-        kinds::STSD => inside(parent == kinds::STBL, Form::Sized(16)),
+        kinds::MVHD => in_parent(parent == kinds::MOOV, Form::Exactly(108)),
+        kinds::TKHD => in_parent(parent == kinds::TRAK, Form::Exactly(92)),
+        kinds::MDHD => in_parent(parent == kinds::MDIA, Form::Exactly(32)),
+        kinds::HDLR => in_parent(parent == kinds::MDIA, Form::AtLeast(32)),
+        kinds::ELST => in_parent(parent == kinds::EDTS, Form::Entries(12)),
+        kinds::STTS | kinds::CTTS => in_parent(parent == kinds::STBL, Form::Entries(8)),
+        kinds::STSC => in_parent(parent == kinds::STBL, Form::Entries(12)),
+        kinds::STSZ => in_parent(parent == kinds::STBL, Form::Sizes),
+        kinds::STCO | kinds::STSS => in_parent(parent == kinds::STBL, Form::Entries(4)),
+        kinds::STSD => in_parent(parent == kinds::STBL, Form::Sized(16)),
         _ => Form::Skipped,
     }
 }

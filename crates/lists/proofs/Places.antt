@@ -9,7 +9,7 @@ use native.Mathlib.Decide.{decLe, decLt}
 use lib.ListN.{length, getD, take, drop, length-append, List·getD-append}
 use lib.Seq.{take-add, drop-drop}
 use borrow.Author.Tests.{lt-ltb, le-ltb, le-leb, lt-leb}
-use Rattle.lists.specs.Lists.{upTo, sum, before, between, holder, Holds, inside, part, parts}
+use Rattle.lists.specs.Lists.{upTo, sum, before, between, holder, Holds, indicator, part, parts}
 use Rattle.lists.proofs.Laws.{holder-hit, holder-miss, sum-append}
 
 pub before-suc : (ds : List ℕ) (i : ℕ) → before ds (suc i) ≡ before ds i + getD ds i 0
@@ -69,9 +69,9 @@ holder-mono (d ∷ ds) t u h = elim (decLt t d) [
 clamp : ℕ → ℕ → ℕ → ℕ
 clamp a b x = min b (max a x)
 
-inside-eq : (a b s : ℕ) → a ≤ b → inside a b s + clamp a b s ≡ clamp a b (suc s)
+indicator-eq : (a b s : ℕ) → a ≤ b → indicator a b s + clamp a b s ≡ clamp a b (suc s)
 unfolding clamp
-inside-eq a b s h = elim (decLe a s) [
+indicator-eq a b s h = elim (decLe a s) [
   | yes l ↦ elim (decLt s b) [
     | yes k ↦ rw (le-leb a s l, lt-ltb s b k) (omega arith)
     | no k ↦ let q : b ≤ s = omega arith in rw (le-leb a s l, le-ltb s b q) (omega arith)
@@ -83,7 +83,7 @@ part-eq : (a b s d : ℕ) → a ≤ b → part a b s d + clamp a b s ≡ clamp a
 part-eq a b s zero h = let e : s ≡ s + 0 = omega arith in zero-add _ ∙ ap (clamp a b) e
 part-eq a b s (suc d) h =
     let e : suc s + d ≡ s + suc d = omega arith in
-    omega (arith, inside-eq a b s h, part-eq a b (suc s) d h, ap (clamp a b) e)
+    omega (arith, indicator-eq a b s h, part-eq a b (suc s) d h, ap (clamp a b) e)
 
 parts-eq : (a b s : ℕ) (ds : List ℕ) → a ≤ b → sum (parts a b s ds) + clamp a b s ≡ clamp a b (s + sum ds)
 parts-eq a b s [] h = let e : s ≡ s + 0 = omega arith in zero-add _ ∙ ap (clamp a b) e

@@ -16,14 +16,14 @@ pub total-sum : (n : ℕ) → n ≤ 4294967295 → totalOf n ≡ Sum n
 unfolding totalOf
 total-sum n h = rw (le-ltb 4294967295 n h)
 
-pub total-told : (n m : ℕ) → totalOf n ≡ Sum m → (n ≡ m) × (n ≤ 4294967295)
-total-told n m e = elim (decLt 4294967295 n) [
+pub total-known : (n m : ℕ) → totalOf n ≡ Sum m → (n ≡ m) × (n ≤ 4294967295)
+total-known n m e = elim (decLt 4294967295 n) [
   | yes l ↦ let o = total-over n l in let z : _≡_ {A = ℕ} 0 1 = cc in absurd (omega arith)
   | no l ↦ let o = total-sum n (omega arith) in (cc, omega arith)
 ]
 
-pub over-told : (n : ℕ) → totalOf n ≡ Over → 4294967295 < n
-over-told n e = elim (decLt 4294967295 n) [
+pub over-known : (n : ℕ) → totalOf n ≡ Over → 4294967295 < n
+over-known n e = elim (decLt 4294967295 n) [
   | yes l ↦ l
   | no l ↦ let o = total-sum n (omega arith) in let z : _≡_ {A = ℕ} 0 1 = cc in absurd (omega arith)
 ]

@@ -13,7 +13,7 @@ use Rattle.structure.specs.Movie.{moovOf, movieScale, tracksOf}
 use Rattle.structure.proofs.Shaped.{Shaped, ShapedMovie, ShapedFile}
 use Rattle.structure.proofs.Callers.{Clear, clear, some-none, shaped, none-else, or-left, or-right, Each, tracks-each}
 use Rattle.edits.specs.Edits.{editTotal}
-use Rattle.track.specs.Refusals.{contradicts, totalIn, tooLong, otherDuration, beyond, wrongEdits}
+use Rattle.track.specs.Refusals.{contradicts, totalIn, totalTooLarge, otherDuration, chunkPastEnd, wrongEdits}
 use Rattle.movie.specs.Tracks.{idsOf, repeats}
 use Rattle.movie.specs.Refusals.{sameIds, idIsZero, movieScaleIsZero, scaleIsZero, fileRefusal, tableRows, tablesRefusal}
 use Rattle.movie.proofs.Tables.{file-is, table-rows-rise}
@@ -27,7 +27,7 @@ pub record Accepted (scale len : ℕ) (t : List ℕ) : Type 0 where
   pub total-fits : totalIn t ≤ 4294967295
   pub edits-fit : editTotal (elstOf t) ≤ 4294967295
   pub stored : durationOf t ≡ totalIn t
-  pub within : beyond len t ≡ false
+  pub within : chunkPastEnd len t ≡ false
   pub edits : wrongEdits scale t ≡ false
 
 pub record AcceptedMovie (len : ℕ) (m : List ℕ) : Type 0 where
@@ -46,7 +46,7 @@ module _ (len : ℕ) (m : List ℕ) (shape : ShapedMovie m) (e : tablesRefusal l
   rows-clear = clear _ 6 (tableRows (movieScale m) len) (table-rows-rise (movieScale m) len) e
 
   accepted-movie : AcceptedMovie len m
-  unfolding tableRows sameIds idIsZero movieScaleIsZero scaleIsZero tooLong otherDuration
+  unfolding tableRows sameIds idIsZero movieScaleIsZero scaleIsZero totalTooLarge otherDuration
   accepted-movie =
       let r = rows-clear in
       record {
@@ -55,7 +55,7 @@ module _ (len : ℕ) (m : List ℕ) (shape : ShapedMovie m) (e : tablesRefusal l
         some-scale = eqb-false _ _ (or-left _ _ (r .1 .0));
         tracks = λ i h.
             let t = getD (tracksOf m) i [] in
-            let long = some-none tooLong (tracksOf m) i (r .1 .1 .1 .0) h in
+            let long = some-none totalTooLarge (tracksOf m) i (r .1 .1 .1 .0) h in
             record {
               shape = tracks-each m shape i h;
               some-id = eqb-false _ _ (some-none idIsZero (tracksOf m) i (or-right (sameIds m) _ (r .0)) h);
@@ -64,7 +64,7 @@ module _ (len : ℕ) (m : List ℕ) (shape : ShapedMovie m) (e : tablesRefusal l
               total-fits = ltb-false _ _ (or-left _ _ long);
               edits-fit = ltb-false _ _ (or-right (ltb 4294967295 (totalIn t)) _ long);
               stored = eqb-true _ _ (not-false _ (some-none otherDuration (tracksOf m) i (r .1 .1 .1 .1 .0) h));
-              within = some-none (beyond len) (tracksOf m) i (r .1 .1 .1 .1 .1 .0) h;
+              within = some-none (chunkPastEnd len) (tracksOf m) i (r .1 .1 .1 .1 .1 .0) h;
               edits = some-none (wrongEdits (movieScale m)) (tracksOf m) i (r .1 .1 .1 .1 .1 .1 .0) h;
             };
       }

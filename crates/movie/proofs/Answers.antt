@@ -12,8 +12,8 @@ use Rattle.structure.specs.Rows.{orElse}
 use Rattle.structure.proofs.Callers.{Each}
 use Rattle.track.specs.Refusals.{totalIn}
 use Rattle.movie.specs.Refusals.{fileRefusal}
-use Rattle.movie.specs.Rooms.{noRoom, filled, roomAfter}
-use Rattle.movie.specs.TrackList.{linesOf, Fitting, trackLines, listRefusal, listAnswer, numbersOf, listNumbers, Lists}
+use Rattle.movie.specs.Rooms.{noRoom, filledRoom, roomAfter}
+use Rattle.movie.specs.TrackList.{linesOf, TotalsFit, trackLines, listRefusal, listAnswer, trackListNumbers, listNumbers, Lists}
 use Rattle.movie.specs.declared.list.TrackList.the-variants.{Tracks, Refused}
 use Rattle.movie.proofs.Accepted.{Accepted, accepted}
 use Rattle.movie.proofs.Lines.{lines-length, all-lines}
@@ -23,19 +23,19 @@ use Rattle.movie.proofs.Lines.{lines-length, all-lines}
 pub few : (s m : List ℕ) (r n : ℕ) → r ≡ fileRefusal s → r ≡ 0 → m ≡ moovOf s → n ≡ length (tracksOf m) → n ≤ 16
 few s m r n e z d c = rw (c, d) (accepted s (sym e ∙ z) .movie .shape .few-tracks)
 
-fitting-each : (scale len : ℕ) (ts : List (List ℕ)) → Each (Accepted scale len) ts → Fitting ts
+fitting-each : (scale len : ℕ) (ts : List (List ℕ)) → Each (Accepted scale len) ts → TotalsFit ts
 fitting-each scale len [] h = tt
 fitting-each scale len (t ∷ ts) h =
     let f : totalIn t ≤ 4294967295 = h 0 (omega arith) .total-fits in
     (omega arith, fitting-each scale len ts (λ i g. h (suc i) (omega arith)))
 
-pub fitting : (s m : List ℕ) (r : ℕ) → r ≡ fileRefusal s → r ≡ 0 → m ≡ moovOf s → Fitting (tracksOf m)
+pub fitting : (s m : List ℕ) (r : ℕ) → r ≡ fileRefusal s → r ≡ 0 → m ≡ moovOf s → TotalsFit (tracksOf m)
 fitting s m r e z d = rw d (fitting-each (movieScale (moovOf s)) (length s) (tracksOf (moovOf s)) (accepted s (sym e ∙ z) .movie .tracks))
 
 -- ---- the answers
 
 answered : (s room after : List ℕ) (r : ℕ) → listRefusal s room ≡ r → (r ≡ 0 → ⊥) → after ≡ room → Lists s room (Refused r) after
-unfolding listAnswer numbersOf listNumbers roomAfter
+unfolding listAnswer trackListNumbers listNumbers roomAfter
 answered s room after r e n d =
     record { answer = rw (e, ne-eqb r 0 n); numbers = rw (e, ne-eqb r 0 n); places = rw (e, ne-eqb r 0 n) d }
 
@@ -57,7 +57,7 @@ module _ (s room m : List ℕ) (r n : ℕ) (e : r ≡ fileRefusal s) (z : r ≡ 
   short-list h = answered s room room 16 (then-room ∙ rw (lt-ltb (length room) (length (trackLines s)) (omega (arith, lines-are)))) (λ q. omega arith) refl
 
   pub whole-list : (after : List ℕ) → 7 * n ≤ length room → after ≡ sets room 0 (linesOf (tracksOf m)) → Lists s room (Tracks n) after
-  unfolding noRoom listAnswer numbersOf listNumbers roomAfter filled trackLines
+  unfolding noRoom listAnswer trackListNumbers listNumbers roomAfter filledRoom trackLines
   whole-list after h p =
       let k : listRefusal s room ≡ 0 = then-room ∙ rw (le-ltb (length room) (length (trackLines s)) (omega (arith, lines-are))) in
       let g : n ≡ length (tracksOf (moovOf s)) = rw d at c in

@@ -8,7 +8,7 @@ use native.Mathlib.Nat.{add-zero, zero-add, add-suc, suc-add}
 use lib.ListN.{length, set, drop, length-append}
 use lib.Seq.{sets, sets-eq}
 use Rattle.track.specs.Refusals.{totalIn}
-use Rattle.movie.specs.TrackList.{lineOf, linesOf, Fitting}
+use Rattle.movie.specs.TrackList.{lineOf, linesOf, TotalsFit}
 
 -- numbers stored in two goes
 pub sets-append : (xs ys l : List ℕ) (i : ℕ) → sets l i (xs ++ ys) ≡ sets (sets l i xs) (i + length xs) ys
@@ -27,10 +27,10 @@ lines-length (t ∷ ts) = omega (arith, length-append (lineOf t) (linesOf ts), l
 -- ---- a turn, at a place whose tracks are b and the rest
 
 module _ (b : List ℕ) (ts rest : List (List ℕ)) (q : ts ≡ b ∷ rest) where
-  pub fits-here : Fitting ts → totalIn b < 4294967296
+  pub fits-here : TotalsFit ts → totalIn b < 4294967296
   fits-here f = (rw q at f) .0
 
-  pub fits-rest : Fitting ts → Fitting rest
+  pub fits-rest : TotalsFit ts → TotalsFit rest
   fits-rest f = (rw q at f) .1
 
   pub room-here : (at k : ℕ) → at + 7 * length ts ≤ k → (at + 7 ≤ k) × (at + 7 + 7 * length rest ≤ k)

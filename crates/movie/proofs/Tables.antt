@@ -10,7 +10,7 @@ use native.Mathlib.Omega.{arith}
 use borrow.Author.Tests.{eq-eqb, ne-eqb}
 use Rattle.atoms.specs.Kinds.{file, moov}
 use Rattle.atoms.proofs.Lengths.{body-short}
-use Rattle.structure.specs.Rows.{first, rising, lowest, ofWhole, ofTrack, ofTracks, lowerOf, orElse}
+use Rattle.structure.specs.Rows.{first, numbersRise, lowest, ofWhole, ofTrack, ofTracks, lowerOf, orElse}
 use Rattle.structure.specs.Movie.{moovOf, movieScale, tracksOf}
 use Rattle.structure.specs.Refusals.{fileRows, movieRows, movieRefusal, refusalOf}
 use Rattle.structure.proofs.Rows.{by-tracks, lowest-append}
@@ -23,8 +23,8 @@ pub rows-are : (scale len : ℕ) → moovRows scale len ≡ movieRows ++ tableRo
 unfolding moovRows movieRows tableRows
 rows-are scale len = refl
 
-pub table-rows-rise : (scale len : ℕ) → rising 6 (tableRows scale len) ≡ true
-unfolding rising tableRows
+pub table-rows-rise : (scale len : ℕ) → numbersRise 6 (tableRows scale len) ≡ true
+unfolding numbersRise tableRows
 table-rows-rise scale len = refl
 
 -- a track's own number is what the crate track answers

@@ -9,7 +9,7 @@ use Rattle.structure.specs.Movie.{moovOf, tracksOf, movieScale}
 use Rattle.structure.specs.Limits.{overLimits, tooMany}
 use Rattle.structure.specs.Rows.{Row, row, never, ofWhole, lowest, orElse}
 use Rattle.structure.specs.Refusals.{wrongVersion, wrongSize, wrongTrackSize, fileRows}
-use Rattle.track.specs.Refusals.{contradicts, tooLong, otherDuration, beyond, wrongEdits}
+use Rattle.track.specs.Refusals.{contradicts, totalTooLarge, otherDuration, chunkPastEnd, wrongEdits}
 use Rattle.movie.specs.Tracks.{idsOf, repeats}
 
 -- 7, of a movie: "a track ID .. occurs twice"; of a track: "a track ID is 0"
@@ -36,9 +36,9 @@ moovRows scale len =
     ∷ row 7 sameIds idIsZero
     ∷ row 8 movieScaleIsZero scaleIsZero
     ∷ row 9 never contradicts
-    ∷ row 10 never tooLong
+    ∷ row 10 never totalTooLarge
     ∷ row 11 never otherDuration
-    ∷ row 12 never (beyond len)
+    ∷ row 12 never (chunkPastEnd len)
     ∷ row 13 never (wrongEdits scale)
     ∷ []
 
@@ -57,9 +57,9 @@ tableRows scale len =
     row 7 sameIds idIsZero
     ∷ row 8 movieScaleIsZero scaleIsZero
     ∷ row 9 never contradicts
-    ∷ row 10 never tooLong
+    ∷ row 10 never totalTooLarge
     ∷ row 11 never otherDuration
-    ∷ row 12 never (beyond len)
+    ∷ row 12 never (chunkPastEnd len)
     ∷ row 13 never (wrongEdits scale)
     ∷ []
 

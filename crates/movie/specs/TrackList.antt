@@ -41,9 +41,9 @@ unfoldable pub listAnswer : List ℕ → List ℕ → TrackList
 listAnswer s room = cond (eqb (listRefusal s room) 0) (Tracks (length (tracksOf (moovOf s)))) (Refused (listRefusal s room))
 
 -- document 01's number and value for each case of the answer; the number is 0 where nothing is refused
-unfoldable pub numbersOf : TrackList → List ℕ
-numbersOf (Tracks n) = 0 ∷ n ∷ []
-numbersOf (Refused r) = refusedWith 1 r
+unfoldable pub trackListNumbers : TrackList → List ℕ
+trackListNumbers (Tracks n) = 0 ∷ n ∷ []
+trackListNumbers (Refused r) = refusedWith 1 r
 
 unfoldable pub listNumbers : List ℕ → List ℕ → List ℕ
 listNumbers s room = cond (eqb (listRefusal s room) 0) (0 ∷ length (tracksOf (moovOf s)) ∷ []) (refusedWith 1 (listRefusal s room))
@@ -51,10 +51,10 @@ listNumbers s room = cond (eqb (listRefusal s room) 0) (0 ∷ length (tracksOf (
 -- the promise of the question on the file s, with that room: the answer r, and the room after it
 pub record Lists (s room : List ℕ) (r : TrackList) (after : List ℕ) : Type 0 where
   pub answer : r ≡ listAnswer s room
-  pub numbers : numbersOf r ≡ listNumbers s room
+  pub numbers : trackListNumbers r ≡ listNumbers s room
   pub places : after ≡ roomAfter (listRefusal s room) (trackLines s) room
 
 -- ---- what the code asks for before it puts the list: each total fits 32 bits, as it does where refusal 10 is not given
-abbrev pub Fitting : List (List ℕ) → Type 0
-Fitting [] = Unit
-Fitting (t ∷ ts) = (totalIn t < 4294967296) × Fitting ts
+abbrev pub TotalsFit : List (List ℕ) → Type 0
+TotalsFit [] = Unit
+TotalsFit (t ∷ ts) = (totalIn t < 4294967296) × TotalsFit ts

@@ -17,7 +17,7 @@ ghost use lib.ListN.{length};
 ghost use lib.Seq.{sets};
 ghost use Rattle.structure.specs.Movie.{tracksOf};
 ghost use Rattle.track.specs.Refusals.{totalIn};
-ghost use Rattle.movie.specs.TrackList.{lineOf, linesOf, fields, Fitting, Lists};
+ghost use Rattle.movie.specs.TrackList.{lineOf, linesOf, fields, TotalsFit, Lists};
 
 // How many numbers the list has for a track.
 pub const LINE: usize = 7;
@@ -64,7 +64,7 @@ fn put_line(line: Line, room: &mut [u32], at: usize)
 
 // Puts the list of a movie's tracks, from the body of its moov, into the first places of the room.
 fn put_lines(moov: &[u8], room: &mut [u32])
-    requires { ⌜ Fitting (tracksOf (now moov)) × (7 * length (tracksOf (now moov)) ≤ length (now room)) ⌝ }
+    requires { ⌜ TotalsFit (tracksOf (now moov)) × (7 * length (tracksOf (now moov)) ≤ length (now room)) ⌝ }
     ensures { λ _. ⌜ now (room .exit) ≡ sets (now (room .entry)) 0 (linesOf (tracksOf (now (moov .entry)))) ⌝ }
 {
     let mut t = moov;

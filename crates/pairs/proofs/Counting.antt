@@ -18,7 +18,7 @@ use Rattle.chunks.proofs.Finding.{Finds, finds}
 use Rattle.chunks.proofs.Turns.{few-chunks}
 use Rattle.pairs.specs.Pairs.{touched}
 use Rattle.pairs.specs.Walks.{countBetween, chunksTo, At, AtOnce}
-use Rattle.pairs.specs.declared.Place.{Place}
+use Rattle.pairs.specs.declared.ChunkPosition.{ChunkPosition}
 use Rattle.pairs.proofs.Touched.{is-touched, before-first, touched-none}
 use Rattle.pairs.proofs.Walking.{begins-low, at-chunk, past-chunk}
 
@@ -31,8 +31,8 @@ chunks-miss : (p : ℕ) (ps : List ℕ) (t : ℕ) → p ≤ t → chunksTo (p �
 chunks-miss p ps t h = omega (arith, holder-miss p ps t h)
 
 -- what is left of a sample's distance past a chunk
-beyond : (t begin p : ℕ) → t - begin - p ≡ t - (begin + p)
-beyond t begin p = omega arith
+sub-sub : (t begin p : ℕ) → t - begin - p ≡ t - (begin + p)
+sub-sub t begin p = omega arith
 
 less-none : (a : ℕ) → a - 0 ≡ a
 less-none a = omega arith
@@ -51,7 +51,7 @@ all-touched i j begin (p ∷ ps) cs zs h g =
     elim (decLt (begin + p) j) [
       | yes l ↦
           let m : p ≤ j - 1 - begin = omega arith in
-          rw (is-touched i j begin p g t, chunks-miss p ps (j - 1 - begin) m, beyond (j - 1) begin p) (ap suc (all-touched i j (begin + p) ps (drop 1 cs) zs t l))
+          rw (is-touched i j begin p g t, chunks-miss p ps (j - 1 - begin) m, sub-sub (j - 1) begin p) (ap suc (all-touched i j (begin + p) ps (drop 1 cs) zs t l))
       | no l ↦
           let m : j - 1 - begin < p = omega arith in
           rw (is-touched i j begin p g t, chunks-hit p ps (j - 1 - begin) m, touched-none i j (begin + p) ps (drop 1 cs) zs (omega arith))
@@ -65,7 +65,7 @@ touched-length i j begin (p ∷ ps) cs zs h g = elim (decLt i (begin + p)) [
       elim (decLt (begin + p) j) [
         | yes l ↦
             let m : p ≤ j - 1 - begin = omega arith in
-            rw (is-touched i j begin p g k, chunks-miss p ps (j - 1 - begin) m, beyond (j - 1) begin p, holder-hit p ps (i - begin) f) (ap suc (all-touched i j (begin + p) ps (drop 1 cs) zs k l) ∙ sym (less-none _))
+            rw (is-touched i j begin p g k, chunks-miss p ps (j - 1 - begin) m, sub-sub (j - 1) begin p, holder-hit p ps (i - begin) f) (ap suc (all-touched i j (begin + p) ps (drop 1 cs) zs k l) ∙ sym (less-none _))
         | no l ↦
             let m : j - 1 - begin < p = omega arith in
             rw (is-touched i j begin p g k, chunks-hit p ps (j - 1 - begin) m, touched-none i j (begin + p) ps (drop 1 cs) zs (omega arith), holder-hit p ps (i - begin) f)
@@ -76,7 +76,7 @@ touched-length i j begin (p ∷ ps) cs zs h g = elim (decLt i (begin + p)) [
       elim (decLt (begin + p) j) [
         | yes l ↦
             let m : p ≤ j - 1 - begin = omega arith in
-            rw (before-first i j begin p o, chunks-miss p ps (j - 1 - begin) m, beyond (j - 1) begin p, holder-miss p ps (i - begin) f, beyond i begin p) (touched-length i j (begin + p) ps (drop 1 cs) zs o l ∙ sym (less-suc _ _))
+            rw (before-first i j begin p o, chunks-miss p ps (j - 1 - begin) m, sub-sub (j - 1) begin p, holder-miss p ps (i - begin) f, sub-sub i begin p) (touched-length i j (begin + p) ps (drop 1 cs) zs o l ∙ sym (less-suc _ _))
         | no l ↦
             let m : j - 1 - begin < p = omega arith in
             rw (before-first i j begin p o, chunks-hit p ps (j - 1 - begin) m, touched-none i j (begin + p) ps (drop 1 cs) zs (omega arith), holder-miss p ps (i - begin) f) (none-past (holder ps (i - begin - p)))
@@ -129,7 +129,7 @@ module _ (stsc : List ℕ) (chunks t : ℕ) (f : Sought) (o : f ≡ sought stsc 
 
 -- ---- the numbers of a place fit their types
 
-module _ (stsc : List ℕ) (chunks i j : ℕ) (p : Place) (w : At stsc chunks i p) (e : (eqb (p .cursor .remaining) 0 || leb j (p .begin)) ≡ false)
+module _ (stsc : List ℕ) (chunks i j : ℕ) (p : ChunkPosition) (w : At stsc chunks i p) (e : (eqb (p .cursor .remaining) 0 || leb j (p .begin)) ≡ false)
     (short : length stsc < 2 ^ 32) (c : chunks < 4294967296) (bytes : (k : ℕ) → getD stsc k 0 < 256) (h : j < 4294967296) where
   pub place-fits : (p .begin < 2 ^ 32) × (p .chunk < 2 ^ 63)
   place-fits =

@@ -13,7 +13,7 @@ use Rattle.leb128.proofs.Puts.{sets-append}
 use Rattle.pairs.specs.Pairs.{flat}
 use Rattle.pairs.specs.Walks.{pairsBetween, lengthsOf, Fitting, Putting, pairsAhead, At, placePast, StartsAt, AtOnce, pairsAtOnce, Room, Put}
 use Rattle.pairs.specs.declared.Pair.{Pair}
-use Rattle.pairs.specs.declared.Place.{Place}
+use Rattle.pairs.specs.declared.ChunkPosition.{ChunkPosition}
 use Rattle.pairs.proofs.Wholes.{at-once-length}
 use Rattle.pairs.proofs.Walking.{at-end, at-past, at-once, from-start}
 
@@ -108,11 +108,11 @@ module _ {all : List Pair} {room₀ : List ℕ} {at₀ : ℕ} {rest : List Pair}
 
 -- ---- from place to place
 
-pub record Walked (stsc stsz stco : List ℕ) (chunks i j : ℕ) (room₀ : List ℕ) (p : Place) (room : List ℕ) (at total : ℕ) : Type 0 where
+pub record Walked (stsc stsz stco : List ℕ) (chunks i j : ℕ) (room₀ : List ℕ) (p : ChunkPosition) (room : List ℕ) (at total : ℕ) : Type 0 where
   pub place : At stsc chunks i p
   pub filling : Filling (pairsBetween stsc stsz stco chunks i j) room₀ 0 (pairsAhead stsc stsz stco chunks i j p) room at total
 
-pub walked-start : (stsc stsz stco : List ℕ) (chunks i j : ℕ) (room : List ℕ) (p : Place) → StartsAt stsc chunks i p → Putting stsc stsz stco chunks i j (length room)
+pub walked-start : (stsc stsz stco : List ℕ) (chunks i j : ℕ) (room : List ℕ) (p : ChunkPosition) → StartsAt stsc chunks i p → Putting stsc stsz stco chunks i j (length room)
     → Walked stsc stsz stco chunks i j room p room 0 0
 walked-start stsc stsz stco chunks i j room p s w =
     record {
@@ -120,7 +120,7 @@ walked-start stsc stsz stco chunks i j room p s w =
       filling = rw (from-start stsc stsz stco chunks i j p s) (filling-start (pairsBetween stsc stsz stco chunks i j) room 0 (record { fits = w .fits; total = w .total; space = omega (arith, w .room) }));
     }
 
-module _ {stsc stsz stco : List ℕ} {chunks i j : ℕ} {room₀ : List ℕ} {p : Place} {room : List ℕ} {at total : ℕ} (w : Walked stsc stsz stco chunks i j room₀ p room at total) where
+module _ {stsc stsz stco : List ℕ} {chunks i j : ℕ} {room₀ : List ℕ} {p : ChunkPosition} {room : List ℕ} {at total : ℕ} (w : Walked stsc stsz stco chunks i j room₀ p room at total) where
   pub walked-end : (eqb (p .cursor .remaining) 0 || leb j (p .begin)) ≡ true
       → (total ≡ sum (lengthsOf (pairsBetween stsc stsz stco chunks i j))) × (room ≡ sets room₀ 0 (flat (pairsBetween stsc stsz stco chunks i j)))
   walked-end e =
@@ -147,7 +147,7 @@ module _ {stsc stsz stco : List ℕ} {chunks i j : ℕ} {room₀ : List ℕ} {p 
       pub step-total : {bytes : ℕ} {new : List ℕ} → Put these room at bytes new → total + bytes < 2 ^ 64
       step-total d = omega (arith, next-total (w .filling) these others split h, d .added)
 
-    pub step-turn : {bytes : ℕ} {new : List ℕ} → Put these room at bytes new → {r : Place} → r ≡ placePast stsc chunks n p
+    pub step-turn : {bytes : ℕ} {new : List ℕ} → Put these room at bytes new → {r : ChunkPosition} → r ≡ placePast stsc chunks n p
         → Walked stsc stsz stco chunks i j room₀ r new (at + 2 * n) (total + bytes)
     step-turn {bytes} {new} d f =
         let a : at + 2 * n ≡ at + 2 * length these = omega (arith, at-once-length stsz stco i j p n o) in

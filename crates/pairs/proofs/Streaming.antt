@@ -15,7 +15,7 @@ use Rattle.words.specs.Words.{sizes, chunkOffsets}
 use Rattle.pairs.specs.Pairs.{pairOf, flat}
 use Rattle.pairs.specs.Walks.{pairsBetween, pairsAhead, At, placeAfter, StartsAt}
 use Rattle.pairs.specs.declared.Pair.{Pair}
-use Rattle.pairs.specs.declared.Place.{Place}
+use Rattle.pairs.specs.declared.ChunkPosition.{ChunkPosition}
 use Rattle.pairs.proofs.Walking.{at-end, at-next, at-again, from-start}
 
 -- the writing of a pair, and of those after it
@@ -31,35 +31,35 @@ module _ (stsc stsz stco : List ℕ) (chunks i j : ℕ) where
   abbrev all : List ℕ
   all = writes (flat (pairsBetween stsc stsz stco chunks i j))
 
-  abbrev rest : Place → List ℕ
+  abbrev rest : ChunkPosition → List ℕ
   rest p = writes (flat (pairsAhead stsc stsz stco chunks i j p))
 
 -- ---- measured
 
-pub record Measuring (stsc stsz stco : List ℕ) (chunks i j : ℕ) (p : Place) (n : ℕ) : Type 0 where
+pub record Measuring (stsc stsz stco : List ℕ) (chunks i j : ℕ) (p : ChunkPosition) (n : ℕ) : Type 0 where
   pub place : At stsc chunks i p
   pub measured : n + length (rest stsc stsz stco chunks i j p) ≡ length (all stsc stsz stco chunks i j)
 
-pub measuring-start : (stsc stsz stco : List ℕ) (chunks i j : ℕ) (p : Place) → StartsAt stsc chunks i p → Measuring stsc stsz stco chunks i j p 0
+pub measuring-start : (stsc stsz stco : List ℕ) (chunks i j : ℕ) (p : ChunkPosition) → StartsAt stsc chunks i p → Measuring stsc stsz stco chunks i j p 0
 measuring-start stsc stsz stco chunks i j p s =
     record { place = s .at; measured = omega (arith, ap (λ l. length (writes (flat l))) (from-start stsc stsz stco chunks i j p s)) }
 
 -- ---- written
 
-pub record Writing (stsc stsz stco : List ℕ) (chunks i j : ℕ) (out₀ : List ℕ) (at : ℕ) (p : Place) (out : List ℕ) (k : ℕ) : Type 0 where
+pub record Writing (stsc stsz stco : List ℕ) (chunks i j : ℕ) (out₀ : List ℕ) (at : ℕ) (p : ChunkPosition) (out : List ℕ) (k : ℕ) : Type 0 where
   pub place : At stsc chunks i p
   pub past : k + length (rest stsc stsz stco chunks i j p) ≡ at + length (all stsc stsz stco chunks i j)
   pub same : length out ≡ length out₀
   pub stored : sets out k (rest stsc stsz stco chunks i j p) ≡ sets out₀ at (all stsc stsz stco chunks i j)
 
-pub writing-start : (stsc stsz stco : List ℕ) (chunks i j : ℕ) (out : List ℕ) (at : ℕ) (p : Place) → StartsAt stsc chunks i p → Writing stsc stsz stco chunks i j out at p out at
+pub writing-start : (stsc stsz stco : List ℕ) (chunks i j : ℕ) (out : List ℕ) (at : ℕ) (p : ChunkPosition) → StartsAt stsc chunks i p → Writing stsc stsz stco chunks i j out at p out at
 writing-start stsc stsz stco chunks i j out at p s =
     let e = from-start stsc stsz stco chunks i j p s in
     record { place = s .at; past = rw e; same = refl; stored = rw e }
 
 -- ---- a turn
 
-module _ (stsc stsz stco : List ℕ) (chunks i j : ℕ) (p : Place) (w : At stsc chunks i p) where
+module _ (stsc stsz stco : List ℕ) (chunks i j : ℕ) (p : ChunkPosition) (w : At stsc chunks i p) where
   over : (eqb (p .cursor .remaining) 0 || leb j (p .begin)) ≡ true → rest stsc stsz stco chunks i j p ≡ []
   over e = rw (at-end stsc stsz stco chunks i j p w e) none-writes
 
@@ -76,7 +76,7 @@ module _ (stsc stsz stco : List ℕ) (chunks i j : ℕ) (p : Place) (w : At stsc
         let l = rest stsc stsz stco chunks i j (placeAfter stsc chunks p) in
         ap length here ∙ length-append (groups (q .offset)) (groups (q .length) ++ l) ∙ ap (λ (m : ℕ). length (groups (q .offset)) + m) (length-append (groups (q .length)) l)
 
-module _ (stsc stsz stco : List ℕ) (chunks i j : ℕ) (p : Place) (n : ℕ) (w : Measuring stsc stsz stco chunks i j p n) where
+module _ (stsc stsz stco : List ℕ) (chunks i j : ℕ) (p : ChunkPosition) (n : ℕ) (w : Measuring stsc stsz stco chunks i j p n) where
   pub measuring-end : (eqb (p .cursor .remaining) 0 || leb j (p .begin)) ≡ true → n ≡ length (all stsc stsz stco chunks i j)
   measuring-end e = omega (arith, w .measured, ap length (over stsc stsz stco chunks i j p (w .place) e))
 
@@ -85,12 +85,12 @@ module _ (stsc stsz stco : List ℕ) (chunks i j : ℕ) (p : Place) (n : ℕ) (w
     pub measure-fits : length (all stsc stsz stco chunks i j) < 2 ^ 63 → (n + a < 2 ^ 64) × (n + a + b < 2 ^ 64)
     measure-fits h = let l = long stsc stsz stco chunks i j p (w .place) e q d in (omega (arith, w .measured), omega (arith, w .measured))
 
-    pub measuring-turn : (r : Place) → r ≡ placeAfter stsc chunks p → Measuring stsc stsz stco chunks i j r (n + a + b)
+    pub measuring-turn : (r : ChunkPosition) → r ≡ placeAfter stsc chunks p → Measuring stsc stsz stco chunks i j r (n + a + b)
     measuring-turn r s =
         let l = long stsc stsz stco chunks i j p (w .place) e q d in
         rw s (record { place = at-again stsc stsz stco chunks i j p (w .place) e; measured = omega (arith, w .measured) })
 
-module _ (stsc stsz stco : List ℕ) (chunks i j : ℕ) (out₀ : List ℕ) (at : ℕ) (p : Place) (out : List ℕ) (k : ℕ) (w : Writing stsc stsz stco chunks i j out₀ at p out k)
+module _ (stsc stsz stco : List ℕ) (chunks i j : ℕ) (out₀ : List ℕ) (at : ℕ) (p : ChunkPosition) (out : List ℕ) (k : ℕ) (w : Writing stsc stsz stco chunks i j out₀ at p out k)
     (room : at + length (all stsc stsz stco chunks i j) ≤ length out₀) where
   pub writing-end : (eqb (p .cursor .remaining) 0 || leb j (p .begin)) ≡ true → (k ≡ at + length (all stsc stsz stco chunks i j)) × (out ≡ sets out₀ at (all stsc stsz stco chunks i j))
   writing-end e =
@@ -101,7 +101,7 @@ module _ (stsc stsz stco : List ℕ) (chunks i j : ℕ) (out₀ : List ℕ) (at 
       → q ≡ pairOf i j (p .begin) (p .cursor .per) (getD (chunkOffsets stco) (p .chunk) 0) (sizes stsz)
       → (m : ℕ) (half : List ℕ) → m ≡ pastPut out k (groups (q .offset)) → half ≡ putAt out k (groups (q .offset))
       → (n : ℕ) (last : List ℕ) → n ≡ pastPut half m (groups (q .length)) → last ≡ putAt half m (groups (q .length))
-      → (r : Place) → r ≡ placeAfter stsc chunks p → Writing stsc stsz stco chunks i j out₀ at r last n
+      → (r : ChunkPosition) → r ≡ placeAfter stsc chunks p → Writing stsc stsz stco chunks i j out₀ at r last n
   writing-turn e q d m half em eh n last en el r s =
       let a = groups (q .offset) in
       let b = groups (q .length) in

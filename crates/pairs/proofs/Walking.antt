@@ -17,14 +17,14 @@ use Rattle.lists.proofs.Places.{holder-holds}
 use Rattle.words.specs.Words.{sizes, chunkOffsets}
 use Rattle.chunks.specs.Chunks.{perChunk}
 use Rattle.chunks.specs.Cursors.{ahead, readied, past, sought}
-use Rattle.chunks.specs.declared.Cursor.{Cursor}
+use Rattle.chunks.specs.declared.ChunkCursor.{ChunkCursor}
 use Rattle.chunks.specs.declared.Sought.{Sought}
 use Rattle.chunks.proofs.Cursors.{Same, ready-same, ready-valid, past-valid, no-samples, ahead-cons, stands-at}
 use Rattle.chunks.proofs.Finding.{finds, before-holder}
 use Rattle.pairs.specs.Pairs.{pairOf}
 use Rattle.pairs.specs.Walks.{pairsBetween, pairsAhead, At, placeAfter, placePast, StartsAt, AtOnce, pairsAtOnce}
 use Rattle.pairs.specs.declared.Pair.{Pair}
-use Rattle.pairs.specs.declared.Place.{Place}
+use Rattle.pairs.specs.declared.ChunkPosition.{ChunkPosition}
 use Rattle.pairs.proofs.Touched.{is-touched, touched-none, touched-skip}
 use Rattle.pairs.proofs.Wholes.{whole-touched}
 
@@ -46,8 +46,8 @@ pub pair-made : (i j begin per c : ℕ) (zs : List ℕ) (end first b n o : ℕ) 
 unfolding pairOf
 pair-made i j begin per c zs end first b n o e f g h k = rw (k, g, h, f, e)
 
-pub place-made : (stsc : List ℕ) (chunks n : ℕ) (p : Place) (k b : ℕ) (c r : Cursor) → c ≡ past n (p .cursor) → r ≡ readied stsc chunks c
-    → _≡_ {A = Place} (record { cursor = r; chunk = k; begin = b }) (record { cursor = readied stsc chunks (past n (p .cursor)); chunk = k; begin = b })
+pub place-made : (stsc : List ℕ) (chunks n : ℕ) (p : ChunkPosition) (k b : ℕ) (c r : ChunkCursor) → c ≡ past n (p .cursor) → r ≡ readied stsc chunks c
+    → _≡_ {A = ChunkPosition} (record { cursor = r; chunk = k; begin = b }) (record { cursor = readied stsc chunks (past n (p .cursor)); chunk = k; begin = b })
 place-made stsc chunks n p k b c r e f = rw (f, e)
 
 pub past-fits : (begin n per : ℕ) → per < 2 ^ 32 → begin < 2 ^ 32 → ((n ≡ 1 → ⊥) → begin + n * per < 2 ^ 32) → begin + n * per < 2 ^ 64
@@ -58,7 +58,7 @@ past-fits begin n per h g f = elim (ℕ-discrete n 1) [
 
 -- ---- the first place
 
-pub starts : (stsc : List ℕ) (chunks i : ℕ) (f : Sought) (c : Cursor) (b : ℕ) → f ≡ sought stsc chunks i → c ≡ f .cursor → b ≡ i - f .within
+pub starts : (stsc : List ℕ) (chunks i : ℕ) (f : Sought) (c : ChunkCursor) (b : ℕ) → f ≡ sought stsc chunks i → c ≡ f .cursor → b ≡ i - f .within
     → StartsAt stsc chunks i (record { cursor = c; chunk = f .chunk; begin = b })
 starts stsc chunks i f c b o e d =
     let w = finds o in
@@ -99,7 +99,7 @@ replicate-cut (suc n) (suc m) v r h =
     let e : m - n ≡ suc m - suc n = omega arith in
     ap (λ l. v ∷ l) (replicate-cut n m v r (omega arith) ∙ ap (λ (k : ℕ). replicate n v ++ (replicate k v ++ r)) e)
 
-run-cut : (s : List ℕ) (chunks : ℕ) (c : Cursor) (n : ℕ) → n ≤ c .remaining → ahead s chunks c ≡ replicate n (c .per) ++ ahead s chunks (past n c)
+run-cut : (s : List ℕ) (chunks : ℕ) (c : ChunkCursor) (n : ℕ) → n ≤ c .remaining → ahead s chunks c ≡ replicate n (c .per) ++ ahead s chunks (past n c)
 unfolding ahead
 run-cut s chunks c n h = replicate-cut n (c .remaining) (c .per) _ h
 
@@ -107,12 +107,12 @@ at-least : (n v : ℕ) → 0 < n → v ≤ n * v
 at-least zero v h = absurd (omega arith)
 at-least (suc n) v h = omega (arith, suc-mul n v)
 
-one-past : (stsc : List ℕ) (chunks : ℕ) (p : Place) → placePast stsc chunks 1 p ≡ placeAfter stsc chunks p
+one-past : (stsc : List ℕ) (chunks : ℕ) (p : ChunkPosition) → placePast stsc chunks 1 p ≡ placeAfter stsc chunks p
 one-past stsc chunks p =
     let e : p .begin + 1 * p .cursor .per ≡ p .begin + p .cursor .per = omega arith in
     λ k. record { cursor = readied stsc chunks (past 1 (p .cursor)); chunk = p .chunk + 1; begin = e k }
 
-module _ (stsc stsz stco : List ℕ) (chunks i j : ℕ) (p : Place) (w : At stsc chunks i p) where
+module _ (stsc stsz stco : List ℕ) (chunks i j : ℕ) (p : ChunkPosition) (w : At stsc chunks i p) where
   -- no pair lies ahead
   pub at-end : (eqb (p .cursor .remaining) 0 || leb j (p .begin)) ≡ true → pairsAhead stsc stsz stco chunks i j p ≡ []
   at-end e = go (eqb (p .cursor .remaining) 0) refl e
@@ -206,7 +206,7 @@ module _ (stsc stsz stco : List ℕ) (chunks i j : ℕ) (p : Place) (w : At stsc
 
 -- ---- from the first place on
 
-pub from-start : (stsc stsz stco : List ℕ) (chunks i j : ℕ) (p : Place) → StartsAt stsc chunks i p → pairsAhead stsc stsz stco chunks i j p ≡ pairsBetween stsc stsz stco chunks i j
+pub from-start : (stsc stsz stco : List ℕ) (chunks i j : ℕ) (p : ChunkPosition) → StartsAt stsc chunks i p → pairsAhead stsc stsz stco chunks i j p ≡ pairsBetween stsc stsz stco chunks i j
 from-start stsc stsz stco chunks i j p w =
     let ps = perChunk stsc chunks in
     let z : i - 0 ≡ i = omega arith in

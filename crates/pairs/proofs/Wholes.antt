@@ -15,9 +15,9 @@ use Rattle.lists.proofs.Laws.{sum-replicate, pos-of-lt-mul, replicate-drop, rep
 use Rattle.words.specs.Words.{wordsIn, sizes, chunkOffsets}
 use Rattle.words.proofs.Turns.{offsets-in, words-none, words-next, length-words, words-drop, words-take, sizes-listed, sizes-common}
 use Rattle.pairs.specs.Pairs.{pairOf, touched}
-use Rattle.pairs.specs.Walks.{wholes, alike, AtOnce, wholesAt, pairsAtOnce}
+use Rattle.pairs.specs.Walks.{wholes, equalLengthPairs, AtOnce, wholesAt, pairsAtOnce}
 use Rattle.pairs.specs.declared.Pair.{Pair}
-use Rattle.pairs.specs.declared.Place.{Place}
+use Rattle.pairs.specs.declared.ChunkPosition.{ChunkPosition}
 use Rattle.pairs.proofs.Touched.{is-touched, none-between, chunk-sum}
 
 -- ---- a run's chunks, as they are touched
@@ -75,13 +75,13 @@ module _ (stsz : List ℕ) {each : ℕ} (e : each ≡ u32At stsz 12) where
   sizes-cut o {y} k f g = ap wordsIn g ∙ words-drop k y ∙ ap (λ l. drop k (wordsIn l)) f ∙ ap (drop k) (sym (sizes-listed stsz e o))
 
   -- of a common size each chunk has as many bytes
-  pub wholes-common : (each ≡ 0 → ⊥) → (begin per : ℕ) (cs : List ℕ) → begin + length cs * per ≤ u32At stsz 16 → wholes per cs (drop begin (sizes stsz)) ≡ alike (per * each) cs
+  pub wholes-common : (each ≡ 0 → ⊥) → (begin per : ℕ) (cs : List ℕ) → begin + length cs * per ≤ u32At stsz 16 → wholes per cs (drop begin (sizes stsz)) ≡ equalLengthPairs (per * each) cs
   wholes-common o begin per cs h =
       ap (λ l. wholes per cs (drop begin l)) (sizes-common stsz e o)
       ∙ ap (wholes per cs) (replicate-drop (u32At stsz 16) each begin (omega arith))
       ∙ go (u32At stsz 16 - begin) cs (omega arith)
     where
-      go : (m : ℕ) (l : List ℕ) → length l * per ≤ m → wholes per l (replicate m each) ≡ alike (per * each) l
+      go : (m : ℕ) (l : List ℕ) → length l * per ≤ m → wholes per l (replicate m each) ≡ equalLengthPairs (per * each) l
       go m [] k = refl
       go m (c ∷ l) k =
           let a : per ≤ m = omega (arith, suc-mul (length l) per) in
@@ -89,7 +89,7 @@ module _ (stsz : List ℕ) {each : ℕ} (e : each ≡ u32At stsz 12) where
           rw (replicate-take m each per a, replicate-drop m each per a, sum-replicate per each) (ap (λ r. record { offset = c; length = per * each } ∷ r) (go (m - per) l b))
 
 -- both, as they are given for n chunks from a place on
-module _ (stsz stco : List ℕ) (p : Place) (n : ℕ) (h : p .chunk + n ≤ length (chunkOffsets stco)) {part : List ℕ} (f : part ≡ drop 16 stco) where
+module _ (stsz stco : List ℕ) (p : ChunkPosition) (n : ℕ) (h : p .chunk + n ≤ length (chunkOffsets stco)) {part : List ℕ} (f : part ≡ drop 16 stco) where
   pub cut-within : p .chunk * 4 + n * 4 ≤ length part
   cut-within = omega (arith, offsets-there stco f)
 
@@ -102,16 +102,16 @@ module _ (stsz stco : List ℕ) (p : Place) (n : ℕ) (h : p .chunk + n ≤ leng
     listed-given o d g = rw (offsets-cut stco (p .chunk) n f, sizes-cut stsz e o (p .begin) d g)
 
     pub same-given : (each ≡ 0 → ⊥) → ((u32At stsz 12 ≡ 0 → ⊥) → p .begin + n * p .cursor .per ≤ u32At stsz 16)
-        → alike (p .cursor .per * each) (wordsIn (take (p .chunk * 4 + n * 4 - p .chunk * 4) (drop (p .chunk * 4) part))) ≡ wholesAt stsz stco p n
+        → equalLengthPairs (p .cursor .per * each) (wordsIn (take (p .chunk * 4 + n * 4 - p .chunk * 4) (drop (p .chunk * 4) part))) ≡ wholesAt stsz stco p n
     same-given o g =
         let cs = take n (drop (p .chunk) (chunkOffsets stco)) in
         let l : length cs ≡ n = length-take-le n (drop (p .chunk) (chunkOffsets stco)) (omega (arith, length-drop (p .chunk) (chunkOffsets stco))) in
         let k : p .begin + n * p .cursor .per ≤ u32At stsz 16 = g (λ z. o (e ∙ z)) in
-        ap (alike (p .cursor .per * each)) (offsets-cut stco (p .chunk) n f) ∙ sym (wholes-common stsz e o (p .begin) (p .cursor .per) cs (rw l k))
+        ap (equalLengthPairs (p .cursor .per * each)) (offsets-cut stco (p .chunk) n f) ∙ sym (wholes-common stsz e o (p .begin) (p .cursor .per) cs (rw l k))
 
 -- ---- one chunk, or whole ones
 
-module _ (stsz stco : List ℕ) (i j : ℕ) (p : Place) (n : ℕ) where
+module _ (stsz stco : List ℕ) (i j : ℕ) (p : ChunkPosition) (n : ℕ) where
   pub at-once-one : n ≡ 1 → {q : Pair} → q ≡ pairOf i j (p .begin) (p .cursor .per) (getD (chunkOffsets stco) (p .chunk) 0) (sizes stsz) → pairsAtOnce stsz stco i j p n ≡ q ∷ []
   at-once-one z e = rw (eq-eqb n 1 z, e)
 
@@ -129,8 +129,8 @@ module _ (stsz stco : List ℕ) (i j : ℕ) (p : Place) (n : ℕ) where
 -- ---- a turn of such a loop
 
 module _ (t : List ℕ) {offset : ℕ} (e : offset ≡ u32At t 0) (h : 4 ≤ length t) where
-  pub alike-next : (bytes : ℕ) → alike bytes (wordsIn t) ≡ record { offset = offset; length = bytes } ∷ alike bytes (wordsIn (drop 4 t))
-  alike-next bytes = rw e (ap (alike bytes) (words-next t h))
+  pub equal-length-next : (bytes : ℕ) → equalLengthPairs bytes (wordsIn t) ≡ record { offset = offset; length = bytes } ∷ equalLengthPairs bytes (wordsIn (drop 4 t))
+  equal-length-next bytes = rw e (ap (equalLengthPairs bytes) (words-next t h))
 
   pub wholes-next : (per : ℕ) (z : List ℕ) {bytes : ℕ} {y : List ℕ} → bytes ≡ sum (take per (wordsIn z)) → y ≡ drop (per * 4) z
       → wholes per (wordsIn t) (wordsIn z) ≡ record { offset = offset; length = bytes } ∷ wholes per (wordsIn (drop 4 t)) (wordsIn y)
@@ -139,5 +139,5 @@ module _ (t : List ℕ) {offset : ℕ} (e : offset ≡ u32At t 0) (h : 4 ≤ len
 pub wholes-end : (per : ℕ) (t z : List ℕ) → length t < 4 → wholes per (wordsIn t) (wordsIn z) ≡ []
 wholes-end per t z h = ap (λ l. wholes per l (wordsIn z)) (words-none t h)
 
-pub alike-end : (bytes : ℕ) (t : List ℕ) → length t < 4 → alike bytes (wordsIn t) ≡ []
-alike-end bytes t h = ap (alike bytes) (words-none t h)
+pub equal-length-end : (bytes : ℕ) (t : List ℕ) → length t < 4 → equalLengthPairs bytes (wordsIn t) ≡ []
+equal-length-end bytes t h = ap (equalLengthPairs bytes) (words-none t h)

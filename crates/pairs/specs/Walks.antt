@@ -13,7 +13,7 @@ use Rattle.chunks.specs.Chunks.{perChunk}
 use Rattle.chunks.specs.Cursors.{Valid, Stands, ahead, readied, past}
 use Rattle.pairs.specs.Pairs.{pairOf, touched, flat}
 use Rattle.pairs.specs.declared.Pair.{Pair}
-use Rattle.pairs.specs.declared.Place.{Place}
+use Rattle.pairs.specs.declared.ChunkPosition.{ChunkPosition}
 
 -- the pairs of the samples from i up to j, with C chunks; and their lengths
 abbrev pub pairsBetween : List ℕ → List ℕ → List ℕ → ℕ → ℕ → ℕ → List Pair
@@ -43,28 +43,28 @@ pub record Putting (stsc stsz stco : List ℕ) (chunks i j places : ℕ) : Type 
   pub room : 2 * length (pairsBetween stsc stsz stco chunks i j) ≤ places
 
 -- the pairs of the chunks from a place on
-abbrev pub pairsAhead : List ℕ → List ℕ → List ℕ → ℕ → ℕ → ℕ → Place → List Pair
+abbrev pub pairsAhead : List ℕ → List ℕ → List ℕ → ℕ → ℕ → ℕ → ChunkPosition → List Pair
 pairsAhead stsc stsz stco chunks i j p = touched i j (p .begin) (ahead stsc chunks (p .cursor)) (drop (p .chunk) (chunkOffsets stco)) (sizes stsz)
 
 -- a place before a chunk, if one is ahead, whose samples begin at the place's own; sample i does not lie behind that chunk
-pub record At (stsc : List ℕ) (chunks i : ℕ) (p : Place) : Type 0 where
+pub record At (stsc : List ℕ) (chunks i : ℕ) (p : ChunkPosition) : Type 0 where
   pub valid : Valid stsc chunks (p .chunk) (p .cursor)
   pub stands : Stands stsc (p .cursor)
   pub begins : p .begin ≡ before (perChunk stsc chunks) (p .chunk)
   pub reaches : (p .cursor .remaining ≡ 0 → ⊥) → i < p .begin + p .cursor .per
 
 -- before the next chunk
-abbrev pub placeAfter : List ℕ → ℕ → Place → Place
+abbrev pub placeAfter : List ℕ → ℕ → ChunkPosition → ChunkPosition
 placeAfter stsc chunks p =
     record { cursor = readied stsc chunks (past 1 (p .cursor)); chunk = p .chunk + 1; begin = p .begin + p .cursor .per }
 
 -- before the chunk that is n further on in the same run
-abbrev pub placePast : List ℕ → ℕ → ℕ → Place → Place
+abbrev pub placePast : List ℕ → ℕ → ℕ → ChunkPosition → ChunkPosition
 placePast stsc chunks n p =
     record { cursor = readied stsc chunks (past n (p .cursor)); chunk = p .chunk + n; begin = p .begin + n * p .cursor .per }
 
 -- before the chunk of sample i
-pub record StartsAt (stsc : List ℕ) (chunks i : ℕ) (p : Place) : Type 0 where
+pub record StartsAt (stsc : List ℕ) (chunks i : ℕ) (p : ChunkPosition) : Type 0 where
   pub place : p .chunk ≡ holder (perChunk stsc chunks) i
   pub at : At stsc chunks i p
 
@@ -75,27 +75,27 @@ abbrev pub wholes : ℕ → List ℕ → List ℕ → List Pair
 wholes p [] zs = []
 wholes p (c ∷ cs) zs = record { offset = c; length = sum (take p zs) } ∷ wholes p cs (drop p zs)
 
-abbrev pub alike : ℕ → List ℕ → List Pair
-alike bytes cs = map (λ c. record { offset = c; length = bytes }) cs
+abbrev pub equalLengthPairs : ℕ → List ℕ → List Pair
+equalLengthPairs bytes cs = map (λ c. record { offset = c; length = bytes }) cs
 
 -- n chunks of the run at a place are asked for whole; their offsets are there, and their sizes, where these are common
-pub record Whole (stsz stco : List ℕ) (i j : ℕ) (p : Place) (n : ℕ) : Type 0 where
+pub record Whole (stsz stco : List ℕ) (i j : ℕ) (p : ChunkPosition) (n : ℕ) : Type 0 where
   pub from : i ≤ p .begin
   pub to : p .begin + n * p .cursor .per ≤ j
   pub offsets : p .chunk + n ≤ length (chunkOffsets stco)
   pub common : (u32At stsz 12 ≡ 0 → ⊥) → p .begin + n * p .cursor .per ≤ u32At stsz 16
 
 -- n chunks of the run are put at once: one, of whatever is asked for of it, or some whole ones
-pub record AtOnce (stsz stco : List ℕ) (i j : ℕ) (p : Place) (n : ℕ) : Type 0 where
+pub record AtOnce (stsz stco : List ℕ) (i j : ℕ) (p : ChunkPosition) (n : ℕ) : Type 0 where
   pub some : 0 < n
   pub few : n ≤ p .cursor .remaining
   pub whole : (n ≡ 1 → ⊥) → Whole stsz stco i j p n
 
 -- the pairs of these
-abbrev pub wholesAt : List ℕ → List ℕ → Place → ℕ → List Pair
+abbrev pub wholesAt : List ℕ → List ℕ → ChunkPosition → ℕ → List Pair
 wholesAt stsz stco p n = wholes (p .cursor .per) (take n (drop (p .chunk) (chunkOffsets stco))) (drop (p .begin) (sizes stsz))
 
-abbrev pub pairsAtOnce : List ℕ → List ℕ → ℕ → ℕ → Place → ℕ → List Pair
+abbrev pub pairsAtOnce : List ℕ → List ℕ → ℕ → ℕ → ChunkPosition → ℕ → List Pair
 pairsAtOnce stsz stco i j p n =
     cond (eqb n 1) (pairOf i j (p .begin) (p .cursor .per) (getD (chunkOffsets stco) (p .chunk) 0) (sizes stsz) ∷ []) (wholesAt stsz stco p n)
 

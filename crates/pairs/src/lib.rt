@@ -5,7 +5,7 @@ pub mod written;
 
 use bigendian::after;
 use bigendian::u32_at;
-use chunks::Cursor;
+use chunks::ChunkCursor;
 use chunks::pass;
 use chunks::ready;
 use chunks::seek;
@@ -24,7 +24,7 @@ ghost use lib.Seq.{sets};
 ghost use mathlib.Core.List.{[], _∷_};
 ghost use Rattle.lists.specs.Lists.{sum, between};
 ghost use Rattle.pairs.specs.Pairs.{pairOf, flat};
-ghost use Rattle.pairs.specs.Walks.{pairsBetween, lengthsOf, countBetween, chunksTo, Putting, StartsAt, placeAfter, placePast, wholes, alike, AtOnce, wholesAt, pairsAtOnce, Room, Put};
+ghost use Rattle.pairs.specs.Walks.{pairsBetween, lengthsOf, countBetween, chunksTo, Putting, StartsAt, placeAfter, placePast, wholes, equalLengthPairs, AtOnce, wholesAt, pairsAtOnce, Room, Put};
 
 // A range of bytes of the file.
 pub struct Pair {
@@ -33,8 +33,8 @@ pub struct Pair {
 }
 
 // A place before a chunk: a cursor in stsc, the chunk's index, and the index of its first sample.
-pub struct Place {
-    pub cursor: Cursor,
+pub struct ChunkPosition {
+    pub cursor: ChunkCursor,
     pub chunk: u64,
     pub begin: u64,
 }
@@ -52,14 +52,14 @@ fn larger(a: u32, b: u32) -> u32
 }
 
 // Before the chunk of the sample with an index.
-fn start_place(stsc: &[u8], chunks: u32, from: u32) -> Place
+fn start_place(stsc: &[u8], chunks: u32, from: u32) -> ChunkPosition
     requires { ⌜ length (now stsc) < 2 ^ 32 ⌝ }
     ensures { λ r. ⌜ StartsAt (now (stsc .entry)) chunks from r ⌝ }
 {
     let found = seek(stsc, chunks, from);
     let within = found.within;
     let cursor = found.cursor;
-    Place {
+    ChunkPosition {
         cursor,
         chunk: found.chunk,
         begin: words::span(within, from) as u64,
@@ -67,7 +67,7 @@ fn start_place(stsc: &[u8], chunks: u32, from: u32) -> Place
 }
 
 // Before the next chunk.
-fn next_place(stsc: &[u8], chunks: u32, p: Place) -> Place
+fn next_place(stsc: &[u8], chunks: u32, p: ChunkPosition) -> ChunkPosition
     requires { ⌜ (p .begin < 2 ^ 32) × (p .chunk < 2 ^ 63) ⌝ }
     ensures { λ r. ⌜ r ≡ placeAfter (now (stsc .entry)) chunks p ⌝ }
 {
@@ -75,7 +75,7 @@ fn next_place(stsc: &[u8], chunks: u32, p: Place) -> Place
     let per = c.per;
     let chunk = p.chunk;
     let begin = p.begin;
-    Place {
+    ChunkPosition {
         cursor: ready(stsc, chunks, pass(c, 1)),
         chunk: chunk + 1,
         begin: begin + per as u64,
@@ -83,7 +83,7 @@ fn next_place(stsc: &[u8], chunks: u32, p: Place) -> Place
 }
 
 // Whether no sample below `stop` lies ahead.
-fn is_past(p: Place, stop: u32) -> bool
+fn is_past(p: ChunkPosition, stop: u32) -> bool
     ensures { λ r. ⌜ r ≡ (eqb (p .cursor .remaining) 0 || leb stop (p .begin)) ⌝ }
 {
     let c = p.cursor;
@@ -104,7 +104,7 @@ fn bytes_before(stsz: &[u8], begin: u32, first: u32) -> u64
 }
 
 // The pair of the chunk at a place.
-fn pair_at(stsz: &[u8], stco: &[u8], p: Place, from: u32, stop: u32) -> Pair
+fn pair_at(stsz: &[u8], stco: &[u8], p: ChunkPosition, from: u32, stop: u32) -> Pair
     requires { ⌜ p .begin < stop ⌝ }
     ensures { λ r. ⌜ r ≡ pairOf from stop (p .begin) (p .cursor .per) (getD (chunkOffsets (now (stco .entry))) (p .chunk) 0) (sizes (now (stsz .entry))) ⌝ }
 {
@@ -190,7 +190,7 @@ fn whole_chunks(count: u64, per: u32, begin: u64, end: u32) -> u64
 }
 
 // How many chunks of the run at a place are put at once: all that are asked for whole, or one.
-fn chunks_at_once(stsz: &[u8], stco: &[u8], p: Place, from: u32, stop: u32) -> u64
+fn chunks_at_once(stsz: &[u8], stco: &[u8], p: ChunkPosition, from: u32, stop: u32) -> u64
     requires { ⌜ (p .cursor .remaining ≡ 0 → ⊥) × (p .chunk < 2 ^ 63) ⌝ }
     ensures { λ r. ⌜ AtOnce (now (stsz .entry)) (now (stco .entry)) from stop p r ⌝ }
 {
@@ -243,8 +243,8 @@ fn put_listed(offsets: &[u8], sizes: &[u8], per: u32, room: &mut [u32], at: usiz
 
 // The same where each chunk has `bytes` bytes.
 fn put_same(offsets: &[u8], bytes: u64, room: &mut [u32], at: usize) -> u64
-    requires { ⌜ Room (alike bytes (wordsIn (now offsets))) at (length (now room)) ⌝ }
-    ensures { λ r. ⌜ Put (alike bytes (wordsIn (now (offsets .entry)))) (now (room .entry)) at r (now (room .exit)) ⌝ }
+    requires { ⌜ Room (equalLengthPairs bytes (wordsIn (now offsets))) at (length (now room)) ⌝ }
+    ensures { λ r. ⌜ Put (equalLengthPairs bytes (wordsIn (now (offsets .entry)))) (now (room .entry)) at r (now (room .exit)) ⌝ }
 {
     let mut t = offsets;
     let mut k = at;
@@ -264,7 +264,7 @@ fn put_same(offsets: &[u8], bytes: u64, room: &mut [u32], at: usize) -> u64
 }
 
 // Puts the pairs of some whole chunks from a place on.
-fn put_whole(stsz: &[u8], stco: &[u8], p: Place, n: u64, room: &mut [u32], at: usize) -> u64
+fn put_whole(stsz: &[u8], stco: &[u8], p: ChunkPosition, n: u64, room: &mut [u32], at: usize) -> u64
     requires { ⌜ (p .begin < 2 ^ 32) × (p .chunk + n ≤ length (chunkOffsets (now stco))) × ((u32At (now stsz) 12 ≡ 0 → ⊥) → p .begin + n * p .cursor .per ≤ u32At (now stsz) 16) × Room (wholesAt (now stsz) (now stco) p n) at (length (now room)) ⌝ }
     ensures { λ r. ⌜ Put (wholesAt (now (stsz .entry)) (now (stco .entry)) p n) (now (room .entry)) at r (now (room .exit)) ⌝ }
 {
@@ -284,7 +284,7 @@ fn put_whole(stsz: &[u8], stco: &[u8], p: Place, n: u64, room: &mut [u32], at: u
 fn put_chunks(
     stsz: &[u8],
     stco: &[u8],
-    p: Place,
+    p: ChunkPosition,
     n: u64,
     from: u32,
     stop: u32,
@@ -303,7 +303,7 @@ fn put_chunks(
 }
 
 // Before the chunk that is n further on in the same run.
-fn place_past(stsc: &[u8], chunks: u32, p: Place, n: u64) -> Place
+fn place_past(stsc: &[u8], chunks: u32, p: ChunkPosition, n: u64) -> ChunkPosition
     requires { ⌜ (p .chunk + n < 2 ^ 64) × (p .begin < 2 ^ 32) × ((n ≡ 1 → ⊥) → p .begin + n * p .cursor .per < 2 ^ 32) ⌝ }
     ensures { λ r. ⌜ r ≡ placePast (now (stsc .entry)) chunks n p ⌝ }
 {
@@ -311,7 +311,7 @@ fn place_past(stsc: &[u8], chunks: u32, p: Place, n: u64) -> Place
     let per = c.per;
     let chunk = p.chunk;
     let begin = p.begin;
-    Place {
+    ChunkPosition {
         cursor: ready(stsc, chunks, pass(c, n)),
         chunk: chunk + n,
         begin: begin + n * per as u64,

@@ -14,9 +14,9 @@ use Rattle.structure.specs.Track.{profileOf}
 use Rattle.structure.specs.Movie.{moovOf, movieProfile}
 use Rattle.structure.specs.Rows.{orElse}
 use Rattle.movie.specs.Refusals.{fileRefusal}
-use Rattle.movie.specs.Rooms.{noRoom, filled, roomAfter}
+use Rattle.movie.specs.Rooms.{noRoom, filledRoom, roomAfter}
 use Rattle.questions.specs.Asked.{askRefusal, trackAsked}
-use Rattle.profiles.specs.Profiles.{recordNumbers, keptOf, profileAsked, profileNumbers, profileRefusal, profileAnswer, numbersOf, Profiles}
+use Rattle.profiles.specs.Profiles.{recordNumbers, keptOf, profileAsked, profileNumbers, profileRefusal, profileAnswer, profileAnswerNumbers, Profiles}
 use Rattle.profiles.specs.declared.ProfileAnswer.the-variants.{Records, Refused}
 use Rattle.profiles.proofs.Kept.{numbers-length, all-records}
 
@@ -33,7 +33,7 @@ track-asked-profile s t p id n d e = rw (ne-eqb id 0 n) (e ∙ ap profileOf d)
 -- ---- the answers
 
 answered : (s : List ℕ) (id : ℕ) (room after : List ℕ) (r : ℕ) → profileRefusal s id room ≡ r → (r ≡ 0 → ⊥) → after ≡ room → Profiles s id room (Refused r) after
-unfolding profileAnswer numbersOf roomAfter
+unfolding profileAnswer profileAnswerNumbers roomAfter
 answered s id room after r e n d = record { answer = rw (e, ne-eqb r 0 n); numbers = rw (e, ne-eqb r 0 n); places = rw (e, ne-eqb r 0 n) d }
 
 abbrev pub IdRefusal : List ℕ → ℕ → ℕ
@@ -59,7 +59,7 @@ module _ (s : List ℕ) (id : ℕ) (room p : List ℕ) (r n : ℕ) (e : r ≡ Id
       answered s id room room 16 (then-room ∙ rw (lt-ltb (length room) (length (profileNumbers s id)) (omega (arith, numbers-are)))) (λ q. omega arith) refl
 
   pub whole-profile : (after : List ℕ) → n ≤ length room / 3 → after ≡ sets room 0 (recordNumbers (keptOf p)) → Profiles s id room (Records n) after
-  unfolding noRoom profileAnswer numbersOf roomAfter filled profileNumbers
+  unfolding noRoom profileAnswer profileAnswerNumbers roomAfter filledRoom profileNumbers
   whole-profile after h q =
       let w : 3 * n ≤ length room = omega arith in
       let k : profileRefusal s id room ≡ 0 = then-room ∙ rw (le-ltb (length room) (length (profileNumbers s id)) (omega (arith, numbers-are))) in

@@ -51,13 +51,13 @@ profileAnswer s id room =
     cond (eqb (profileRefusal s id room) 0) (Records (length (keptOf (profileAsked s id)))) (Refused (profileRefusal s id room))
 
 -- document 01's number and value for each case of the answer
-unfoldable pub numbersOf : ProfileAnswer → List ℕ
-numbersOf (Records n) = 0 ∷ n ∷ []
-numbersOf (Refused r) = refusedWith 1 r
+unfoldable pub profileAnswerNumbers : ProfileAnswer → List ℕ
+profileAnswerNumbers (Records n) = 0 ∷ n ∷ []
+profileAnswerNumbers (Refused r) = refusedWith 1 r
 
 -- the promise of the question: the answer r, and the room after it
 pub record Profiles (s : List ℕ) (id : ℕ) (room : List ℕ) (r : ProfileAnswer) (after : List ℕ) : Type 0 where
   pub answer : r ≡ profileAnswer s id room
-  pub numbers : numbersOf r
+  pub numbers : profileAnswerNumbers r
       ≡ cond (eqb (profileRefusal s id room) 0) (0 ∷ length (keptOf (profileAsked s id)) ∷ []) (refusedWith 1 (profileRefusal s id room))
   pub places : after ≡ roomAfter (profileRefusal s id room) (profileNumbers s id) room

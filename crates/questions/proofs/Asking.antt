@@ -41,9 +41,9 @@ with-each P id (t ∷ ts) h e = go (eqb (idOf t) id) refl (λ q. with-each P id 
     go true q r = rw q (e 0 (omega arith))
     go false q r = rw q (r q)
 
-has-told : (b : Bool) → _≡_ {A = ℕ} (cond b 0 14) 0 → b ≡ true
-has-told true e = refl
-has-told false e = absurd (omega arith)
+has-known : (b : Bool) → _≡_ {A = ℕ} (cond b 0 14) 0 → b ≡ true
+has-known true e = refl
+has-known false e = absurd (omega arith)
 
 pub record AskedTrack (s : List ℕ) (id : ℕ) : Type 0 where
   pub file : AcceptedFile s
@@ -56,7 +56,7 @@ unfolding askRefusal trackAsked hasTrack trackWith
 asked s id e =
     let n = none-else _ _ e in
     let f = accepted s (n .0) in
-    let h = has-told _ (n .1) in
+    let h = has-known _ (n .1) in
     record {
       file = f;
       has = h;

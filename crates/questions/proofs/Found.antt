@@ -18,7 +18,7 @@ use Rattle.lists.proofs.Places.{holder-holds, holds-below, each-at, before-le}
 use Rattle.runs.specs.Runs as runs
 use Rattle.runs.specs.declared.Timing.{Timing}
 use Rattle.words.specs.Words.{sizes, chunkOffsets, isSync}
-use Rattle.chunks.specs.Chunks.{perChunk, descriptionIds, locatedIn, offsetOf, offsetAt}
+use Rattle.chunks.specs.Chunks.{perChunk, descriptionIds, locatedIn, offsetOf, locatedOffset}
 use Rattle.chunks.specs.declared.Located.{Located}
 use Rattle.chunks.proofs.Agreed.{samples-length}
 use Rattle.chunks.proofs.Finding.{offset-located}
@@ -27,7 +27,7 @@ use Rattle.structure.specs.Track.{tableOf, samplesOf, chunksOf}
 use Rattle.structure.specs.Rows.{orElse}
 use Rattle.structure.proofs.Callers.{none-else}
 use Rattle.track.specs.Track.{trackOf}
-use Rattle.track.specs.Refusals.{contradicts, totalIn, beyond}
+use Rattle.track.specs.Refusals.{contradicts, totalIn, chunkPastEnd}
 use Rattle.track.proofs.Agreed.{agreed-tables}
 use Rattle.questions.specs.Asked.{askRefusal, trackAsked}
 use Rattle.questions.specs.Samples.{sampleOf, sampleRefusal, sampleAnswer, sampleNumbers, Samples, bytesStart, bytesLength, PartOf, SampleBytes}
@@ -56,26 +56,26 @@ module _ (t : List ℕ) (i : ℕ) (e : contradicts t ≡ false) (h : i < samples
       omega (arith, chunk-known)
 
 -- it starts before the total
-pub starts-low : (t x : List ℕ) (i : ℕ) (r : Timing) → x ≡ tableOf stts t → r ≡ runs.timingOf (runs.durations x) i → totalIn t < 4294967296 → r .start < 4294967296
+pub starts-low : (t x : List ℕ) (i : ℕ) (r : Timing) → x ≡ tableOf stts t → r ≡ runs.timingOf (runs.perSample x) i → totalIn t < 4294967296 → r .start < 4294967296
 unfolding totalIn runs.timingOf
-starts-low t x i r e d h = rw (d, e) (omega (arith, before-le (runs.durations (tableOf stts t)) i))
+starts-low t x i r e d h = rw (d, e) (omega (arith, before-le (runs.perSample (tableOf stts t)) i))
 
 pub sample-made : (t x y z o c w : List ℕ) (i n : ℕ) (r : Timing) (shift comp : ℤ) (p : Located) (sync : Bool) (off size : ℕ)
     → i < samplesOf t
-    → x ≡ tableOf stts t → r ≡ runs.timingOf (runs.durations x) i
-    → y ≡ tableOf ctts t → shift ≡ runs.offsetAt y i → comp ≡ pos (r .start) +ℤ shift
+    → x ≡ tableOf stts t → r ≡ runs.timingOf (runs.perSample x) i
+    → y ≡ tableOf ctts t → shift ≡ runs.compositionOffset y i → comp ≡ pos (r .start) +ℤ shift
     → z ≡ tableOf stsz t → o ≡ tableOf stco t → c ≡ tableOf stsc t → n ≡ u32At o 12
     → p ≡ locatedIn (perChunk c n) (descriptionIds c n) i
     → w ≡ tableOf stss t → sync ≡ isSync w (i + 1)
-    → off ≡ offsetAt (chunkOffsets o) (sizes z) p i → size ≡ getD (sizes z) i 0
+    → off ≡ locatedOffset (chunkOffsets o) (sizes z) p i → size ≡ getD (sizes z) i 0
     → _≡_ {A = Sample} (record { decode = r .start; duration = r .duration; composition = comp; sync = sync; description = p .description; chunk = p .chunk + 1; offset = off; size = size }) (sampleOf (trackOf t) i)
 unfolding sampleOf trackOf runs.timingOf locatedIn
 sample-made t x y z o c w i n r shift comp p sync off size h ex er ey es ec ez eo ed en ep ew ek eq em =
     let u : i + 1 ≡ suc i = omega arith in
-    let m : off ≡ offsetOf (perChunk c n) (chunkOffsets o) (sizes z) i = eq ∙ ap (λ q. offsetAt (chunkOffsets o) (sizes z) q i) ep ∙ offset-located (perChunk c n) (descriptionIds c n) (chunkOffsets o) (sizes z) i in
+    let m : off ≡ offsetOf (perChunk c n) (chunkOffsets o) (sizes z) i = eq ∙ ap (λ q. locatedOffset (chunkOffsets o) (sizes z) q i) ep ∙ offset-located (perChunk c n) (descriptionIds c n) (chunkOffsets o) (sizes z) i in
     let ps = perChunk (tableOf stsc t) (chunksOf t) in
     let v : holder ps i + 1 ≡ suc (holder ps i) = omega arith in
-    rw (each-at (λ k. runs.offsetAt (tableOf ctts t) k) (samplesOf t) i (pos 0) h, each-at (λ k. isSync (tableOf stss t) (suc k)) (samplesOf t) i false h)
+    rw (each-at (λ k. runs.compositionOffset (tableOf ctts t) k) (samplesOf t) i (pos 0) h, each-at (λ k. isSync (tableOf stss t) (suc k)) (samplesOf t) i false h)
     (rw (ec, es, ey, m, em, ek, ew, ep, en, ed, eo, er, ex, ez, u, v))
 
 -- ---- the answers
@@ -129,7 +129,7 @@ in-track s id n e =
 
 within-file : (s : List ℕ) (id n : ℕ) → sampleRefusal s id n ≡ 0
     → sampleOf (trackOf (trackAsked s id)) (n - 1) .offset + sampleOf (trackOf (trackAsked s id)) (n - 1) .size ≤ length s
-unfolding sampleOf trackOf beyond
+unfolding sampleOf trackOf chunkPastEnd
 within-file s id n e =
     let t = trackAsked s id in
     let q = in-track s id n e in
@@ -183,7 +183,7 @@ asked-low s id n e =
     let q = in-track s id n e in
     let a = asked s id (q .0) in
     record {
-      decode = omega (arith, before-le (runs.durations (tableOf stts t)) (n - 1), a .track .total-fits);
+      decode = omega (arith, before-le (runs.perSample (tableOf stts t)) (n - 1), a .track .total-fits);
       chunk = omega (arith, chunk-known t (n - 1) (a .track .agree) (q .1), a .track .shape .few-chunks);
       offset = omega (arith, within-file s id n e, a .file .shape .short);
     }

@@ -9,10 +9,10 @@ use lib.ListN.{length}
 use Rattle.atoms.specs.Kinds.{stts}
 use Rattle.lists.specs.Lists.{sum, holder}
 use Rattle.lists.proofs.Places.{holds-below, holder-only}
-use Rattle.runs.specs.Runs.{durations, sampleAt}
-use Rattle.runs.specs.declared.Found.{Found}
-use Rattle.runs.specs.declared.Found.the-variants.{At, Outside}
-use Rattle.runs.proofs.Sentences.{sample-holds, outside-told}
+use Rattle.runs.specs.Runs.{perSample, sampleAt}
+use Rattle.runs.specs.declared.Lookup.{Lookup}
+use Rattle.runs.specs.declared.Lookup.the-variants.{At, Outside}
+use Rattle.runs.proofs.Sentences.{sample-holds, outside-known}
 use Rattle.edits.specs.Edits.{mediaAt}
 use Rattle.edits.specs.declared.MediaTime.{MediaTime}
 use Rattle.edits.specs.declared.MovieTime.{MovieTime}
@@ -73,30 +73,30 @@ pub no-track-at : (s : List ℕ) (id : ℕ) (t : MediaTime) (r : ℕ) → r ≡ 
 unfolding atRefusal orElse
 no-track-at s id t r e n = refused-at s id t r (rw (← e, ne-eqb r 0 n)) n
 
-module _ (s k x : List ℕ) (id : ℕ) (t : MediaTime) (r : ℕ) (e : r ≡ askRefusal s id) (z : r ≡ 0) (d : k ≡ trackAsked s id) (g : x ≡ tableOf stts k) (f : Found)
-    (h : f ≡ sampleAt (durations x) (t .0)) where
-  same : durations x ≡ trackOf (trackAsked s id) .durations
+module _ (s k x : List ℕ) (id : ℕ) (t : MediaTime) (r : ℕ) (e : r ≡ askRefusal s id) (z : r ≡ 0) (d : k ≡ trackAsked s id) (g : x ≡ tableOf stts k) (f : Lookup)
+    (h : f ≡ sampleAt (perSample x) (t .0)) where
+  same : perSample x ≡ trackOf (trackAsked s id) .durations
   unfolding trackOf
   same = rw (g, d)
 
   pub outside-at : f ≡ Outside → SampleAt s id t (Refused 15)
   unfolding atRefusal orElse
   outside-at q =
-      let w = outside-told (durations x) (t .0) (sym h ∙ q) in
-      refused-at s id t 15 (rw (← e, eq-eqb r 0 z, ← same, le-ltb (t .0) (sum (durations x)) w)) (λ y. omega arith)
+      let w = outside-known (perSample x) (t .0) (sym h ∙ q) in
+      refused-at s id t 15 (rw (← e, eq-eqb r 0 z, ← same, le-ltb (t .0) (sum (perSample x)) w)) (λ y. omega arith)
 
   module _ (i : ℕ) (q : f ≡ At i) where
     pub few-at : i < 1048576
     few-at =
         let a = asked-track s k id r e z d in
-        let b = holds-below (durations x) (t .0) i (sample-holds (durations x) (t .0) i (sym h ∙ q)) in
-        omega (arith, b .1, a .shape .few-samples, agreed-tables k (a .agree) .counted, ap (λ (l : List ℕ). length (durations l)) g)
+        let b = holds-below (perSample x) (t .0) i (sample-holds (perSample x) (t .0) i (sym h ∙ q)) in
+        omega (arith, b .1, a .shape .few-samples, agreed-tables k (a .agree) .counted, ap (λ (l : List ℕ). length (perSample l)) g)
 
     pub found-at : (n : ℕ) → n ≡ i + 1 → SampleAt s id t (Number n)
     unfolding atRefusal atNumber atAnswer numberNumbers orElse
     found-at n y =
-        let o = sample-holds (durations x) (t .0) i (sym h ∙ q) in
-        let b = holds-below (durations x) (t .0) i o in
-        let c : atRefusal s id t ≡ 0 = rw (← e, eq-eqb r 0 z, ← same, lt-ltb (t .0) (sum (durations x)) (b .0)) in
-        let u : n ≡ suc (holder (durations x) (t .0)) = omega (arith, y, holder-only (durations x) (t .0) i o) in
+        let o = sample-holds (perSample x) (t .0) i (sym h ∙ q) in
+        let b = holds-below (perSample x) (t .0) i o in
+        let c : atRefusal s id t ≡ 0 = rw (← e, eq-eqb r 0 z, ← same, lt-ltb (t .0) (sum (perSample x)) (b .0)) in
+        let u : n ≡ suc (holder (perSample x) (t .0)) = omega (arith, y, holder-only (perSample x) (t .0) i o) in
         record { answer = rw (c, ← same, ← u); numbers = rw (c, ← same, ← u) }

@@ -52,7 +52,7 @@ fn sample_in(trak: &[u8], index: u32) -> Sample
 {
     let timing = timing_of(table(trak, kinds::STTS), index);
     let start = timing.start;
-    let shift = runs::offset_at(table(trak, kinds::CTTS), index);
+    let shift = runs::composition_offset(table(trak, kinds::CTTS), index);
     let stsz = table(trak, kinds::STSZ);
     let stco = table(trak, kinds::STCO);
     let place = locate(table(trak, kinds::STSC), u32_at(stco, 12), index);
@@ -63,7 +63,7 @@ fn sample_in(trak: &[u8], index: u32) -> Sample
         sync: is_sync(table(trak, kinds::STSS), index + 1),
         description: place.description,
         chunk: place.chunk + 1,
-        offset: chunks::offset_at(stsz, stco, place, index),
+        offset: chunks::located_offset(stsz, stco, place, index),
         size: size_of(stsz, index),
     }
 }

@@ -6,7 +6,7 @@ use edits::Mapped;
 use edits::MediaTime;
 use edits::MovieTime;
 use edits::media_at;
-use runs::Found;
+use runs::Lookup;
 use structure::moov::moov_body;
 use structure::moov::movie_scale;
 use structure::trak::edit_list;
@@ -33,8 +33,8 @@ pub fn sample_at_time(file: &[u8], id: u32, t: MediaTime) -> NumberAnswer
     let trak = track_asked(file, id);
     let time = t.0;
     match runs::sample_at(table(trak, kinds::STTS), time) {
-        Found::At(index) => NumberAnswer::Number((index + 1) as u32),
-        Found::Outside => NumberAnswer::Refused(15),
+        Lookup::At(index) => NumberAnswer::Number((index + 1) as u32),
+        Lookup::Outside => NumberAnswer::Refused(15),
     }
 }
 

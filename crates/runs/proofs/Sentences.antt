@@ -16,8 +16,8 @@ use Rattle.bigendian.proofs.Halves.{signed-low}
 use Rattle.lists.specs.Lists.{sum, Run, expand, holder, Holds}
 use Rattle.lists.proofs.Laws.{length-run}
 use Rattle.lists.proofs.Places.{holder-holds, holder-only, holds-below}
-use Rattle.runs.specs.declared.Found.the-variants.{At, Outside}
-use Rattle.runs.specs.Runs.{runsOf, durations, offsetAt, counting, sampleAt, lesserOf, leastOf}
+use Rattle.runs.specs.declared.Lookup.the-variants.{At, Outside}
+use Rattle.runs.specs.Runs.{runsOf, perSample, compositionOffset, counting, sampleAt, lesserOf, leastOf}
 use Rattle.runs.proofs.Leasts.{lesser-none, lesser-other, lesser-both}
 use Rattle.runs.proofs.Turns.{spread-in, at-end}
 
@@ -36,12 +36,12 @@ each-next : (r : Run) (rs : List Run) → 0 < r .count → ((i : ℕ) → i < le
 each-next r rs p f zero h = p
 each-next r rs p f (suc i) h = f i (omega arith)
 
-pub counting-told : (n : ℕ) (rs : List Run) → counting n rs ≡ true → Counted n rs
-counting-told n [] e = record { each = λ i h. absurd (omega arith); all = sym (eqb-true n 0 e) }
-counting-told n (r ∷ rs) e =
+pub counting-known : (n : ℕ) (rs : List Run) → counting n rs ≡ true → Counted n rs
+counting-known n [] e = record { each = λ i h. absurd (omega arith); all = sym (eqb-true n 0 e) }
+counting-known n (r ∷ rs) e =
     let p = neither (eqb (r .count) 0) (cond (ltb n (r .count)) false (counting (n - r .count) rs)) e in
     let q = neither (ltb n (r .count)) (counting (n - r .count) rs) (p .1) in
-    let ih = counting-told (n - r .count) rs (q .1) in
+    let ih = counting-known (n - r .count) rs (q .1) in
     let z = eqb-false (r .count) 0 (p .0) in
     record {
       each = each-next r rs (omega arith) (ih .each);
@@ -58,14 +58,14 @@ counting-only n (r ∷ rs) c =
     (counting-only (n - r .count) rs (record { each = λ i h. c .each (suc i) (omega arith); all = omega (arith, l, c .all) }))
 
 -- a table that counts n samples has n durations
-pub counted-length : (n : ℕ) (s : List ℕ) → counting n (runsOf s) ≡ true → length (durations s) ≡ n
-unfolding durations
-counted-length n s e = counting-told n (runsOf s) e .all
+pub counted-length : (n : ℕ) (s : List ℕ) → counting n (runsOf s) ≡ true → length (perSample s) ≡ n
+unfolding perSample
+counted-length n s e = counting-known n (runsOf s) e .all
 
 -- ---- "0 without ctts"
 
-pub offset-absent : (i : ℕ) → offsetAt [] i ≡ pos 0
-unfolding offsetAt
+pub offset-absent : (i : ℕ) → compositionOffset [] i ≡ pos 0
+unfolding compositionOffset
 offset-absent i = ap signed32 (ap (λ x. getD x i 0) (sym (spread-in [])) ∙ at-end [] i (lit< tt)) ∙ signed-low 0 (lit< tt)
 
 -- ---- "the n with decode time ≤ t < decode time plus duration"
@@ -89,8 +89,8 @@ sample-holds ds t i e = elim (decLt t (sum ds)) [
 pub sample-only : (ds : List ℕ) (t i : ℕ) → Holds ds t i → sampleAt ds t ≡ At i
 sample-only ds t i h = sample-in ds t (holds-below ds t i h .0) ∙ ap At (sym (holder-only ds t i h))
 
-pub outside-told : (ds : List ℕ) (t : ℕ) → sampleAt ds t ≡ Outside → sum ds ≤ t
-outside-told ds t e = elim (decLt t (sum ds)) [
+pub outside-known : (ds : List ℕ) (t : ℕ) → sampleAt ds t ≡ Outside → sum ds ≤ t
+outside-known ds t e = elim (decLt t (sum ds)) [
   | yes l ↦ let o = sample-in ds t l in let z : _≡_ {A = ℕ} 0 1 = cc in absurd (omega arith)
   | no l ↦ omega arith
 ]

@@ -13,7 +13,7 @@ use Rattle.lists.specs.Lists.{expand}
 use Rattle.lists.specs.Entries.{entries}
 use Rattle.lists.proofs.Laws.{getD-in, getD-past}
 use Rattle.lists.proofs.Rows.{rows-none, rows-next}
-use Rattle.runs.specs.Runs.{runOf, runsIn, runsOf, durations, counting}
+use Rattle.runs.specs.Runs.{runOf, runsIn, runsOf, perSample, counting}
 
 -- a table's runs are those of what follows its head
 pub runs-in : (s : List ℕ) → runsOf s ≡ runsIn (drop 16 s)
@@ -31,8 +31,8 @@ runs-next t h =
     ∙ (λ i. record { count = beAt-take 4 8 t 0 (lit≤ tt) i; value = beAt-take 4 8 t 4 (lit≤ tt) i } ∷ runsIn (drop 8 t))
 
 -- one number for each sample: those of what follows the head; none of a part without a run; and the first run's, before those of the rest
-pub spread-in : (s : List ℕ) → expand (runsIn (drop 16 s)) ≡ durations s
-unfolding durations
+pub spread-in : (s : List ℕ) → expand (runsIn (drop 16 s)) ≡ perSample s
+unfolding perSample
 spread-in s = ap expand (sym (runs-in s))
 
 pub spread-none : (t : List ℕ) → length t < 8 → expand (runsIn t) ≡ []

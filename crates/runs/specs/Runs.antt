@@ -8,8 +8,8 @@ use lib.IntN.{ℤ}
 use Rattle.bigendian.specs.BigEndian.{u32At, signed32}
 use Rattle.lists.specs.Lists.{sum, before, Run, expand, holder}
 use Rattle.lists.specs.Entries.{rowsOf, entries}
-use Rattle.runs.specs.declared.Found.{Found}
-use Rattle.runs.specs.declared.Found.the-variants.{At, Outside}
+use Rattle.runs.specs.declared.Lookup.{Lookup}
+use Rattle.runs.specs.declared.Lookup.the-variants.{At, Outside}
 use Rattle.runs.specs.declared.Timing.{Timing}
 
 -- an entry: how many samples, and the number that each of them has
@@ -25,12 +25,12 @@ unfoldable pub runsOf : List ℕ → List Run
 runsOf s = map runOf (entries 16 8 s)
 
 -- one number for each sample: its duration, in stts
-unfoldable pub durations : List ℕ → List ℕ
-durations s = expand (runsOf s)
+unfoldable pub perSample : List ℕ → List ℕ
+perSample s = expand (runsOf s)
 
 -- the composition offset of the sample with index i, from 0: signed, in ctts; 0 without the table
-unfoldable pub offsetAt : List ℕ → ℕ → ℤ
-offsetAt s i = signed32 (getD (durations s) i 0)
+unfoldable pub compositionOffset : List ℕ → ℕ → ℤ
+compositionOffset s i = signed32 (getD (perSample s) i 0)
 
 -- whether no run counts 0 samples and all of them total n; `proofs/Sentences.antt` says it without the subtraction (`Counted`)
 abbrev pub counting : ℕ → List Run → Bool
@@ -39,7 +39,7 @@ counting n (r ∷ rs) = cond (eqb (r .count) 0) false (cond (ltb n (r .count)) f
 
 -- the index, from 0, of the sample whose media times hold t: "decode time ≤ t < decode time plus duration". There is one where t is below the total, and only one
 -- (`sample-holds` and `sample-only` of `proofs/Sentences.antt`)
-unfoldable pub sampleAt : List ℕ → ℕ → Found
+unfoldable pub sampleAt : List ℕ → ℕ → Lookup
 sampleAt ds t = cond (ltb t (sum ds)) (At (holder ds t)) Outside
 
 -- the decode time ("sum of durations before it") and the duration of the sample with index i, from 0

@@ -9,7 +9,7 @@ ghost use lib.ListN.{length, replicate};
 ghost use lib.Signed.{mag};
 ghost use Rattle.lists.specs.Lists.{sum};
 ghost use Rattle.lists.specs.Totals.{totalOf};
-ghost use Rattle.runs.specs.Runs.{runsOf, durations, offsetAt, counting, sampleAt, timingOf, lesserOf, leastOf};
+ghost use Rattle.runs.specs.Runs.{runsOf, perSample, compositionOffset, counting, sampleAt, timingOf, lesserOf, leastOf};
 
 // Whether no entry counts 0 samples and all of them total `samples`.
 pub fn counts(table: &[u8], samples: u32) -> bool
@@ -34,7 +34,7 @@ pub fn counts(table: &[u8], samples: u32) -> bool
 
 // The sum of the durations.
 pub fn total_duration(stts: &[u8]) -> Total
-    ensures { λ r. ⌜ r ≡ totalOf (sum (durations (now (stts .entry)))) ⌝ }
+    ensures { λ r. ⌜ r ≡ totalOf (sum (perSample (now (stts .entry)))) ⌝ }
 {
     let part = after(stts, 16);
     let mut t = part;
@@ -52,7 +52,7 @@ pub fn total_duration(stts: &[u8]) -> Total
 }
 
 // Where a media time falls.
-pub enum Found {
+pub enum Lookup {
     At(u64),
     Outside,
 }
@@ -68,9 +68,9 @@ fn quotient(n: u64, d: u64) -> u64
 }
 
 // The sample whose media times hold t.
-pub fn sample_at(stts: &[u8], t: u32) -> Found
+pub fn sample_at(stts: &[u8], t: u32) -> Lookup
     requires { ⌜ length (now stts) < 2 ^ 32 ⌝ }
-    ensures { λ r. ⌜ r ≡ sampleAt (durations (now (stts .entry))) t ⌝ }
+    ensures { λ r. ⌜ r ≡ sampleAt (perSample (now (stts .entry))) t ⌝ }
 {
     let part = after(stts, 16);
     let mut s = part;
@@ -81,13 +81,13 @@ pub fn sample_at(stts: &[u8], t: u32) -> Found
         let each = u32_at(s, 4) as u64;
         let span = count * each;
         if rest < span {
-            return Found::At(passed + quotient(rest, each));
+            return Lookup::At(passed + quotient(rest, each));
         }
         rest -= span;
         passed += count;
         s = &s[8..];
     }
-    Found::Outside
+    Lookup::Outside
 }
 
 // A sample's decode time and duration.
@@ -98,7 +98,7 @@ pub struct Timing {
 
 // The times of the sample with an index; past the last sample the sum of all durations, and 0.
 pub fn timing_of(stts: &[u8], index: u32) -> Timing
-    ensures { λ r. ⌜ r ≡ timingOf (durations (now (stts .entry))) index ⌝ }
+    ensures { λ r. ⌜ r ≡ timingOf (perSample (now (stts .entry))) index ⌝ }
 {
     let part = after(stts, 16);
     let mut t = part;
@@ -122,8 +122,8 @@ pub fn timing_of(stts: &[u8], index: u32) -> Timing
 
 // The composition offset of the sample with an index: 0 past the last, and without ctts. The bound follows from the
 // equation; callers add the offset to a decode time and need it.
-pub fn offset_at(ctts: &[u8], index: u32) -> i64
-    ensures { λ r. ⌜ (r ≡ offsetAt (now (ctts .entry)) index) × (mag r < 2 ^ 31) ⌝ }
+pub fn composition_offset(ctts: &[u8], index: u32) -> i64
+    ensures { λ r. ⌜ (r ≡ compositionOffset (now (ctts .entry)) index) × (mag r < 2 ^ 31) ⌝ }
 {
     let part = after(ctts, 16);
     let mut t = part;
@@ -153,7 +153,7 @@ fn lesser(a: u32, b: u32) -> u32
 }
 
 // The least duration of a run that is not 0; a run of no samples has none.
-fn told(count: u32, each: u32) -> u32
+fn least_of_run(count: u32, each: u32) -> u32
     ensures { λ r. ⌜ r ≡ leastOf (replicate count each) ⌝ }
 {
     if count == 0 { 0 } else { each }
@@ -161,13 +161,13 @@ fn told(count: u32, each: u32) -> u32
 
 // The least duration that is not 0; 0 where there is none.
 pub fn least_duration(stts: &[u8]) -> u32
-    ensures { λ r. ⌜ r ≡ leastOf (durations (now (stts .entry))) ⌝ }
+    ensures { λ r. ⌜ r ≡ leastOf (perSample (now (stts .entry))) ⌝ }
 {
     let part = after(stts, 16);
     let mut t = part;
     let mut least: u32 = 0;
     while 8 <= t.len() {
-        least = lesser(least, told(u32_at(t, 0), u32_at(t, 4)));
+        least = lesser(least, least_of_run(u32_at(t, 0), u32_at(t, 4)));
         t = &t[8..];
     }
     least

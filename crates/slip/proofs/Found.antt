@@ -12,15 +12,15 @@ use lib.ListN.{length, getD, drop, length-append, drop-of-length-le, List·getD-
 use borrow.Author.Tests.{ltb-true, leb-true, eqb-true, lt-ltb, le-ltb, le-leb, eq-eqb, ne-eqb}
 use Rattle.leb128.specs.Numbers.{groups, writes, Below}
 use Rattle.leb128.specs.Reading.{limit, readAt}
-use Rattle.slip.specs.Slip.{slipBytes, Outcome, accepted, malformed, slipIn, Rules, IsSlip, numbersOf, numbersFor, roomFor, Reads}
-use Rattle.slip.specs.Steps.{allowed, Run, all, stopped, run, checkedOf, valuesFrom, afterPairs, afterHead, restIn, byForm, foundIn}
+use Rattle.slip.specs.Slip.{slipBytes, Outcome, accepted, malformed, slipIn, Rules, IsSlip, slipReadNumbers, numbersFor, roomFor, Reads}
+use Rattle.slip.specs.Steps.{allowed, NumberRun, all, stopped, run, checkedOf, valuesFrom, afterPairs, afterHead, restIn, byForm, scanIn}
 use Rattle.slip.specs.declared.Head.{Head}
 use Rattle.leb128.specs.declared.number.NumberRead.{NumberRead}
 use Rattle.leb128.specs.declared.number.NumberRead.the-variants.{Good, Broken, Short}
 use Rattle.slip.specs.declared.read.Checked.{Checked}
 use Rattle.slip.specs.declared.read.Checked.the-variants.{All, Stopped}
-use Rattle.slip.specs.declared.read.Found.{Found}
-use Rattle.slip.specs.declared.read.Found.the-variants.{Slip, Malformed}
+use Rattle.slip.specs.declared.read.SlipScan.{SlipScan}
+use Rattle.slip.specs.declared.read.SlipScan.the-variants.{Slip, Malformed}
 use Rattle.slip.specs.declared.read.SlipRead.{SlipRead}
 use Rattle.slip.specs.declared.read.SlipRead.the-variants.{Accepted, NoRoom}
 use Rattle.leb128.proofs.Groups.{number-written}
@@ -81,7 +81,7 @@ unfolding writes
 head-first h pairs = simp (append-assoc, append-nil)
 
 -- that what is found is the rest of a slip
-abbrev Says : ℕ → ℕ → List ℕ → ℕ → Found → Type 0
+abbrev Says : ℕ → ℕ → List ℕ → ℕ → SlipScan → Type 0
 Says k top bs from (Slip h at) = IsRest k top bs from h (valuesFrom k top bs (2 * h .pairs) at)
 Says k top bs from (Malformed p) = Unit {0}
 
@@ -137,11 +137,11 @@ module _ (k top : ℕ) (t : top ≤ 128) where
           (subst (IsRest k top bs from (headOf ns)) v (both-ran k top bs ns ps from at′ end r₁ (run-ran k top bs (2 * getD ns 4 0) 6 0 at′ ps end p t nine are r) (eqb-true end (length bs) f)))
       go₃ ns ps at′ end r₁ r false f e′ = absurd (let z : _≡_ {A = ℕ} 0 1 = cc in omega arith)
 
-      go₂ : (ns : List ℕ) (at′ : ℕ) → Ran k top bs 5 1 0 from ns at′ → (u : Run) → run k top bs (2 * getD ns 4 0) 6 0 at′ ≡ u → afterPairs bs ns at′ u ≡ Slip h at → Goal
+      go₂ : (ns : List ℕ) (at′ : ℕ) → Ran k top bs 5 1 0 from ns at′ → (u : NumberRun) → run k top bs (2 * getD ns 4 0) 6 0 at′ ≡ u → afterPairs bs ns at′ u ≡ Slip h at → Goal
       go₂ ns at′ r₁ (all ps end) f e′ = go₃ ns ps at′ end r₁ f (eqb end (length bs)) refl e′
       go₂ ns at′ r₁ (stopped x) f e′ = absurd (let z : _≡_ {A = ℕ} 0 1 = cc in omega arith)
 
-      go₁ : (u : Run) → run k top bs 5 1 0 from ≡ u → afterHead k top bs u ≡ Slip h at → Goal
+      go₁ : (u : NumberRun) → run k top bs 5 1 0 from ≡ u → afterHead k top bs u ≡ Slip h at → Goal
       go₁ (all ns at′) f e′ = go₂ ns at′ (run-ran k top bs 5 1 0 from ns at′ p t nine are f) (run k top bs (2 * getD ns 4 0) 6 0 at′) refl e′
       go₁ (stopped x) f e′ = absurd (let z : _≡_ {A = ℕ} 0 1 = cc in omega arith)
 
@@ -160,7 +160,7 @@ module _ (k top : ℕ) (bs : List ℕ) (from at : ℕ) (first : Checked) (is : f
   abbrev hs : List ℕ
   hs = valuesFrom k top bs 5 from
 
-  by-pairs : (u : Run) → run k top bs (2 * getD hs 4 0) 6 0 at ≡ u → restIn k top bs from ≡ afterPairs bs hs at u
+  by-pairs : (u : NumberRun) → run k top bs (2 * getD hs 4 0) 6 0 at ≡ u → restIn k top bs from ≡ afterPairs bs hs at u
   unfolding restIn afterHead
   by-pairs u f =
       let r = checked-all (run k top bs 5 1 0 from) at (sym whole ∙ is) in
@@ -188,31 +188,31 @@ module _ (k top : ℕ) (bs : List ℕ) (from at : ℕ) (first : Checked) (is : f
 -- ---- what `find_slip` answers, by what the form is
 
 module _ (bs : List ℕ) (r : NumberRead) (is : r ≡ readAt 4 16 bs 0) where
-  by-form : (u : NumberRead) → r ≡ u → foundIn bs ≡ byForm bs u
-  unfolding foundIn
+  by-form : (u : NumberRead) → r ≡ u → scanIn bs ≡ byForm bs u
+  unfolding scanIn
   by-form u q = ap (byForm bs) (sym is ∙ q)
 
-  pub form-one : (n next : ℕ) → r ≡ Good n next → n ≡ 1 → foundIn bs ≡ restIn 4 16 bs next
+  pub form-one : (n next : ℕ) → r ≡ Good n next → n ≡ 1 → scanIn bs ≡ restIn 4 16 bs next
   unfolding byForm
   form-one n next q e = by-form (Good n next) q ∙ rw (eq-eqb n 1 e)
 
-  pub form-other : (n next : ℕ) → r ≡ Good n next → (n ≡ 1 → ⊥) → foundIn bs ≡ Malformed 0
+  pub form-other : (n next : ℕ) → r ≡ Good n next → (n ≡ 1 → ⊥) → scanIn bs ≡ Malformed 0
   unfolding byForm
   form-other n next q ne = by-form (Good n next) q ∙ rw (ne-eqb n 1 ne)
 
-  pub form-broken : (p : ℕ) → r ≡ Broken p → foundIn bs ≡ Malformed p
+  pub form-broken : (p : ℕ) → r ≡ Broken p → scanIn bs ≡ Malformed p
   unfolding byForm
   form-broken p q = by-form (Broken p) q
 
-  pub form-short : (p : ℕ) → r ≡ Short p → foundIn bs ≡ Malformed p
+  pub form-short : (p : ℕ) → r ≡ Short p → scanIn bs ≡ Malformed p
   unfolding byForm
   form-short p q = by-form (Short p) q
 
 -- ---- the form and what follows it
 
 -- a slip's bytes are found as it
-found-read : (bs : List ℕ) (h : Head) (pairs : List ℕ) → IsSlip bs h pairs → (at : ℕ) × (foundIn bs ≡ Slip h at)
-unfolding foundIn byForm slipBytes writes limit
+found-read : (bs : List ℕ) (h : Head) (pairs : List ℕ) → IsSlip bs h pairs → (at : ℕ) × (scanIn bs ≡ Slip h at)
+unfolding scanIn byForm slipBytes writes limit
 found-read bs h pairs s = (length (groups 1) + length (writes (head h)), rw (s .bytes) (ap (byForm all-bytes) form ∙ rest-read 4 16 (lit≤ tt) (omega arith) (omega arith) (groups 1) (length (groups 1)) h pairs refl (s .rules)))
   where
     rest : List ℕ
@@ -225,8 +225,8 @@ found-read bs h pairs s = (length (groups 1) + length (writes (head h)), rw (s .
     form = read-groups 4 16 1 [] rest 0 (lit≤ tt) (omega arith) (omega arith) refl ∙ rw zero-add
 
 -- what is found as a slip is that slip's bytes
-found-only : (bs : List ℕ) (h : Head) (at : ℕ) → ((x : ℕ) → getD bs x 0 < 256) → foundIn bs ≡ Slip h at → IsSlip bs h (valuesFrom 4 16 bs (2 * h .pairs) at)
-unfolding foundIn byForm slipBytes writes limit groups
+found-only : (bs : List ℕ) (h : Head) (at : ℕ) → ((x : ℕ) → getD bs x 0 < 256) → scanIn bs ≡ Slip h at → IsSlip bs h (valuesFrom 4 16 bs (2 * h .pairs) at)
+unfolding scanIn byForm slipBytes writes limit groups
 found-only bs h at are e = go (readAt 4 16 bs 0) refl e
   where
     Goal : Type 0
@@ -251,7 +251,7 @@ found-only bs h at are e = go (readAt 4 16 bs 0) refl e
 
 -- ---- what `find_slip` answers, in the words of `specs/Slip.antt`
 
-module _ (bs : List ℕ) (are : (x : ℕ) → getD bs x 0 < 256) (r : Found) (is : r ≡ foundIn bs) where
+module _ (bs : List ℕ) (are : (x : ℕ) → getD bs x 0 < 256) (r : SlipScan) (is : r ≡ scanIn bs) where
   pub found-accepted : (h : Head) (at : ℕ) → r ≡ Slip h at → slipIn bs ≡ accepted h (valuesFrom 4 16 bs (2 * h .pairs) at)
   found-accepted h at q = slip-read bs h (valuesFrom 4 16 bs (2 * h .pairs) at) (found-only bs h at are (sym is ∙ q))
 
@@ -265,18 +265,18 @@ module _ (bs : List ℕ) (are : (x : ℕ) → getD bs x 0 < 256) (r : Found) (is
 -- ---- the answer and the room, in each of the three cases
 
 pub reads-malformed : (bs room : List ℕ) → slipIn bs ≡ malformed → Reads bs room SlipRead.Malformed room
-unfolding numbersOf numbersFor roomFor
+unfolding slipReadNumbers numbersFor roomFor
 reads-malformed bs room e = record { numbers = sym (ap (numbersFor (length room)) e); places = sym (ap (roomFor room) e) }
 
 module _ (bs room : List ℕ) (h : Head) (ps : List ℕ) (e : slipIn bs ≡ accepted h ps) (n : length ps ≡ 2 * h .pairs) where
   pub reads-no-room : length room < 2 * h .pairs → Reads bs room NoRoom room
-  unfolding numbersOf numbersFor roomFor
+  unfolding slipReadNumbers numbersFor roomFor
   reads-no-room s =
       let short = lt-ltb (length room) (2 * h .pairs) s in
       record { numbers = sym (ap (numbersFor (length room)) e ∙ rw (n, short)); places = sym (ap (roomFor room) e ∙ rw (n, short)) }
 
   pub reads-accepted : 2 * h .pairs ≤ length room → (after : List ℕ) → after ≡ ps ++ drop (2 * h .pairs) room → Reads bs room (Accepted h) after
-  unfolding numbersOf numbersFor roomFor
+  unfolding slipReadNumbers numbersFor roomFor
   reads-accepted s after f =
       let enough = le-ltb (length room) (2 * h .pairs) s in
       record { numbers = sym (ap (numbersFor (length room)) e ∙ rw (n, enough)); places = f ∙ sym (ap (roomFor room) e ∙ rw (n, enough)) }

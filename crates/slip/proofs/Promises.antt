@@ -11,7 +11,7 @@ use lib.ListN.{length, take, drop}
 use lib.Seq.{take-at}
 use lib.Dec.{ltb}
 use borrow.Author.Tests.{lt-ltb, le-ltb, ltb-true, ltb-false}
-use Rattle.slip.specs.Slip.{headNumbers, slipBytes, Outcome, accepted, malformed, slipIn, Rules, IsSlip, numbersOf, numbersFor, roomFor, Reads}
+use Rattle.slip.specs.Slip.{headNumbers, slipBytes, Outcome, accepted, malformed, slipIn, Rules, IsSlip, slipReadNumbers, numbersFor, roomFor, Reads}
 use Rattle.slip.specs.declared.Head.{Head}
 use Rattle.slip.specs.declared.read.SlipRead.{SlipRead}
 use Rattle.slip.specs.declared.read.SlipRead.the-variants.{Accepted, Malformed, NoRoom}
@@ -20,8 +20,8 @@ use Rattle.leb128.proofs.Puts.{Put}
 use Rattle.slip.proofs.Writes.{put-slip}
 
 -- no two answers have the same numbers
-pub numbers-only : (r s : SlipRead) → numbersOf r ≡ numbersOf s → r ≡ s
-unfolding numbersOf
+pub numbers-only : (r s : SlipRead) → slipReadNumbers r ≡ slipReadNumbers s → r ≡ s
+unfolding slipReadNumbers
 numbers-only (Accepted h) (Accepted g) e =
     let i : h .id ≡ g .id = cc in
     let s : h .scale ≡ g .scale = cc in
@@ -45,7 +45,7 @@ one-slip bs cs h pairs s t = s .bytes ∙ sym (t .bytes)
 module _ (bs room : List ℕ) (r : SlipRead) (after : List ℕ) (reads : Reads bs room r after) where
   -- a slip written reads back, given room, as the same numbers
   pub reads-back : (h : Head) (pairs : List ℕ) → IsSlip bs h pairs → length pairs ≤ length room → (r ≡ Accepted h) × (after ≡ pairs ++ drop (length pairs) room)
-  unfolding numbersOf numbersFor roomFor
+  unfolding slipReadNumbers numbersFor roomFor
   reads-back h pairs s l =
       let e = slip-read bs h pairs s in
       let enough = le-ltb (length room) (length pairs) l in
@@ -53,7 +53,7 @@ module _ (bs room : List ℕ) (r : SlipRead) (after : List ℕ) (reads : Reads b
 
   -- with less room it is refused 16, and the room stays
   pub reads-no-room : (h : Head) (pairs : List ℕ) → IsSlip bs h pairs → length room < length pairs → (r ≡ NoRoom) × (after ≡ room)
-  unfolding numbersOf numbersFor roomFor
+  unfolding slipReadNumbers numbersFor roomFor
   reads-no-room h pairs s l =
       let e = slip-read bs h pairs s in
       let short = lt-ltb (length room) (length pairs) l in
@@ -61,7 +61,7 @@ module _ (bs room : List ℕ) (r : SlipRead) (after : List ℕ) (reads : Reads b
 
   -- bytes that are no slip are refused 17, and the room stays
   pub none-malformed : ((h : Head) (pairs : List ℕ) → IsSlip bs h pairs → ⊥) → (r ≡ Malformed) × (after ≡ room)
-  unfolding numbersOf numbersFor roomFor
+  unfolding slipReadNumbers numbersFor roomFor
   none-malformed none = go (slipIn bs) refl
     where
       go : (o : Outcome) → slipIn bs ≡ o → (r ≡ Malformed) × (after ≡ room)

@@ -13,7 +13,7 @@ use lib.Seq.{sets, drop-at, drop-drop, getD-drop}
 use borrow.Author.Tests.{le-leb}
 use Rattle.leb128.specs.Numbers.{groupsIn, groups, writes, Below}
 use Rattle.leb128.specs.Reading.{limit, readAt, readOf}
-use Rattle.slip.specs.Steps.{allowed, Run, all, stopped, before, ruled, run, checkedOf, valueOf, nextOf, valuesFrom}
+use Rattle.slip.specs.Steps.{allowed, NumberRun, all, stopped, prepend, ruled, run, checkedOf, valueOf, nextOf, valuesFrom}
 use Rattle.leb128.specs.declared.number.NumberRead.{NumberRead}
 use Rattle.leb128.specs.declared.number.NumberRead.the-variants.{Good, Broken, Short}
 use Rattle.slip.specs.declared.read.Checked.the-variants.{All, Stopped}
@@ -36,7 +36,7 @@ module _ (k top : ℕ) (bs : List ℕ) (c i prev at : ℕ) (r : NumberRead) (rea
   unfolding run
   run-by u q = ap (ruled (allowed i prev) at (λ n next. run k top bs c (i + 1) n next)) (sym read ∙ q)
 
-  pub run-good : (n next : ℕ) → r ≡ Good n next → allowed i prev n ≡ true → run k top bs (suc c) i prev at ≡ before n (run k top bs c (i + 1) n next)
+  pub run-good : (n next : ℕ) → r ≡ Good n next → allowed i prev n ≡ true → run k top bs (suc c) i prev at ≡ prepend n (run k top bs c (i + 1) n next)
   unfolding ruled
   run-good n next q o = run-by (Good n next) q ∙ rw o
 
@@ -54,10 +54,10 @@ module _ (k top : ℕ) (bs : List ℕ) (c i prev at : ℕ) (r : NumberRead) (rea
 
 -- numbers that are allowed and written are read back
 pub run-writes : (k top : ℕ) (ns : List ℕ) (i prev : ℕ) (pre rest : List ℕ) (at : ℕ) → top ≤ 128 → limit k top ≤ 2 ^ 64 → Allowed (limit k top) i prev ns → length pre ≡ at → run k top (pre ++ (writes ns ++ rest)) (length ns) i prev at ≡ all ns (at + length (writes ns))
-unfolding run writes before
+unfolding run writes prepend
 run-writes k top [] i prev pre rest at t w a e = rw add-zero
 run-writes k top (n ∷ ns) i prev pre rest at t w a e =
-    run-good k top bs (length ns) i prev at (Good n next) (sym here) n next refl (a .1) ∙ ap (before n) (there (run-writes k top ns (i + 1) n (pre ++ groups n) rest (at + length (groups n)) t w (a .2) (omega (arith, length-append pre (groups n))))) ∙ ap (all (n ∷ ns)) ends
+    run-good k top bs (length ns) i prev at (Good n next) (sym here) n next refl (a .1) ∙ ap (prepend n) (there (run-writes k top ns (i + 1) n (pre ++ groups n) rest (at + length (groups n)) t w (a .2) (omega (arith, length-append pre (groups n))))) ∙ ap (all (n ∷ ns)) ends
   where
     bs : List ℕ
     bs = pre ++ ((groups n ++ writes ns) ++ rest)
@@ -105,14 +105,14 @@ more-ran k top bs c i prev at n next ms end w h o r =
     sum = omega arith
 
 pub run-ran : (k top : ℕ) (bs : List ℕ) (c i prev at : ℕ) (ns : List ℕ) (end : ℕ) → 0 < top → top ≤ 128 → k ≤ 9 → ((x : ℕ) → getD bs x 0 < 256) → run k top bs c i prev at ≡ all ns end → Ran k top bs c i prev at ns end
-unfolding run ruled before
+unfolding run ruled prepend
 run-ran k top bs zero i prev at ns end p t w are e = no-ran k top bs i prev at ns end e
 run-ran k top bs (suc c) i prev at ns end p t w are e = go (readAt k top bs at) refl e (λ n next ms fin. run-ran k top bs c (i + 1) n next ms fin p t w are)
   where
     IH : Type 0
     IH = (n next : ℕ) (ms : List ℕ) (fin : ℕ) → run k top bs c (i + 1) n next ≡ all ms fin → Ran k top bs c (i + 1) n next ms fin
 
-    tail : (n next : ℕ) → readAt k top bs at ≡ Good n next → allowed i prev n ≡ true → (u : Run) → run k top bs c (i + 1) n next ≡ u → before n u ≡ all ns end → IH → Ran k top bs (suc c) i prev at ns end
+    tail : (n next : ℕ) → readAt k top bs at ≡ Good n next → allowed i prev n ≡ true → (u : NumberRun) → run k top bs c (i + 1) n next ≡ u → prepend n u ≡ all ns end → IH → Ran k top bs (suc c) i prev at ns end
     tail n next q o (all ms fin) f e′ ih =
         let g = read-good top bs at k n next q in
         let len : g .0 ≡ next - at = omega (arith, g .2) in
@@ -123,7 +123,7 @@ run-ran k top bs (suc c) i prev at ns end p t w are e = go (readAt k top bs at) 
         (more-ran k top bs c i prev at n next ms fin (subst (λ (x : ℕ). Written k top 9 (drop at bs) n x) len wr) (omega (arith, g .2)) o (ih n next ms fin f))
     tail n next q o (stopped x) f e′ ih = absurd (let z : _≡_ {A = ℕ} 0 1 = cc in omega arith)
 
-    test : (n next : ℕ) → readAt k top bs at ≡ Good n next → (f : Bool) → allowed i prev n ≡ f → cond f (before n (run k top bs c (i + 1) n next)) (stopped at) ≡ all ns end → IH → Ran k top bs (suc c) i prev at ns end
+    test : (n next : ℕ) → readAt k top bs at ≡ Good n next → (f : Bool) → allowed i prev n ≡ f → cond f (prepend n (run k top bs c (i + 1) n next)) (stopped at) ≡ all ns end → IH → Ran k top bs (suc c) i prev at ns end
     test n next q true o e′ ih = tail n next q o (run k top bs c (i + 1) n next) refl e′ ih
     test n next q false o e′ ih = absurd (let z : _≡_ {A = ℕ} 0 1 = cc in omega arith)
 
@@ -147,21 +147,21 @@ pairs-below bound (n ∷ ns) i prev a = (a .0, pairs-below bound ns (i + 1) n (a
 
 -- ---- one turn of the loop that checks
 
-checked-before : (n : ℕ) (r : Run) → checkedOf (before n r) ≡ checkedOf r
-unfolding checkedOf before
-checked-before n (all ns end) = refl
-checked-before n (stopped p) = refl
+checked-prepend : (n : ℕ) (r : NumberRun) → checkedOf (prepend n r) ≡ checkedOf r
+unfolding checkedOf prepend
+checked-prepend n (all ns end) = refl
+checked-prepend n (stopped p) = refl
 
 pub check-none : (k top : ℕ) (bs : List ℕ) (left i prev at : ℕ) → left ≡ 0 → checkedOf (run k top bs left i prev at) ≡ All at
 unfolding checkedOf run
 check-none k top bs left i prev at e = rw e
 
 module _ (k top : ℕ) (bs : List ℕ) (left i prev at : ℕ) (h : 0 < left) (r : NumberRead) (read : r ≡ readAt k top bs at) where
-  turn : (u : Run) → run k top bs (suc (left - 1)) i prev at ≡ u → checkedOf (run k top bs left i prev at) ≡ checkedOf u
+  turn : (u : NumberRun) → run k top bs (suc (left - 1)) i prev at ≡ u → checkedOf (run k top bs left i prev at) ≡ checkedOf u
   turn u e = let s : left ≡ suc (left - 1) = omega arith in ap (λ (x : ℕ). checkedOf (run k top bs x i prev at)) s ∙ ap checkedOf e
 
   pub check-good : (n next : ℕ) → r ≡ Good n next → allowed i prev n ≡ true → checkedOf (run k top bs left i prev at) ≡ checkedOf (run k top bs (left - 1) (i + 1) n next)
-  check-good n next q o = turn (before n (run k top bs (left - 1) (i + 1) n next)) (run-good k top bs (left - 1) i prev at r read n next q o) ∙ checked-before n (run k top bs (left - 1) (i + 1) n next)
+  check-good n next q o = turn (prepend n (run k top bs (left - 1) (i + 1) n next)) (run-good k top bs (left - 1) i prev at r read n next q o) ∙ checked-prepend n (run k top bs (left - 1) (i + 1) n next)
 
   pub check-fault : (n next : ℕ) → r ≡ Good n next → allowed i prev n ≡ false → checkedOf (run k top bs left i prev at) ≡ Stopped at
   unfolding checkedOf
@@ -184,18 +184,18 @@ length-values k top bs (suc c) at = ap suc (length-values k top bs c (nextOf at 
 
 -- the values of a run that has all its numbers are those
 pub run-values : (k top : ℕ) (bs : List ℕ) (c i prev at : ℕ) (ns : List ℕ) (end : ℕ) → run k top bs c i prev at ≡ all ns end → valuesFrom k top bs c at ≡ ns
-unfolding run ruled before valuesFrom
+unfolding run ruled prepend valuesFrom
 run-values k top bs zero i prev at ns end e = let p : [] ≡ ns = cc in p
 run-values k top bs (suc c) i prev at ns end e = go (readAt k top bs at) refl e (λ n next ms fin. run-values k top bs c (i + 1) n next ms fin)
   where
     IH : Type 0
     IH = (n next : ℕ) (ms : List ℕ) (fin : ℕ) → run k top bs c (i + 1) n next ≡ all ms fin → valuesFrom k top bs c next ≡ ms
 
-    tail : (n next : ℕ) (u : Run) → run k top bs c (i + 1) n next ≡ u → before n u ≡ all ns end → IH → n ∷ valuesFrom k top bs c next ≡ ns
+    tail : (n next : ℕ) (u : NumberRun) → run k top bs c (i + 1) n next ≡ u → prepend n u ≡ all ns end → IH → n ∷ valuesFrom k top bs c next ≡ ns
     tail n next (all ms fin) f e′ ih = let p : n ∷ ms ≡ ns = cc in ap (λ (l : List ℕ). n ∷ l) (ih n next ms fin f) ∙ p
     tail n next (stopped x) f e′ ih = absurd (let z : _≡_ {A = ℕ} 0 1 = cc in omega arith)
 
-    test : (n next : ℕ) (f : Bool) → cond f (before n (run k top bs c (i + 1) n next)) (stopped at) ≡ all ns end → IH → n ∷ valuesFrom k top bs c next ≡ ns
+    test : (n next : ℕ) (f : Bool) → cond f (prepend n (run k top bs c (i + 1) n next)) (stopped at) ≡ all ns end → IH → n ∷ valuesFrom k top bs c next ≡ ns
     test n next true e′ ih = tail n next (run k top bs c (i + 1) n next) refl e′ ih
     test n next false e′ ih = absurd (let z : _≡_ {A = ℕ} 0 1 = cc in omega arith)
 
@@ -222,12 +222,12 @@ fill-turn k top bs out j n p h =
 
 -- ---- what a check that was answered says
 
-pub checked-all : (r : Run) (at : ℕ) → All at ≡ checkedOf r → (ns : List ℕ) × (r ≡ all ns at)
+pub checked-all : (r : NumberRun) (at : ℕ) → All at ≡ checkedOf r → (ns : List ℕ) × (r ≡ all ns at)
 unfolding checkedOf
 checked-all (all ns end) at e = let p : end ≡ at = cc in (ns, ap (all ns) p)
 checked-all (stopped p) at e = absurd (let z : _≡_ {A = ℕ} 0 1 = cc in omega arith)
 
-pub checked-stopped : (r : Run) (p : ℕ) → Stopped p ≡ checkedOf r → r ≡ stopped p
+pub checked-stopped : (r : NumberRun) (p : ℕ) → Stopped p ≡ checkedOf r → r ≡ stopped p
 unfolding checkedOf
 checked-stopped (all ns end) p e = absurd (let z : _≡_ {A = ℕ} 0 1 = cc in omega arith)
 checked-stopped (stopped x) p e = let q : x ≡ p = cc in ap stopped q

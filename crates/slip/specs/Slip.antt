@@ -66,10 +66,10 @@ abbrev pub refused : ℕ → List ℕ
 refused number = number ∷ 0 ∷ 0 ∷ 0 ∷ 0 ∷ 0 ∷ []
 
 -- document 01's number and values for each case of the answer; the number is 0 where nothing is refused
-unfoldable pub numbersOf : SlipRead → List ℕ
-numbersOf (Accepted h) = 0 ∷ h .id ∷ h .scale ∷ h .a ∷ h .b ∷ h .pairs ∷ []
-numbersOf Malformed = refused 17
-numbersOf NoRoom = refused 16
+unfoldable pub slipReadNumbers : SlipRead → List ℕ
+slipReadNumbers (Accepted h) = 0 ∷ h .id ∷ h .scale ∷ h .a ∷ h .b ∷ h .pairs ∷ []
+slipReadNumbers Malformed = refused 17
+slipReadNumbers NoRoom = refused 16
 
 -- "in slip reading 17, then 16": what is returned of bytes, given so many places of room
 unfoldable pub numbersFor : ℕ → Outcome → List ℕ
@@ -83,5 +83,5 @@ roomFor room malformed = room
 
 -- the promise of reading bytes into a room: the answer r, and the room after it
 pub record Reads (bs room : List ℕ) (r : SlipRead) (after : List ℕ) : Type 0 where
-  pub numbers : numbersOf r ≡ numbersFor (length room) (slipIn bs)
+  pub numbers : slipReadNumbers r ≡ numbersFor (length room) (slipIn bs)
   pub places : after ≡ roomFor room (slipIn bs)

@@ -10,8 +10,8 @@ use Rattle.leb128.specs.declared.number.NumberRead.{NumberRead}
 use Rattle.leb128.specs.declared.number.NumberRead.the-variants.{Good, Broken, Short}
 use Rattle.slip.specs.declared.read.Checked.{Checked}
 use Rattle.slip.specs.declared.read.Checked.the-variants.{All, Stopped}
-use Rattle.slip.specs.declared.read.Found.{Found}
-use Rattle.slip.specs.declared.read.Found.the-variants.{Slip, Malformed}
+use Rattle.slip.specs.declared.read.SlipScan.{SlipScan}
+use Rattle.slip.specs.declared.read.SlipScan.the-variants.{Slip, Malformed}
 
 -- the rule of the number that i numbers stand before, the form among them, after the number prev
 unfoldable pub allowed : ℕ → ℕ → ℕ → Bool
@@ -22,28 +22,28 @@ allowed i prev n =
     (cond (eqb i 5) (ltb 0 n && leb n 1048576) true)))
 
 -- a run of numbers: all of them and the place past them, or the place of the first fault
-pub data Run : Type 0 where
-  all : List ℕ → ℕ → Run
-  stopped : ℕ → Run
+pub data NumberRun : Type 0 where
+  all : List ℕ → ℕ → NumberRun
+  stopped : ℕ → NumberRun
 
 -- n before the rest of a run
-unfoldable pub before : ℕ → Run → Run
-before n (all ns end) = all (n ∷ ns) end
-before n (stopped p) = stopped p
+unfoldable pub prepend : ℕ → NumberRun → NumberRun
+prepend n (all ns end) = all (n ∷ ns) end
+prepend n (stopped p) = stopped p
 
 -- a number that was read, if its rule allows it, and the rest of the run from the place past it
-unfoldable pub ruled : (ℕ → Bool) → ℕ → (ℕ → ℕ → Run) → NumberRead → Run
-ruled ok at rest (Good n next) = cond (ok n) (before n (rest n next)) (stopped at)
+unfoldable pub ruled : (ℕ → Bool) → ℕ → (ℕ → ℕ → NumberRun) → NumberRead → NumberRun
+ruled ok at rest (Good n next) = cond (ok n) (prepend n (rest n next)) (stopped at)
 ruled ok at rest (Broken p) = stopped p
 ruled ok at rest (Short p) = stopped p
 
 -- c numbers of at most k + 1 groups from a place, the first of them after i numbers of the slip, and after the number prev
-unfoldable pub run : ℕ → ℕ → List ℕ → ℕ → ℕ → ℕ → ℕ → Run
+unfoldable pub run : ℕ → ℕ → List ℕ → ℕ → ℕ → ℕ → ℕ → NumberRun
 run k top bs zero i prev at = all [] at
 run k top bs (suc c) i prev at = ruled (allowed i prev) at (λ n next. run k top bs c (i + 1) n next) (readAt k top bs at)
 
 -- whether a run has all its numbers
-unfoldable pub checkedOf : Run → Checked
+unfoldable pub checkedOf : NumberRun → Checked
 checkedOf (all ns end) = All end
 checkedOf (stopped p) = Stopped p
 
@@ -63,22 +63,22 @@ valuesFrom k top bs zero at = []
 valuesFrom k top bs (suc c) at = valueOf (readAt k top bs at) ∷ valuesFrom k top bs c (nextOf at (readAt k top bs at))
 
 -- what follows the form: five numbers, twice as many as the last of them says, and the end
-unfoldable pub afterPairs : List ℕ → List ℕ → ℕ → Run → Found
+unfoldable pub afterPairs : List ℕ → List ℕ → ℕ → NumberRun → SlipScan
 afterPairs bs ns at (all ps end) = cond (eqb end (length bs)) (Slip (record { id = getD ns 0 0; scale = getD ns 1 0; a = getD ns 2 0; b = getD ns 3 0; pairs = getD ns 4 0 }) at) (Malformed end)
 afterPairs bs ns at (stopped p) = Malformed p
 
-unfoldable pub afterHead : ℕ → ℕ → List ℕ → Run → Found
+unfoldable pub afterHead : ℕ → ℕ → List ℕ → NumberRun → SlipScan
 afterHead k top bs (all ns at) = afterPairs bs ns at (run k top bs (2 * getD ns 4 0) 6 0 at)
 afterHead k top bs (stopped p) = Malformed p
 
-unfoldable pub restIn : ℕ → ℕ → List ℕ → ℕ → Found
+unfoldable pub restIn : ℕ → ℕ → List ℕ → ℕ → SlipScan
 restIn k top bs from = afterHead k top bs (run k top bs 5 1 0 from)
 
 -- the form, and what follows it
-unfoldable pub byForm : List ℕ → NumberRead → Found
+unfoldable pub byForm : List ℕ → NumberRead → SlipScan
 byForm bs (Good n next) = cond (eqb n 1) (restIn 4 16 bs next) (Malformed 0)
 byForm bs (Broken p) = Malformed p
 byForm bs (Short p) = Malformed p
 
-unfoldable pub foundIn : List ℕ → Found
-foundIn bs = byForm bs (readAt 4 16 bs 0)
+unfoldable pub scanIn : List ℕ → SlipScan
+scanIn bs = byForm bs (readAt 4 16 bs 0)

@@ -9,7 +9,7 @@ ghost use mathlib.Core.List.{_++_};
 ghost use Prim.Native.Nat.{_≤_, _<_};
 ghost use lib.ListN.{length, drop};
 ghost use Rattle.slip.specs.Slip.{Reads};
-ghost use Rattle.slip.specs.Steps.{allowed, run, checkedOf, valueOf, nextOf, valuesFrom, restIn, foundIn};
+ghost use Rattle.slip.specs.Steps.{allowed, run, checkedOf, valueOf, nextOf, valuesFrom, restIn, scanIn};
 
 // Whether the number that i numbers stand before, the form among them, may be n after the number prev.
 fn rule_allows(i: usize, prev: u64, n: u64) -> bool
@@ -116,31 +116,31 @@ fn fill_numbers(bytes: &[u8], at: usize, room: &mut [u32], n: usize)
 }
 
 // A slip's head and the place where its pairs begin; or the place of the first fault.
-enum Found {
+enum SlipScan {
     Slip(Head, usize),
     Malformed(usize),
 }
 
 // Finds out whether what follows the form, from a place on, is the rest of a slip.
-fn find_rest(bytes: &[u8], from: usize) -> Found
+fn find_rest(bytes: &[u8], from: usize) -> SlipScan
     requires { ⌜ 0 < from ⌝ }
     ensures { λ r. ⌜ r ≡ restIn 4 16 (now (bytes .entry)) from ⌝ }
 {
     match check_numbers(bytes, 5, Cursor { at: from, count: 1 }) {
-        Checked::Stopped(p) => Found::Malformed(p),
+        Checked::Stopped(p) => SlipScan::Malformed(p),
         Checked::All(at) => {
             let mut head = [0u32; 5];
             fill_numbers(bytes, from, &mut head, 5);
             let pairs = head[4];
             match check_numbers(bytes, 2 * (pairs as usize), Cursor { at, count: 6 }) {
-                Checked::Stopped(p) => Found::Malformed(p),
+                Checked::Stopped(p) => SlipScan::Malformed(p),
                 Checked::All(end) => {
                     if end == bytes.len() {
                         let id = head[0];
                         let scale = head[1];
                         let a = head[2];
                         let b = head[3];
-                        Found::Slip(
+                        SlipScan::Slip(
                             Head {
                                 id,
                                 scale,
@@ -151,7 +151,7 @@ fn find_rest(bytes: &[u8], from: usize) -> Found
                             at,
                         )
                     } else {
-                        Found::Malformed(end)
+                        SlipScan::Malformed(end)
                     }
                 }
             }
@@ -160,8 +160,8 @@ fn find_rest(bytes: &[u8], from: usize) -> Found
 }
 
 // Finds out whether bytes are a slip: the form first, which says how the rest is read.
-fn find_slip(bytes: &[u8]) -> Found
-    ensures { λ r. ⌜ r ≡ foundIn (now (bytes .entry)) ⌝ }
+fn find_slip(bytes: &[u8]) -> SlipScan
+    ensures { λ r. ⌜ r ≡ scanIn (now (bytes .entry)) ⌝ }
 {
     let s = next_number(bytes, Cursor { at: 0, count: 0 });
     let read = s.read;
@@ -170,10 +170,10 @@ fn find_slip(bytes: &[u8]) -> Found
             if form == 1 {
                 return find_rest(bytes, next);
             }
-            Found::Malformed(0)
+            SlipScan::Malformed(0)
         }
-        NumberRead::Broken(p) => Found::Malformed(p),
-        NumberRead::Short(p) => Found::Malformed(p),
+        NumberRead::Broken(p) => SlipScan::Malformed(p),
+        NumberRead::Short(p) => SlipScan::Malformed(p),
     }
 }
 
@@ -189,8 +189,8 @@ pub fn read_slip(bytes: &[u8], room: &mut [u32]) -> SlipRead
     ensures { λ r. ⌜ Reads (now (bytes .entry)) (now (room .entry)) r (now (room .exit)) ⌝ }
 {
     match find_slip(bytes) {
-        Found::Malformed(_) => SlipRead::Malformed,
-        Found::Slip(head, at) => {
+        SlipScan::Malformed(_) => SlipRead::Malformed,
+        SlipScan::Slip(head, at) => {
             let n = 2 * (head.pairs as usize);
             if room.len() < n {
                 return SlipRead::NoRoom;

@@ -18,7 +18,7 @@ use Rattle.slip.specs.declared.Head.{Head}
 use Rattle.structure.specs.Track.{scaleOf}
 use Rattle.structure.specs.Rows.{orElse}
 use Rattle.track.specs.Track.{trackOf}
-use Rattle.movie.specs.Rooms.{noRoom, filled, roomAfter, refusedWith}
+use Rattle.movie.specs.Rooms.{noRoom, filledRoom, roomAfter, refusedWith}
 use Rattle.pairs.specs.Pairs.{flat}
 use Rattle.edits.specs.declared.MediaTime.{MediaTime}
 use Rattle.questions.specs.Asked.{trackAsked}
@@ -62,7 +62,7 @@ module _ (h : Head) (ps out : List ℕ) (k n : ℕ) (e : k ≡ length (writes (h
     pairs-fit = omega (arith, a ∙ head-fits .0, ap length (b ∙ head-fits .1) ∙ length-sets out 0 (writes (headNumbers h [])))
 
     pub all-put : (r : ℕ) (after : List ℕ) → r ≡ at + length (writes ps) → after ≡ sets half at (writes ps) → PutSlip (slipBytes h ps) out (Written r) after
-    unfolding noRoom roomAfter filled
+    unfolding noRoom roomAfter filledRoom
     all-put r after c d =
         let hd = writes (headNumbers h []) in
         let l = le-ltb (length out) (length (slipBytes h ps)) (omega (arith, split-length h ps)) in

@@ -15,10 +15,10 @@ use Rattle.atoms.specs.Kinds.{stts, stsc, stsz, stco}
 use Rattle.atoms.proofs.Laws.{and-left, and-right}
 use Rattle.lists.specs.Lists.{sum, holder}
 use Rattle.lists.proofs.Places.{holder-holds, holds-below, holder-only, holder-mono}
-use Rattle.runs.specs.Runs.{durations, sampleAt}
-use Rattle.runs.specs.declared.Found.{Found}
-use Rattle.runs.specs.declared.Found.the-variants.{At, Outside}
-use Rattle.runs.proofs.Sentences.{sample-holds, outside-told}
+use Rattle.runs.specs.Runs.{perSample, sampleAt}
+use Rattle.runs.specs.declared.Lookup.{Lookup}
+use Rattle.runs.specs.declared.Lookup.the-variants.{At, Outside}
+use Rattle.runs.proofs.Sentences.{sample-holds, outside-known}
 use Rattle.words.specs.Words.{sizes, chunkOffsets}
 use Rattle.chunks.specs.Chunks.{perChunk}
 use Rattle.chunks.proofs.Agreed.{samples-length}
@@ -26,9 +26,9 @@ use Rattle.structure.specs.Track.{tableOf, samplesOf, chunksOf}
 use Rattle.structure.specs.Rows.{orElse}
 use Rattle.structure.proofs.Callers.{none-else}
 use Rattle.track.specs.Track.{trackOf}
-use Rattle.track.specs.Refusals.{totalIn, beyond}
+use Rattle.track.specs.Refusals.{totalIn, chunkPastEnd}
 use Rattle.track.proofs.Agreed.{agreed-tables}
-use Rattle.movie.specs.Rooms.{noRoom, filled, roomAfter}
+use Rattle.movie.specs.Rooms.{noRoom, filledRoom, roomAfter}
 use Rattle.pairs.specs.Pairs.{flat}
 use Rattle.pairs.specs.Walks.{pairsBetween, lengthsOf, countBetween, Putting}
 use Rattle.pairs.specs.declared.Pair.{Pair}
@@ -80,44 +80,44 @@ usable s t id e d =
 
 -- ---- the samples
 
-module _ (t x : List ℕ) (time : ℕ) (f : Found) (u : Usable t) (h : time < totalIn t) (d : x ≡ tableOf stts t) (g : f ≡ sampleAt (durations x) time) where
-  inside : time < sum (durations x)
+module _ (t x : List ℕ) (time : ℕ) (f : Lookup) (u : Usable t) (h : time < totalIn t) (d : x ≡ tableOf stts t) (g : f ≡ sampleAt (perSample x) time) where
+  inside : time < sum (perSample x)
   unfolding totalIn
   inside = rw d h
 
   pub not-outside : f ≡ Outside → ⊥
-  not-outside e = let k = outside-told (durations x) time (sym g ∙ e) in let i = inside in omega arith
+  not-outside e = let k = outside-known (perSample x) time (sym g ∙ e) in let i = inside in omega arith
 
-  pub index-is : (i : ℕ) → f ≡ At i → (i ≡ holder (durations (tableOf stts t)) time) × (i < 1048576)
+  pub index-is : (i : ℕ) → f ≡ At i → (i ≡ holder (perSample (tableOf stts t)) time) × (i < 1048576)
   index-is i e =
-      let w = sample-holds (durations x) time i (sym g ∙ e) in
-      let b = holds-below (durations x) time i w in
-      let o = holder-only (durations x) time i w in
-      (o ∙ ap (λ (l : List ℕ). holder (durations l) time) d, omega (arith, b .1, u .few-samples, agreed-tables t (u .agree) .counted, ap (λ (l : List ℕ). length (durations l)) d))
+      let w = sample-holds (perSample x) time i (sym g ∙ e) in
+      let b = holds-below (perSample x) time i w in
+      let o = holder-only (perSample x) time i w in
+      (o ∙ ap (λ (l : List ℕ). holder (perSample l) time) d, omega (arith, b .1, u .few-samples, agreed-tables t (u .agree) .counted, ap (λ (l : List ℕ). length (perSample l)) d))
 
 -- what is asked of a track, from the sample at b - 1
 pub span-empty : (t : List ℕ) (a b : ℕ) → b ≤ a → asks.Refused 15 ≡ spanIn t a b
 unfolding spanIn
 span-empty t a b h = rw (le-ltb a b h)
 
-module _ (t x : List ℕ) (a b : ℕ) (f : Found) (o : a < b) (d : x ≡ tableOf stts t) (g : f ≡ sampleAt (durations x) (b - 1)) where
+module _ (t x : List ℕ) (a b : ℕ) (f : Lookup) (o : a < b) (d : x ≡ tableOf stts t) (g : f ≡ sampleAt (perSample x) (b - 1)) where
   pub span-outside : f ≡ Outside → asks.Refused 15 ≡ spanIn t a b
   unfolding spanIn totalIn
   span-outside e =
-      let k : sum (durations (tableOf stts t)) ≤ b - 1 = rw d at (outside-told (durations x) (b - 1) (sym g ∙ e)) in
-      rw (lt-ltb a b o, lt-leb b (sum (durations (tableOf stts t))) (omega arith))
+      let k : sum (perSample (tableOf stts t)) ≤ b - 1 = rw d at (outside-known (perSample x) (b - 1) (sym g ∙ e)) in
+      rw (lt-ltb a b o, lt-leb b (sum (perSample (tableOf stts t))) (omega arith))
 
   module _ (i : ℕ) (e : f ≡ At i) where
     pub last-inside : b - 1 < totalIn t
     unfolding totalIn
-    last-inside = rw d at (holds-below (durations x) (b - 1) i (sample-holds (durations x) (b - 1) i (sym g ∙ e)) .0)
+    last-inside = rw d at (holds-below (perSample x) (b - 1) i (sample-holds (perSample x) (b - 1) i (sym g ∙ e)) .0)
 
-    pub span-found : (from stop : ℕ) → from ≡ holder (durations (tableOf stts t)) a → i ≡ holder (durations (tableOf stts t)) (b - 1) → stop ≡ i + 1
+    pub span-found : (from stop : ℕ) → from ≡ holder (perSample (tableOf stts t)) a → i ≡ holder (perSample (tableOf stts t)) (b - 1) → stop ≡ i + 1
         → Samples (record { from = from; stop = stop }) ≡ spanIn t a b
     unfolding spanIn
     span-found from stop p q r =
         let k = last-inside in
-        let z : stop ≡ suc (holder (durations (tableOf stts t)) (b - 1)) = omega (arith, q) in
+        let z : stop ≡ suc (holder (perSample (tableOf stts t)) (b - 1)) = omega (arith, q) in
         rw (lt-ltb a b o, le-leb b (totalIn t) (omega arith), p, z)
 
 -- what is asked of a file: a refusal of its own, and samples where the stretch lies inside
@@ -180,7 +180,7 @@ module _ (t : List ℕ) (s : Span) (u : Usable t) where
       )
 
   pub putting : (k : ℕ) → s .from ≤ s .stop → 2 * length (spanPairs t s) ≤ k → Putting (tableOf stsc t) (tableOf stsz t) (tableOf stco t) (chunksOf t) (s .from) (s .stop) k
-  unfolding spanPairs beyond
+  unfolding spanPairs chunkPastEnd
   putting k o h =
       let ps = perChunk (tableOf stsc t) (chunksOf t) in
       let f = touched-fits (u .limit) (s .from) (s .stop) 0 ps (chunkOffsets (tableOf stco t)) (sizes (tableOf stsz t)) o (omega (arith, u .low)) (not-false _ (u .within)) in
@@ -214,7 +214,7 @@ module _ (s t : List ℕ) (id : ℕ) (a b : MediaTime) (w : InSpan s id (a .0) (
   bounds : (p .from < p .stop) × (p .stop ≤ samplesOf t)
   unfolding totalIn
   bounds =
-      let ds = durations (tableOf stts t) in
+      let ds = perSample (tableOf stts t) in
       let o : b .0 ≤ sum ds = rw d (w .ends) in
       let h = w .order in
       let k = holds-below ds (b .0 - 1) (holder ds (b .0 - 1)) (holder-holds ds (b .0 - 1) (omega arith)) in
@@ -273,7 +273,7 @@ module _ (s t room : List ℕ) (id : ℕ) (a b : MediaTime) (r : ℕ) (e : r ≡
 
   pub whole-stretch : (bytes : ℕ) (after : List ℕ) → n ≤ length room / 2 → bytes ≡ sum (lengthsOf (spanPairs t p)) → after ≡ sets room 0 (flat (spanPairs t p))
       → Stretches s id a b room (Pairs n bytes) after
-  unfolding noRoom stretchAnswer stretchNumbers roomAfter filled
+  unfolding noRoom stretchAnswer stretchNumbers roomAfter filledRoom
   whole-stretch bytes after h f g =
       let k : stretchRefusal s id a b room ≡ 0 = then-room ∙ rw (le-ltb (length room) (length (flat (stretchPairs s id a b))) (omega (arith, numbers-are))) in
       let m : n ≡ length (stretchPairs s id a b) = c ∙ ap length same-pairs in

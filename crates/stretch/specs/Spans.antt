@@ -8,9 +8,9 @@ use mathlib.Core.List.{List}
 use lib.ListN.{length}
 use Rattle.atoms.specs.Kinds.{stsc, stsz, stco, stts}
 use Rattle.lists.specs.Lists.{holder}
-use Rattle.runs.specs.Runs.{durations}
+use Rattle.runs.specs.Runs.{perSample}
 use Rattle.structure.specs.Track.{tableOf, samplesOf, chunksOf}
-use Rattle.track.specs.Refusals.{contradicts, beyond, totalIn}
+use Rattle.track.specs.Refusals.{contradicts, chunkPastEnd, totalIn}
 use Rattle.pairs.specs.Walks.{pairsBetween}
 use Rattle.pairs.specs.declared.Pair.{Pair}
 use Rattle.movie.specs.Rooms.{noRoom, roomAfter}
@@ -30,18 +30,18 @@ pub record Usable (t : List ℕ) : Type 0 where
   pub few-chunks : chunksOf t ≤ 1048576
   pub limit : ℕ
   pub low : limit ≤ 2147483647
-  pub within : beyond limit t ≡ false
+  pub within : chunkPastEnd limit t ≡ false
 
 -- from the sample at a up to, not including, the one past that at b - 1
 pub record Spans (t : List ℕ) (a b : ℕ) (s : Span) : Type 0 where
-  pub first : s .from ≡ holder (durations (tableOf stts t)) a
-  pub past : s .stop ≡ suc (holder (durations (tableOf stts t)) (b - 1))
+  pub first : s .from ≡ holder (perSample (tableOf stts t)) a
+  pub past : s .stop ≡ suc (holder (perSample (tableOf stts t)) (b - 1))
 
 -- what the stretch from a to b asks for: samples, or a refusal
 unfoldable pub spanIn : List ℕ → ℕ → ℕ → Asked
 spanIn t a b =
     cond (ltb a b && leb b (totalIn t))
-    (Samples (record { from = holder (durations (tableOf stts t)) a; stop = suc (holder (durations (tableOf stts t)) (b - 1)) }))
+    (Samples (record { from = holder (perSample (tableOf stts t)) a; stop = suc (holder (perSample (tableOf stts t)) (b - 1)) }))
     (asks.Refused 15)
 
 unfoldable pub spanAsked : List ℕ → ℕ → ℕ → ℕ → Asked

@@ -8,14 +8,14 @@ use pairs::count_pairs;
 use pairs::put_pairs;
 use questions::ask_refusal;
 use questions::track_asked;
-use runs::Found;
+use runs::Lookup;
 use structure::trak::table;
 ghost use mathlib.Core.Path.{_≡_};
 ghost use Prim.Native.Nat.{_≤_, _<_, _*_};
 ghost use lib.ListN.{length};
 ghost use lib.Seq.{sets};
 ghost use Rattle.lists.specs.Lists.{sum, holder};
-ghost use Rattle.runs.specs.Runs.{durations};
+ghost use Rattle.runs.specs.Runs.{perSample};
 ghost use Rattle.atoms.specs.Kinds.{stts};
 ghost use Rattle.structure.specs.Track.{tableOf};
 ghost use Rattle.track.specs.Refusals.{totalIn};
@@ -39,11 +39,11 @@ enum Asked {
 // The index of the sample at a media time.
 fn index_at(trak: &[u8], t: u32) -> u32
     requires { ⌜ Usable (now trak) × (t < totalIn (now trak)) ⌝ }
-    ensures { λ r. ⌜ (r ≡ holder (durations (tableOf stts (now (trak .entry)))) t) × (r < 1048576) ⌝ }
+    ensures { λ r. ⌜ (r ≡ holder (perSample (tableOf stts (now (trak .entry)))) t) × (r < 1048576) ⌝ }
 {
     match runs::sample_at(table(trak, kinds::STTS), t) {
-        Found::At(index) => index as u32,
-        Found::Outside => 0,
+        Lookup::At(index) => index as u32,
+        Lookup::Outside => 0,
     }
 }
 
@@ -57,12 +57,12 @@ fn span_in(trak: &[u8], a: u32, b: u32) -> Asked
         return Asked::Refused(15);
     }
     match runs::sample_at(table(trak, kinds::STTS), b - 1) {
-        Found::At(last) => {
+        Lookup::At(last) => {
             let from = index_at(trak, a);
             let stop = last as u32 + 1;
             Asked::Samples(Span { from, stop })
         }
-        Found::Outside => Asked::Refused(15),
+        Lookup::Outside => Asked::Refused(15),
     }
 }
 

@@ -20,12 +20,12 @@ use Rattle.leaves.specs.declared.Form.the-variants.{Entries, Sizes}
 use Rattle.leaves.specs.declared.LeafRule.the-variants.{Size}
 use Rattle.leaves.specs.Present.{one, atMostOne, tables, present}
 use Rattle.leaves.specs.Leaves.{formOf, holdsEntries, sizeOk, leafOk, atomOk, leavesOk, sizedEntries}
-use Rattle.structure.specs.Rows.{Row, some, first, orElse, rising}
+use Rattle.structure.specs.Rows.{Row, some, first, orElse, numbersRise}
 use Rattle.structure.specs.Profile.{profileOk}
 use Rattle.structure.specs.Track.{mdiaOf, minfOf, stblOf, tableOf, elstOf, subtypeOf, samplesOf, chunksOf, editsOf, descriptionsOf, profileOf}
 use Rattle.structure.specs.Movie.{moovOf, tracksOf, trackAt, movieProfile}
 use Rattle.structure.specs.Limits.{overLimits, tooMany}
-use Rattle.structure.specs.Refusals.{fileRows, movieRows, wrongSize, narrow, wrongTrackSize, movieRefusal, refusalOf}
+use Rattle.structure.specs.Refusals.{fileRows, movieRows, wrongSize, shortVideoDescription, wrongTrackSize, movieRefusal, refusalOf}
 use Rattle.structure.proofs.Tracks.{file-rows-rise, movie-rows-rise}
 use Rattle.structure.proofs.Shaped.{Entered, MayEnter, Shaped, ShapedMovie, ShapedFile}
 
@@ -50,8 +50,8 @@ clear-step f r rs true q k z g = absurd (omega arith)
 clear-step f r rs false q k z g = (q, g z)
 
 -- no number is given: no row holds
-pub clear : (f : Row → Bool) (n : ℕ) (rs : List Row) → rising n rs ≡ true → first f rs ≡ 0 → Clear f rs
-unfolding first rising
+pub clear : (f : Row → Bool) (n : ℕ) (rs : List Row) → numbersRise n rs ≡ true → first f rs ≡ 0 → Clear f rs
+unfolding first numbersRise
 clear f n [] h e = tt
 clear f n (r ∷ rs) h e =
     let k = ltb-true n (r .number) (and-left _ _ h) in
@@ -192,7 +192,7 @@ module _ (t : List ℕ) (P : everywhere present 4 trak t ≡ true) (Z : everywhe
           may-enter edts elst 12 _ refl (everywhere-here (leavesOk Size) 2 edts _ (everywhere-into (leavesOk Size) 3 trak edts 0 t Z refl (omega arith)))
 
   shaped-track : wrongTrackSize t ≡ false → overLimits t ≡ false → Shaped t
-  unfolding tables formOf sizeOk narrow wrongTrackSize overLimits
+  unfolding tables formOf sizeOk shortVideoDescription wrongTrackSize overLimits
   shaped-track N L =
       let s = stblOf t in
       let a₆ = and-left _ _ stbl-has in

@@ -16,7 +16,7 @@ use Rattle.structure.specs.Track.{mdiaOf, minfOf, stblOf, tableOf, elstO
 use Rattle.structure.specs.Movie.{moovOf, movieProfile}
 use Rattle.structure.specs.Limits.{overLimits, tooMany}
 use Rattle.structure.specs.Rows.{some, first, orElse}
-use Rattle.structure.specs.Refusals.{wrongVersion, wrongSize, narrow, wrongTrackSize, fileRows, movieRows, movieRefusal, refusalOf}
+use Rattle.structure.specs.Refusals.{wrongVersion, wrongSize, shortVideoDescription, wrongTrackSize, fileRows, movieRows, movieRefusal, refusalOf}
 
 -- ---- how the films are made
 
@@ -158,5 +158,5 @@ cases =
     ∷ []
 
 results : map (λ e. refusalOf (e .0)) cases ≡ map (λ e. e .1) cases
-unfolding beAt container piecesAfter total filledBy fitting headerOf bodyOf sizeInside sizeTop sizeIn ofKind all everywhere one atMostOne tables present formOf skipped versionOk holdsEntries sizeEntry filledWith sizedEntries sizeOk leafOk firstBefore ofVersion0 profileIn profileOk mdiaOf minfOf stblOf tableOf elstOf subtypeOf profileOf moovOf movieProfile overLimits tooMany some first orElse wrongVersion wrongSize narrow wrongTrackSize fileRows movieRows movieRefusal refusalOf
+unfolding beAt container piecesAfter total filledBy fitting headerOf bodyOf sizeInside sizeTop sizeIn ofKind all everywhere one atMostOne tables present formOf skipped versionOk holdsEntries sizeEntry filledWith sizedEntries sizeOk leafOk firstBefore ofVersion0 profileIn profileOk mdiaOf minfOf stblOf tableOf elstOf subtypeOf profileOf moovOf movieProfile overLimits tooMany some first orElse wrongVersion wrongSize shortVideoDescription wrongTrackSize fileRows movieRows movieRefusal refusalOf
 results = refl

@@ -10,7 +10,7 @@ use lib.Dec.{ltb, eqb·suc-zero}
 use borrow.Author.Tests.{ltb-true, ne-eqb}
 use native.Mathlib.Omega.{arith}
 use Rattle.atoms.proofs.Laws.{and-left, and-right}
-use Rattle.structure.specs.Rows.{Row, some, first, lowest, ofWhole, ofTrack, lowerOf, ofTracks, orElse, rising}
+use Rattle.structure.specs.Rows.{Row, some, first, lowest, ofWhole, ofTrack, lowerOf, ofTracks, orElse, numbersRise}
 
 -- ---- the lower of two, 0 being none
 
@@ -45,8 +45,8 @@ lower-assoc (suc a) (suc b) (suc c) =
 abbrev Above : ℕ → ℕ → Type 0
 Above n x = (x ≡ 0) ⊎ (n < x)
 
-first-above : (f : Row → Bool) (n : ℕ) (rs : List Row) → rising n rs ≡ true → Above n (first f rs)
-unfolding first rising
+first-above : (f : Row → Bool) (n : ℕ) (rs : List Row) → numbersRise n rs ≡ true → Above n (first f rs)
+unfolding first numbersRise
 first-above f n [] h = inl refl
 first-above f n (r ∷ rs) h =
     let k : n < r .number = ltb-true n (r .number) (and-left _ _ h) in
@@ -65,9 +65,9 @@ step false true k x y z h f g e =
     ⊎-elim (λ q. sym (lower-zero x k q)) (λ l. sym (lower-pos x k (omega arith) h ∙ omega arith)) f
 step false false k x y z h f g e = e
 
-pub first-or : (f g : Row → Bool) (n : ℕ) (rs : List Row) → rising n rs ≡ true
+pub first-or : (f g : Row → Bool) (n : ℕ) (rs : List Row) → numbersRise n rs ≡ true
     → first (λ r. f r || g r) rs ≡ lowerOf (first f rs) (first g rs)
-unfolding first rising lowerOf
+unfolding first numbersRise lowerOf
 first-or f g n [] h = refl
 first-or f g n (r ∷ rs) h =
     let k = ltb-true n (r .number) (and-left _ _ h) in
@@ -82,13 +82,13 @@ unfolding first
 none-first [] = refl
 none-first (r ∷ rs) = none-first rs
 
-tracks-first : (n : ℕ) (rs : List Row) (ts : List (List ℕ)) → rising n rs ≡ true → first (λ r. some (r .track) ts) rs ≡ ofTracks rs ts
+tracks-first : (n : ℕ) (rs : List Row) (ts : List (List ℕ)) → numbersRise n rs ≡ true → first (λ r. some (r .track) ts) rs ≡ ofTracks rs ts
 unfolding some ofTracks
 tracks-first n rs [] h = none-first rs
 tracks-first n rs (t ∷ ts) h =
     first-or (λ r. r .track t) (λ r. some (r .track) ts) n rs h ∙ ap (lowerOf (ofTrack rs t)) (tracks-first n rs ts h)
 
-pub by-tracks : (n : ℕ) (rs : List Row) (m : List ℕ) (ts : List (List ℕ)) → rising n rs ≡ true
+pub by-tracks : (n : ℕ) (rs : List Row) (m : List ℕ) (ts : List (List ℕ)) → numbersRise n rs ≡ true
     → lowest rs m ts ≡ lowerOf (ofWhole rs m) (ofTracks rs ts)
 by-tracks n rs m ts h =
     first-or (λ r. r .whole m) (λ r. some (r .track) ts) n rs h ∙ ap (lowerOf (ofWhole rs m)) (tracks-first n rs ts h)
@@ -100,14 +100,14 @@ unfolding orElse
 append-step true k x y z h e = rw (ne-eqb k 0 (λ q. omega arith))
 append-step false k x y z h e = e
 
-pub first-append : (f : Row → Bool) (n : ℕ) (a b : List Row) → rising n a ≡ true → first f (a ++ b) ≡ orElse (first f a) (first f b)
-unfolding first rising orElse
+pub first-append : (f : Row → Bool) (n : ℕ) (a b : List Row) → numbersRise n a ≡ true → first f (a ++ b) ≡ orElse (first f a) (first f b)
+unfolding first numbersRise orElse
 first-append f n [] b h = refl
 first-append f n (r ∷ a) b h =
     let k = ltb-true n (r .number) (and-left _ _ h) in
     append-step (f r) (r .number) (first f a) (first f b) (first f (a ++ b)) (omega arith) (first-append f (r .number) a b (and-right (ltb n (r .number)) _ h))
 
 -- a second table that is judged on the same movie
-pub lowest-append : (n : ℕ) (a b : List Row) (m : List ℕ) (ts : List (List ℕ)) → rising n a ≡ true
+pub lowest-append : (n : ℕ) (a b : List Row) (m : List ℕ) (ts : List (List ℕ)) → numbersRise n a ≡ true
     → lowest (a ++ b) m ts ≡ orElse (lowest a m ts) (lowest b m ts)
 lowest-append n a b m ts h = first-append (λ r. r .whole m || some (r .track) ts) n a b h

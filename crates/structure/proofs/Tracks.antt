@@ -4,17 +4,17 @@ use Prim.Native.Nat.{ℕ}
 use mathlib.Core.Path.{_≡_, refl}
 use mathlib.Core.List.{List}
 use mathlib.Core.Bool.{true}
-use Rattle.structure.specs.Rows.{ofWhole, ofTracks, lowerOf, rising}
+use Rattle.structure.specs.Rows.{ofWhole, ofTracks, lowerOf, numbersRise}
 use Rattle.structure.specs.Movie.{tracksOf}
 use Rattle.structure.specs.Refusals.{fileRows, movieRows, movieRefusal}
 use Rattle.structure.proofs.Rows.{by-tracks}
 
-pub file-rows-rise : rising 0 fileRows ≡ true
-unfolding rising fileRows
+pub file-rows-rise : numbersRise 0 fileRows ≡ true
+unfolding numbersRise fileRows
 file-rows-rise = refl
 
-pub movie-rows-rise : rising 3 movieRows ≡ true
-unfolding rising movieRows
+pub movie-rows-rise : numbersRise 3 movieRows ≡ true
+unfolding numbersRise movieRows
 movie-rows-rise = refl
 
 pub movie-by-tracks : (m : List ℕ) → movieRefusal m ≡ lowerOf (ofWhole movieRows m) (ofTracks movieRows (tracksOf m))

@@ -17,8 +17,8 @@ use Rattle.structure.specs.Limits.{overLimits, tooMany}
 use Rattle.structure.specs.Rows.{Row, row, never, ofWhole, lowest, orElse}
 
 -- 1: "the file is longer than 2,147,483,647 bytes"
-abbrev pub tooLong : List ℕ → Bool
-tooLong s = ltb 2147483647 (length s)
+abbrev pub fileTooLong : List ℕ → Bool
+fileTooLong s = ltb 2147483647 (length s)
 
 -- 2: "an atom's size is wrong, passes its parent's end, or 1 to 7 bytes (under 16 for a 64-bit size) remain"
 abbrev pub wrongAtoms : List ℕ → Bool
@@ -37,17 +37,17 @@ unfoldable pub wrongSize : List ℕ → Bool
 wrongSize m = not (everywhere (leavesOk Size) 5 moov m) || not (profileOk (movieProfile m))
 
 -- "In a track of subtype 'vide' a description is at least 36 bytes (else refused 5)"
-unfoldable pub narrow : List ℕ → Bool
-narrow t = eqb (subtypeOf t) vide && not (sizedEntries 36 (tableOf stsd t))
+unfoldable pub shortVideoDescription : List ℕ → Bool
+shortVideoDescription t = eqb (subtypeOf t) vide && not (sizedEntries 36 (tableOf stsd t))
 
 -- 5 in a track: that, and its profile
 unfoldable pub wrongTrackSize : List ℕ → Bool
-wrongTrackSize t = narrow t || not (profileOk (profileOf t))
+wrongTrackSize t = shortVideoDescription t || not (profileOk (profileOf t))
 
 -- the rows that are judged on the file: number, condition on the file
 unfoldable pub fileRows : List Row
 fileRows =
-    row 1 tooLong never
+    row 1 fileTooLong never
     ∷ row 2 wrongAtoms never
     ∷ row 3 wrongCounts never
     ∷ []

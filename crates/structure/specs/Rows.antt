@@ -37,9 +37,9 @@ unfoldable pub orElse : ℕ → ℕ → ℕ
 orElse a b = cond (eqb a 0) b a
 
 -- whether the numbers rise, from above n
-unfoldable pub rising : ℕ → List Row → Bool
-rising n [] = true
-rising n (r ∷ rs) = ltb n (r .number) && rising (r .number) rs
+unfoldable pub numbersRise : ℕ → List Row → Bool
+numbersRise n [] = true
+numbersRise n (r ∷ rs) = ltb n (r .number) && numbersRise (r .number) rs
 
 -- ---- by tracks: the contracts of functions that judge a part. That these parts make up the table's answer is proved
 -- (`by-tracks`, in proofs/Rows)

@@ -23,7 +23,7 @@ ghost use mathlib.Core.Path.{_≡_};
 ghost use mathlib.Core.Bool.{_||_};
 ghost use Rattle.structure.specs.Limits.{overLimits, tooMany};
 ghost use Rattle.structure.specs.Rows.{lowerOf, ofWhole, ofTrack};
-ghost use Rattle.structure.specs.Refusals.{wrongVersion, wrongSize, narrow, wrongTrackSize, fileRows, movieRows, movieRefusal, refusalOf};
+ghost use Rattle.structure.specs.Refusals.{wrongVersion, wrongSize, shortVideoDescription, wrongTrackSize, fileRows, movieRows, movieRefusal, refusalOf};
 
 // The longest file.
 const LONGEST: usize = 2147483647;
@@ -54,8 +54,8 @@ pub fn lower_of(a: u32, b: u32) -> u32
 }
 
 // Whether a track of pictures has a description below 36 bytes.
-fn is_narrow(trak: &[u8]) -> bool
-    ensures { λ r. ⌜ r ≡ narrow (now (trak .entry)) ⌝ }
+fn has_short_video_description(trak: &[u8]) -> bool
+    ensures { λ r. ⌜ r ≡ shortVideoDescription (now (trak .entry)) ⌝ }
 {
     if subtype(trak) != kinds::VIDE {
         return false;
@@ -66,7 +66,7 @@ fn is_narrow(trak: &[u8]) -> bool
 fn is_wrong_track_size(trak: &[u8]) -> bool
     ensures { λ r. ⌜ r ≡ wrongTrackSize (now (trak .entry)) ⌝ }
 {
-    let small = is_narrow(trak);
+    let small = has_short_video_description(trak);
     let sized = profile_ok(track_profile(trak));
     either(small, !sized)
 }

@@ -28,7 +28,7 @@ fn of_runs(set: &[u8], question: u32, n: u32)
         asks::CTTS_COUNTS => show::truth(runs::counts(ctts, n)),
         asks::TIMING_OF => show::timing(runs::timing_of(stts, n)),
         asks::SAMPLE_AT => show::found(runs::sample_at(stts, n)),
-        _ => show::signed(runs::offset_at(ctts, n)),
+        _ => show::signed(runs::composition_offset(ctts, n)),
     }
 }
 
@@ -66,7 +66,7 @@ fn of_chunks(set: &[u8], question: u32, n: u32)
         asks::DEALS_AGREE => { show::truth(chunks::deals_agree(stsc, u32_at(stco, 12), n)) }
         asks::TOTAL_DEALT => show::total(chunks::total_dealt(stsc, n)),
         asks::LOCATE => show::located(place(set, n)),
-        asks::OFFSET_AT => show::number(chunks::offset_at(stsz, stco, place(set, n), n)),
+        asks::OFFSET_AT => show::number(chunks::located_offset(stsz, stco, place(set, n), n)),
         asks::CHUNK_OFFSET => show::number_32(words::chunk_offset(stco, n as u64)),
         _ => show::truth(chunk_ends::chunks_end_within(stsc, stsz, stco, n as u64)),
     }
@@ -133,7 +133,7 @@ fn heading(set: &[u8], ask: Ask)
         asks::TOTALS => totals(set),
         asks::TIMING_OF => show::text(b"timing_of"),
         asks::SAMPLE_AT => show::text(b"sample_at"),
-        asks::SHIFT_AT => show::text(b"offset_at in ctts"),
+        asks::SHIFT_AT => show::text(b"composition_offset"),
         asks::SIZE_OF => show::text(b"size_of"),
         asks::BYTES_BETWEEN => show::field(b"bytes_between from ", ask.a),
         asks::SYNCS_AGREE => show::text(b"syncs_agree"),
@@ -141,7 +141,7 @@ fn heading(set: &[u8], ask: Ask)
         asks::DEALS_AGREE => show::text(b"deals_agree"),
         asks::TOTAL_DEALT => show::text(b"total_dealt"),
         asks::LOCATE => show::text(b"locate"),
-        asks::OFFSET_AT => show::text(b"offset_at"),
+        asks::OFFSET_AT => show::text(b"located_offset"),
         asks::CHUNK_OFFSET => show::text(b"chunk_offset"),
         asks::ENDS_WITHIN => show::text(b"chunks_end_within"),
         asks::EDITS_TOTAL => edits_total(set),

@@ -2,7 +2,7 @@
 use chunks::Located;
 use edits::Mapped;
 use lists::Total;
-use runs::Found;
+use runs::Lookup;
 use runs::Timing;
 ghost use Prim.Native.Nat.{_<_, _^_};
 ghost use lib.Signed.{mag};
@@ -58,10 +58,10 @@ pub fn timing(t: Timing) {
     number_32(t.duration);
 }
 
-pub fn found(f: Found) {
+pub fn found(f: Lookup) {
     match f {
-        Found::At(n) => number(n),
-        Found::Outside => text(b"outside"),
+        Lookup::At(n) => number(n),
+        Lookup::Outside => text(b"outside"),
     }
 }
 

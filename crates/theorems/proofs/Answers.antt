@@ -28,7 +28,7 @@ use Rattle.stretch.specs.declared.StretchAnswer.the-variants as stretch
 use Rattle.theorems.proofs.Lists.{tables}
 
 -- the sample that was found has this index
-pub record Told (s : List ℕ) (id n : ℕ) (x : Sample) : Type 0 where
+pub record Known (s : List ℕ) (id n : ℕ) (x : Sample) : Type 0 where
   pub index : ℕ
   pub number : n ≡ suc index
   pub low : index < samplesOf (trackAsked s id)
@@ -64,9 +64,9 @@ module _ (s : List ℕ) (id : ℕ) (e : askRefusal s id ≡ 0) where
   unfolding sampleAnswer sampleRefusal orElse
   past-is n h = rw (e, lt-ltb 0 n (omega arith), lt-leb n (samplesOf (trackAsked s id)) h)
 
-  pub found-told : (n : ℕ) (x : Sample) → sampleAnswer s id n ≡ Found x → Told s id n x
-  found-told zero x q = let r = none-is in let z : _≡_ {A = ℕ} 0 1 = cc in absurd (omega arith)
-  found-told (suc i) x q = elim (decLe (suc i) (samplesOf (trackAsked s id))) [
+  pub found-known : (n : ℕ) (x : Sample) → sampleAnswer s id n ≡ Found x → Known s id n x
+  found-known zero x q = let r = none-is in let z : _≡_ {A = ℕ} 0 1 = cc in absurd (omega arith)
+  found-known (suc i) x q = elim (decLe (suc i) (samplesOf (trackAsked s id))) [
     | yes l ↦ let r = found-is (suc i) i refl l in record { index = i; number = refl; low = l; is = cc }
     | no l ↦ let r = past-is (suc i) (omega arith) in let z : _≡_ {A = ℕ} 0 1 = cc in absurd (omega arith)
   ]
@@ -81,8 +81,8 @@ module _ (s : List ℕ) (id : ℕ) (e : askRefusal s id ≡ 0) where
   unfolding atAnswer atRefusal orElse
   at-outside t h = rw (e, le-ltb (t .0) (sum (tables s id .durations)) h)
 
-  pub at-told : (t : MediaTime) (n : ℕ) → atAnswer s id t ≡ number.Number n → (t .0 < sum (tables s id .durations)) × (n ≡ suc (holder (tables s id .durations) (t .0)))
-  at-told t n q = elim (decLt (t .0) (sum (tables s id .durations))) [
+  pub at-known : (t : MediaTime) (n : ℕ) → atAnswer s id t ≡ number.Number n → (t .0 < sum (tables s id .durations)) × (n ≡ suc (holder (tables s id .durations) (t .0)))
+  at-known t n q = elim (decLt (t .0) (sum (tables s id .durations))) [
     | yes l ↦ let r = at-is t l in (l, cc)
     | no l ↦ let r = at-outside t (omega arith) in let z : _≡_ {A = ℕ} 0 1 = cc in absurd (omega arith)
   ]
@@ -101,21 +101,21 @@ span-test : (b : Bool) → _≡_ {A = ℕ} (cond b 0 15) 0 → b ≡ true
 span-test true e = refl
 span-test false e = absurd (omega arith)
 
-pub span-told : (s : List ℕ) (id : ℕ) (a b : MediaTime) → spanRefusal s id a b ≡ 0 → Span s id a b
+pub span-known : (s : List ℕ) (id : ℕ) (a b : MediaTime) → spanRefusal s id a b ≡ 0 → Span s id a b
 unfolding spanRefusal
-span-told s id a b e =
+span-known s id a b e =
     let n = none-else _ _ e in
     let r = span-test _ (n .1) in
     record { ask = n .0; order = ltb-true (a .0) (b .0) (and-left _ _ r); within = leb-true _ _ (and-right (ltb (a .0) (b .0)) _ r) }
 
-pub pairs-told : (s : List ℕ) (id : ℕ) (a b : MediaTime) (room : List ℕ) (k bytes : ℕ) → stretchAnswer s id a b room ≡ stretch.Pairs k bytes → Answered s id a b room k bytes
+pub pairs-known : (s : List ℕ) (id : ℕ) (a b : MediaTime) (room : List ℕ) (k bytes : ℕ) → stretchAnswer s id a b room ≡ stretch.Pairs k bytes → Answered s id a b room k bytes
 unfolding stretchAnswer stretchRefusal
-pairs-told s id a b room k bytes e = go (eqb (stretchRefusal s id a b room) 0) refl e
+pairs-known s id a b room k bytes e = go (eqb (stretchRefusal s id a b room) 0) refl e
   where
     go : (t : Bool) → eqb (stretchRefusal s id a b room) 0 ≡ t
         → cond t (stretch.Pairs (length (stretchPairs s id a b)) (bytesIn (tables s id) a b)) (stretch.Refused (stretchRefusal s id a b room)) ≡ stretch.Pairs k bytes
         → Answered s id a b room k bytes
     go true q w =
         let r = eqb-true _ _ q in
-        record { span = span-told s id a b (none-else _ _ r .0); refusal = r; count = cc; total = cc }
+        record { span = span-known s id a b (none-else _ _ r .0); refusal = r; count = cc; total = cc }
     go false q w = let z : _≡_ {A = ℕ} 0 1 = cc in absurd (omega arith)

@@ -8,7 +8,7 @@ use native.Mathlib.Omega.{arith}
 use lib.ListN.{length, getD}
 use Rattle.lists.specs.Lists.{sum, before, between, holder, Holds}
 use Rattle.lists.proofs.Places as places
-use Rattle.runs.specs.Runs.{durations}
+use Rattle.runs.specs.Runs.{perSample}
 use Rattle.words.specs.Words.{sizes, chunkOffsets}
 use Rattle.chunks.specs.Chunks.{perChunk, dealsAgree, offsetOf}
 use Rattle.edits.specs.declared.MediaTime.{MediaTime}
@@ -34,11 +34,11 @@ use Rattle.theorems.proofs.Lists.{tables, Listed, listed}
 use Rattle.theorems.proofs.Entries.{total-is, count-is, entry-counts, size-at, offset-at, entry-holds}
 use Rattle.theorems.proofs.Tracks.{own-asked, own-itself}
 use Rattle.stretch.proofs.Spanning.{flat-length}
-use Rattle.theorems.proofs.Answers.{Told, found-is, none-is, past-is, found-told, at-is, at-outside, at-told, pairs-is, pairs-told}
+use Rattle.theorems.proofs.Answers.{Known, found-is, none-is, past-is, found-known, at-is, at-outside, at-known, pairs-is, pairs-known}
 
 -- ---- what a sample's answer says of the lists
 
-module _ (s : List ℕ) (id n : ℕ) (x : Sample) (u : Told s id n x) where
+module _ (s : List ℕ) (id n : ℕ) (x : Sample) (u : Known s id n x) where
   decode-is : x .decode ≡ before (tables s id .durations) (u .index)
   unfolding sampleOf
   decode-is = ap (λ (y : Sample). y .decode) (u .is)
@@ -60,8 +60,8 @@ module _ (s : List ℕ) (id n : ℕ) (x : Sample) (u : Told s id n x) where
   offset-is = ap (λ (y : Sample). y .offset) (u .is)
 
   -- its media times are those that its duration holds
-  holds-told : (t : ℕ) → HasTime x t → Holds (tables s id .durations) t (u .index)
-  holds-told t h = record { from = omega (arith, decode-is, h .from); to = omega (arith, decode-is, duration-is, h .to) }
+  holds-known : (t : ℕ) → HasTime x t → Holds (tables s id .durations) t (u .index)
+  holds-known t h = record { from = omega (arith, decode-is, h .from); to = omega (arith, decode-is, duration-is, h .to) }
 
 -- and the other way round
 has-of : (s : List ℕ) (id i t : ℕ) → Holds (tables s id .durations) t i → HasTime (sampleOf (tables s id) i) t
@@ -94,8 +94,8 @@ module _ (s : List ℕ) (id : ℕ) (e : askRefusal s id ≡ 0) (l : Listed s id)
       let ds = tables s id .durations in
       let i = holder ds (a .0) in
       let j = holder ds (b .0 - 1) in
-      let f = at-told s id e a first p in
-      let g = at-told s id e z last q in
+      let f = at-known s id e a first p in
+      let g = at-known s id e z last q in
       let k : last ≡ suc j = g .1 ∙ rw d in
       let m : i ≤ j = places.holder-mono ds (a .0) (b .0 - 1) (omega arith) in
       let t : i + (suc j - i) ≡ suc j = omega arith in
@@ -160,9 +160,9 @@ module _ (s t : List ℕ) (e : askRefusal s (idOf t) ≡ 0) (itself : trackAsked
   chunked : chunksOf (trackAsked s (idOf t)) ≡ stcoEntries t
   chunked = ap chunksOf itself
 
-  durations-are : tables s (idOf t) .durations ≡ durations (tableOf stts t)
+  durations-are : tables s (idOf t) .durations ≡ perSample (tableOf stts t)
   unfolding trackOf
-  durations-are = ap (λ u. durations (tableOf stts u)) itself
+  durations-are = ap (λ u. perSample (tableOf stts u)) itself
 
   sizes-are : tables s (idOf t) .sizes ≡ sizes (tableOf stsz t)
   unfolding trackOf
@@ -198,11 +198,11 @@ module _ (s t : List ℕ) (e : askRefusal s (idOf t) ≡ 0) (itself : trackAsked
         past = λ n h. past-is s id e n (omega (arith, many));
         timed = sym (count-is t shape) ∙ ap length (sym durations-are) ∙ l .timed ∙ many;
         lasts = λ n x q.
-            let u = found-told s id e n x q in
+            let u = found-known s id e n x q in
             let k = entry-counts t shape n (u .index) (u .number) (omega (arith, u .low, l .timed, ap length durations-are)) in
             (k .0, k .1, duration-is s id n x u ∙ ap (λ (y : List ℕ). getD y (u .index) 0) durations-are ∙ k .2);
         sized = λ n x q.
-            let u = found-told s id e n x q in
+            let u = found-known s id e n x q in
             size-is s id n x u ∙ ap (λ (y : List ℕ). getD y (u .index) 0) sizes-are ∙ size-at t shape n (u .index) (u .number) (omega (arith, u .low, many));
         named = λ time h.
             let i = holder ds (time .0) in
@@ -215,14 +215,14 @@ module _ (s t : List ℕ) (e : askRefusal s (idOf t) ≡ 0) (itself : trackAsked
               f,
               has-of s id i (time .0) k,
               λ m y q w.
-                  let u = found-told s id e m y q in
-                  u .number ∙ ap suc (places.holder-only ds (time .0) (u .index) (holds-told s id m y u (time .0) w)),
+                  let u = found-known s id e m y q in
+                  u .number ∙ ap suc (places.holder-only ds (time .0) (u .index) (holds-known s id m y u (time .0) w)),
             );
         outside = λ time h. (
           at-outside s id e time (omega (arith, total)),
           λ m y q w.
-              let u = found-told s id e m y q in
-              omega (arith, total, places.holds-below ds (time .0) (u .index) (holds-told s id m y u (time .0) w) .0),
+              let u = found-known s id e m y q in
+              omega (arith, total, places.holds-below ds (time .0) (u .index) (holds-known s id m y u (time .0) w) .0),
         );
         perChunk = ps;
         deals = record {
@@ -233,18 +233,18 @@ module _ (s t : List ℕ) (e : askRefusal s (idOf t) ≡ 0) (itself : trackAsked
           all = l .dealt ∙ many;
         };
         in-chunk = λ n x q.
-            let u = found-told s id e n x q in
+            let u = found-known s id e n x q in
             gets-of ps (u .index) (holder ps (u .index)) (x .chunk) n (chunk-is s id n x u) (u .number) (places.holder-holds ps (u .index) (omega (arith, u .low, l .dealt)));
         gets = λ c n g.
             let o : n ≡ suc (n - 1) = omega (arith, g .after) in
             let f = found-is s id e n (n - 1) o (omega (arith, g .after, g .upto, places.before-le ps c, l .dealt)) in
-            let u = found-told s id e n (sampleOf (tables s id) (n - 1)) f in
+            let u = found-known s id e n (sampleOf (tables s id) (n - 1)) f in
             (sampleOf (tables s id) (n - 1), f, chunk-is s id n (sampleOf (tables s id) (n - 1)) u ∙ sym (gets-only ps (u .index) c n (u .number) g));
         first-in = λ c lo hi.
             let k = l .some (c - 1) (omega (arith, l .chunks, chunked)) in
             let i = before ps (c - 1) in
             let f = found-is s id e (suc i) i refl (omega (arith, first-low ps (c - 1) k, l .dealt)) in
-            let u = found-told s id e (suc i) (sampleOf (tables s id) i) f in
+            let u = found-known s id e (suc i) (sampleOf (tables s id) i) f in
             let v : u .index ≡ i = omega (arith, u .number) in (
               sampleOf (tables s id) i,
               f,
@@ -252,8 +252,8 @@ module _ (s t : List ℕ) (e : askRefusal s (idOf t) ≡ 0) (itself : trackAsked
               offset-is s id (suc i) (sampleOf (tables s id) i) u ∙ rw v (first-offset ps (c - 1) k cs zs) ∙ ap (λ (y : List ℕ). getD y (c - 1) 0) offsets-are ∙ offset-at t shape c lo hi,
             );
         next-in = λ n x y p q same.
-            let u = found-told s id e n x p in
-            let v = found-told s id e (suc n) y q in
+            let u = found-known s id e n x p in
+            let v = found-known s id e (suc n) y q in
             let w : v .index ≡ suc (u .index) = omega (arith, u .number, v .number) in
             let g : holder ps (u .index) ≡ holder ps (suc (u .index)) = omega (arith, same, chunk-is s id n x u, chunk-is s id (suc n) y v, ap (holder ps) w) in
             omega (
@@ -271,19 +271,19 @@ module _ (s t : List ℕ) (e : askRefusal s (idOf t) ≡ 0) (itself : trackAsked
           λ room h. pairs-is s id e a b room o (omega (arith, total)) (omega (arith, flat-length (stretchPairs s id a b))),
         );
         bytes = λ a b z room k total first last g d p q.
-            let r = pairs-told s id a b room k total g in
+            let r = pairs-known s id a b room k total g in
             r .total ∙ sizes-fit s id e l a b first last (run-of s id e l a b z first last (r .span .order) (r .span .within) d p q);
         cut = λ pos a m b n x f d o w room₁ room₂ room k₁ k₂ k bytes₁ bytes₂ bytes p q r.
-            let u = found-told s id e n x f in
+            let u = found-known s id e n x f in
             let all : (i : ℕ) → i < length ds → 0 < getD ds i 0 = λ i h.
             lasting s id e i (omega (arith, l .timed)) pos in
             let c = cut-fits s id a m b (u .index) all (omega (arith, u .low, l .timed)) (d ∙ decode-is s id n x u) o w in
             omega (
               arith,
               c,
-              pairs-told s id a m room₁ k₁ bytes₁ p .total,
-              pairs-told s id m b room₂ k₂ bytes₂ q .total,
-              pairs-told s id a b room k bytes r .total,
+              pairs-known s id a m room₁ k₁ bytes₁ p .total,
+              pairs-known s id m b room₂ k₂ bytes₂ q .total,
+              pairs-known s id a b room k bytes r .total,
             );
       }
 

@@ -19,7 +19,7 @@ use Rattle.lists.proofs.Laws.{length-run, sum-run, getD-in, getD-past}
 use Rattle.lists.proofs.Places.{before-suc, holder-holds, holds-below}
 use Rattle.lists.proofs.Rows.{rows-next, length-rows}
 use Rattle.lists.proofs.Cuts.{rows-drop}
-use Rattle.runs.specs.Runs.{runOf, runsOf, durations}
+use Rattle.runs.specs.Runs.{runOf, runsOf, perSample}
 use Rattle.words.specs.Words.{sizes, chunkOffsets}
 use Rattle.words.proofs.Turns.{offsets-in, words-at, sizes-listed, sizes-common}
 use Rattle.chunks.specs.Chunks.{Deal, dealOf, deals, firstOf, dealt, perChunk, dealing, dealsAgree}
@@ -133,8 +133,8 @@ module _ (t : List ℕ) (h : Shaped t) where
   counted-is k l = same-sums (sampleCount t) (λ j. getD (counts runs) j 0) k (λ j g. sym (count-at j (omega arith))) ∙ before-up (counts runs) k
 
   -- the total of the durations, and how many there are
-  pub total-is : sum (durations (tableOf stts t)) ≡ mediaTotal t
-  unfolding durations runs
+  pub total-is : sum (perSample (tableOf stts t)) ≡ mediaTotal t
+  unfolding perSample runs
   total-is =
       let n = sttsEntries t in
       run-sum runs
@@ -144,14 +144,14 @@ module _ (t : List ℕ) (h : Shaped t) where
       ∙ same-sums (λ j. getD (products runs) j 0) (λ k. sampleCount t k * sampleDuration t k) n
       (λ k g. product-at runs k ∙ ap (λ (x : ℕ). x * getD (values runs) k 0) (count-at k g) ∙ ap (λ (x : ℕ). sampleCount t k * x) (duration-at k g))
 
-  pub count-is : length (durations (tableOf stts t)) ≡ countedBy t (sttsEntries t)
-  unfolding durations runs
+  pub count-is : length (perSample (tableOf stts t)) ≡ countedBy t (sttsEntries t)
+  unfolding perSample runs
   count-is = run-length runs ∙ sym (before-all (counts runs)) ∙ ap (before (counts runs)) counts-length ∙ sym (counted-is (sttsEntries t) (omega arith))
 
   -- each is that of the entry which counts it
-  pub entry-counts : (n i : ℕ) → n ≡ suc i → i < length (durations (tableOf stts t))
-      → (k : ℕ) × Counts t k n × (getD (durations (tableOf stts t)) i 0 ≡ sampleDuration t k)
-  unfolding durations runs
+  pub entry-counts : (n i : ℕ) → n ≡ suc i → i < length (perSample (tableOf stts t))
+      → (k : ℕ) × Counts t k n × (getD (perSample (tableOf stts t)) i 0 ≡ sampleDuration t k)
+  unfolding perSample runs
   entry-counts n i q l =
       let k = holder (counts runs) i in
       let w = holder-holds (counts runs) i (omega (arith, run-length runs)) in

@@ -10,7 +10,7 @@ use lib.ListN.{length}
 use lib.Dec.{ltb, eqb·suc-zero}
 use borrow.Author.Tests.{ltb-true}
 use Rattle.atoms.proofs.Laws.{and-left, and-right}
-use Rattle.structure.specs.Rows.{Row, some, first, lowest, ofWhole, orElse, rising}
+use Rattle.structure.specs.Rows.{Row, some, first, lowest, ofWhole, orElse, numbersRise}
 use Rattle.structure.specs.Movie.{moovOf, movieScale, tracksOf}
 use Rattle.structure.specs.Refusals.{fileRows}
 use Rattle.structure.proofs.Tracks.{file-rows-rise}
@@ -29,15 +29,15 @@ given f (r ∷ rs) h = go (f r) refl h (given f rs)
     go true e g i = inl (e, refl)
     go false e g i = inr (i g)
 
-above : (f : Row → Bool) (n : ℕ) (rs : List Row) → rising n rs ≡ true → (k : ℕ) → OneHolds f rs k → n < k
-unfolding rising
+above : (f : Row → Bool) (n : ℕ) (rs : List Row) → numbersRise n rs ≡ true → (k : ℕ) → OneHolds f rs k → n < k
+unfolding numbersRise
 above f n [] h k o = absurd o
 above f n (r ∷ rs) h k o =
     let l = ltb-true n (r .number) (and-left _ _ h) in
     ⊎-elim (λ w. omega (arith, w .1)) (λ w. omega (arith, above f (r .number) rs (and-right (ltb n (r .number)) _ h) k w)) o
 
-no-lower : (f : Row → Bool) (n : ℕ) (rs : List Row) → rising n rs ≡ true → (k : ℕ) → OneHolds f rs k → (0 < first f rs) × (first f rs ≤ k)
-unfolding first rising
+no-lower : (f : Row → Bool) (n : ℕ) (rs : List Row) → numbersRise n rs ≡ true → (k : ℕ) → OneHolds f rs k → (0 < first f rs) × (first f rs ≤ k)
+unfolding first numbersRise
 no-lower f n [] h k o = absurd o
 no-lower f n (r ∷ rs) h k o =
     let l = ltb-true n (r .number) (and-left _ _ h) in
@@ -55,8 +55,8 @@ three : (f : Row → Bool) (k : ℕ) → OneHolds f fileRows k → k ≤ 3
 unfolding fileRows
 three f k o = ⊎-elim (λ w. omega (arith, w .1)) (⊎-elim (λ w. omega (arith, w .1)) (⊎-elim (λ w. omega (arith, w .1)) (λ w. absurd w))) o
 
-moov-rows-rise : (scale len : ℕ) → rising 3 (moovRows scale len) ≡ true
-unfolding rising moovRows
+moov-rows-rise : (scale len : ℕ) → numbersRise 3 (moovRows scale len) ≡ true
+unfolding numbersRise moovRows
 moov-rows-rise scale len = refl
 
 else-cases : (a b : ℕ) → ((a ≡ 0) × (orElse a b ≡ b)) ⊎ ((a ≡ 0 → ⊥) × (orElse a b ≡ a))

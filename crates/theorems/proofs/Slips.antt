@@ -24,8 +24,8 @@ use Rattle.slip.proofs.Promises.{reads-back, accepted-only, one-slip}
 use Rattle.structure.specs.Track.{scaleOf, samplesOf}
 use Rattle.structure.proofs.Callers.{none-else}
 use Rattle.track.specs.Track.{trackOf}
-use Rattle.track.specs.Refusals.{totalIn, beyond}
-use Rattle.movie.specs.Rooms.{filled, roomAfter}
+use Rattle.track.specs.Refusals.{totalIn, chunkPastEnd}
+use Rattle.movie.specs.Rooms.{filledRoom, roomAfter}
 use Rattle.questions.specs.Asked.{askRefusal, trackAsked}
 use Rattle.stretch.specs.Stretches.{firstIn, pastIn, pairsIn, stretchPairs, Stretches}
 use Rattle.stretch.specs.Slips.{slipHead, slipOfStretch, slipRefusal, slipAnswer, Slips}
@@ -37,15 +37,15 @@ use Rattle.theorems.proofs.Bytes.{scale-small, asked-id, id-small}
 use Rattle.pairs.proofs.Touched.{touched-few, some-touched, touched-fits, fits-below}
 use Rattle.theorems.proofs.Lists.{tables, listed}
 use Rattle.stretch.proofs.Spanning.{flat-length}
-use Rattle.theorems.proofs.Answers.{Span, span-told, pairs-told}
+use Rattle.theorems.proofs.Answers.{Span, span-known, pairs-known}
 
 -- ---- what an answer that is not refused tells
 
 -- the slip was written: nothing was refused, and n is its length
-slip-told : (s : List ℕ) (id : ℕ) (a b : MediaTime) (out : List ℕ) (n : ℕ) → slipAnswer s id a b out ≡ slip.Written n
+slip-known : (s : List ℕ) (id : ℕ) (a b : MediaTime) (out : List ℕ) (n : ℕ) → slipAnswer s id a b out ≡ slip.Written n
     → (slipRefusal s id a b out ≡ 0) × (n ≡ length (slipOfStretch s id a b))
 unfolding slipAnswer
-slip-told s id a b out n e = go (eqb (slipRefusal s id a b out) 0) refl e
+slip-known s id a b out n e = go (eqb (slipRefusal s id a b out) 0) refl e
   where
     go : (t : Bool) → eqb (slipRefusal s id a b out) 0 ≡ t → cond t (slip.Written (length (slipOfStretch s id a b))) (slip.Refused (slipRefusal s id a b out)) ≡ slip.Written n
         → (slipRefusal s id a b out ≡ 0) × (n ≡ length (slipOfStretch s id a b))
@@ -53,9 +53,9 @@ slip-told s id a b out n e = go (eqb (slipRefusal s id a b out) 0) refl e
     go false q w = let z : _≡_ {A = ℕ} 0 1 = cc in absurd (omega arith)
 
 -- the room after it
-filled-told : (refusal : ℕ) (answer room after : List ℕ) → refusal ≡ 0 → after ≡ roomAfter refusal answer room → after ≡ answer ++ drop (length answer) room
-unfolding roomAfter filled
-filled-told refusal answer room after z e = rw (eq-eqb refusal 0 z) at e
+filled-known : (refusal : ℕ) (answer room after : List ℕ) → refusal ≡ 0 → after ≡ roomAfter refusal answer room → after ≡ answer ++ drop (length answer) room
+unfolding roomAfter filledRoom
+filled-known refusal answer room after z e = rw (eq-eqb refusal 0 z) at e
 
 not-zero : (n : ℕ) → (n ≡ 0 → ⊥) → 0 < n
 not-zero n h = omega arith
@@ -75,7 +75,7 @@ span-samples s id a b p =
 
 -- each chunk ends within the file
 chunks-end : (s : List ℕ) (id : ℕ) → askRefusal s id ≡ 0 → endWithin (length s) (tables s id .perChunk) (tables s id .chunkOffsets) (tables s id .sizes) ≡ true
-unfolding trackOf beyond
+unfolding trackOf chunkPastEnd
 chunks-end s id e = not-false _ (asked s id e .track .within)
 
 -- and each time of the stretch is a number of 32 bits
@@ -113,13 +113,13 @@ unfolding slipOfStretch slipHead slipRefusal trackOf
 written-reads-back s bytes id a b = record {
   same = λ out after n slips room put k total stretches places enough r read reads.
       let ps = stretchPairs s id a b in
-      let u = slip-told s id a b out n (sym (slips .answer)) in
-      let v = pairs-told s id a b room k total (sym (stretches .answer)) in
-      let p = span-told s id a b (none-else _ _ (u .0) .0) in
+      let u = slip-known s id a b out n (sym (slips .answer)) in
+      let v = pairs-known s id a b room k total (sym (stretches .answer)) in
+      let p = span-known s id a b (none-else _ _ (u .0) .0) in
       let e : length (flat ps) ≡ 2 * k = omega (arith, flat-length ps, v .count) in
       let f : take n after ≡ slipOfStretch s id a b =
-      ap (take n) (filled-told _ (slipOfStretch s id a b) out after (u .0) (slips .places)) ∙ take-at (slipOfStretch s id a b) (drop (length (slipOfStretch s id a b)) out) n (sym (u .1)) in
-      let g = filled-told _ (flat ps) room put (v .refusal) (stretches .places) in
+      ap (take n) (filled-known _ (slipOfStretch s id a b) out after (u .0) (slips .places)) ∙ take-at (slipOfStretch s id a b) (drop (length (slipOfStretch s id a b)) out) n (sym (u .1)) in
+      let g = filled-known _ (flat ps) room put (v .refusal) (stretches .places) in
       let h = reads-back (take n after) places r read reads (slipHead s id a b) (flat ps) (record { bytes = f; rules = slip-rules s id a b bytes p }) (omega (arith, e)) in
       let m : length ps ≡ k = sym (v .count) in (
         h .0 ∙ ap (λ (x : ℕ). Accepted (headOf s id a b x)) m,

@@ -11,7 +11,7 @@ use Rattle.atoms.specs.Kinds.{stts, ctts, stsc}
 use Rattle.structure.specs.Track.{tableOf, samplesOf, chunksOf, descriptionsOf}
 use Rattle.structure.proofs.Callers.{or-left, or-right}
 use Rattle.lists.specs.Lists.{sum}
-use Rattle.runs.specs.Runs.{durations}
+use Rattle.runs.specs.Runs.{perSample}
 use Rattle.runs.proofs.Sentences.{counted-length}
 use Rattle.chunks.specs.Chunks.{perChunk, dealsAgree, dealsContradict}
 use Rattle.chunks.proofs.Clauses.{agree-clauses}
@@ -20,7 +20,7 @@ use Rattle.track.proofs.Clauses.{counts-clauses}
 
 pub record Agreed (t : List ℕ) : Type 0 where
   -- as many durations as samples
-  pub counted : length (durations (tableOf stts t)) ≡ samplesOf t
+  pub counted : length (perSample (tableOf stts t)) ≡ samplesOf t
   pub deals : dealsAgree (tableOf stsc t) (chunksOf t) (descriptionsOf t) ≡ true
   -- as many samples dealt to the chunks
   pub dealt : sum (perChunk (tableOf stsc t) (chunksOf t)) ≡ samplesOf t

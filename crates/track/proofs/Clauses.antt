@@ -10,7 +10,7 @@ use lib.Dec.{ltb, eqb}
 use borrow.Author.Tests.{ltb-true, ltb-false, eqb-true, eqb-false, eq-eqb, ne-eqb, not-true}
 use Rattle.lists.specs.Lists.{sum, Run, expand}
 use Rattle.lists.proofs.Laws.{length-run}
-use Rattle.runs.specs.Runs.{runsOf, durations, counting}
+use Rattle.runs.specs.Runs.{runsOf, perSample, counting}
 use Rattle.words.specs.Words.{syncsAgree}
 use Rattle.chunks.specs.Chunks.{Deal, deals, dealt, perChunk, dealsAgree, dealsContradict, isEmpty}
 use Rattle.chunks.proofs.Clauses.{agree-clauses}
@@ -56,7 +56,7 @@ not-or false true = refl
 not-or false false = refl
 
 pub counts-clauses : (n : ℕ) (s : List ℕ) → counting n (runsOf s) ≡ not (miscounted n s)
-unfolding miscounted durations
+unfolding miscounted perSample
 counts-clauses n s = counting-runs n (runsOf s) ∙ sym (not-or (anyEmpty (runsOf s)) (eqb n (length (expand (runsOf s)))))
 
 -- ---- no chunks and some samples

@@ -10,39 +10,39 @@ use borrow.Author.Tests.{lt-ltb, le-ltb, eq-eqb, ne-eqb}
 use Rattle.lists.specs.declared.Total.{Total}
 use Rattle.lists.specs.declared.Total.the-variants.{Sum, Over}
 use Rattle.lists.specs.Totals.{totalOf}
-use Rattle.lists.proofs.Totals.{total-told, over-told}
+use Rattle.lists.proofs.Totals.{total-known, over-known}
 use Rattle.structure.specs.Rows.{first, ofTrack}
 use Rattle.atoms.specs.Kinds.{stts, stsc, stsz, stco}
 use Rattle.bigendian.specs.BigEndian.{u32At}
 use Rattle.lists.specs.Lists.{sum}
-use Rattle.runs.specs.Runs.{durations}
+use Rattle.runs.specs.Runs.{perSample}
 use Rattle.words.specs.Words.{sizes, chunkOffsets}
 use Rattle.chunks.specs.Chunks.{perChunk, endWithin}
 use Rattle.structure.specs.Track.{idOf, scaleOf, durationOf, tableOf, elstOf}
 use Rattle.edits.specs.Edits.{editTotal, editsOk}
-use Rattle.track.specs.Refusals.{contradicts, totalIn, tooLong, otherDuration, beyond, wrongEdits, timedRows, trackRows}
+use Rattle.track.specs.Refusals.{contradicts, totalIn, totalTooLarge, otherDuration, chunkPastEnd, wrongEdits, timedRows, trackRows}
 
 -- ---- totals
 
 module _ (x : ℕ) (r : Total) (is : r ≡ totalOf x) where
   pub sum-is : (n : ℕ) → r ≡ Sum n → x ≡ n
-  sum-is n q = total-told x n (sym is ∙ q) .0
+  sum-is n q = total-known x n (sym is ∙ q) .0
 
   pub sum-within : (n : ℕ) → r ≡ Sum n → ltb 4294967295 x ≡ false
-  sum-within n q = le-ltb 4294967295 x (total-told x n (sym is ∙ q) .1)
+  sum-within n q = le-ltb 4294967295 x (total-known x n (sym is ∙ q) .1)
 
   pub over-is : r ≡ Over → ltb 4294967295 x ≡ true
-  over-is q = lt-ltb 4294967295 x (over-told x (sym is ∙ q))
+  over-is q = lt-ltb 4294967295 x (over-known x (sym is ∙ q))
 
   -- a total that fits is not over
   pub not-over : r ≡ Over → x < 4294967296 → ⊥
-  not-over q h = let k = over-told x (sym is ∙ q) in omega arith
+  not-over q h = let k = over-known x (sym is ∙ q) in omega arith
 
   pub sum-equal : (n k : ℕ) → r ≡ Sum n → eqb n k ≡ eqb x k
   sum-equal n k q = ap (λ y. eqb y k) (sym (sum-is n q))
 
   pub over-other : (k : ℕ) → k < 4294967296 → r ≡ Over → false ≡ eqb x k
-  over-other k h q = let o = over-told x (sym is ∙ q) in sym (ne-eqb x k (λ z. omega arith))
+  over-other k h q = let o = over-known x (sym is ∙ q) in sym (ne-eqb x k (λ z. omega arith))
 
 -- ---- rows 10 to 13
 
@@ -51,28 +51,28 @@ module _ (movie len : ℕ) (t : List ℕ) (total : ℕ) (is : total ≡ totalIn 
   short = le-ltb 4294967295 (totalIn t) (omega arith)
 
   pub timed-10 : ltb 4294967295 (editTotal (elstOf t)) ≡ true → ofTrack (timedRows movie len) t ≡ 10
-  unfolding timedRows first tooLong
+  unfolding timedRows first totalTooLarge
   timed-10 a = rw (short, a)
 
   module _ (a : ltb 4294967295 (editTotal (elstOf t)) ≡ false) where
     pub timed-11 : (durationOf t ≡ total → ⊥) → ofTrack (timedRows movie len) t ≡ 11
-    unfolding timedRows first tooLong otherDuration
+    unfolding timedRows first totalTooLarge otherDuration
     timed-11 b = rw (short, a, ne-eqb (durationOf t) (totalIn t) (λ z. b (z ∙ sym is)))
 
     module _ (b : durationOf t ≡ total) where
       same : eqb (durationOf t) (totalIn t) ≡ true
       same = eq-eqb (durationOf t) (totalIn t) (b ∙ is)
 
-      pub timed-12 : beyond len t ≡ true → ofTrack (timedRows movie len) t ≡ 12
-      unfolding timedRows first tooLong otherDuration
+      pub timed-12 : chunkPastEnd len t ≡ true → ofTrack (timedRows movie len) t ≡ 12
+      unfolding timedRows first totalTooLarge otherDuration
       timed-12 c = rw (short, a, same, c)
 
-      pub timed-13 : beyond len t ≡ false → wrongEdits movie t ≡ true → ofTrack (timedRows movie len) t ≡ 13
-      unfolding timedRows first tooLong otherDuration
+      pub timed-13 : chunkPastEnd len t ≡ false → wrongEdits movie t ≡ true → ofTrack (timedRows movie len) t ≡ 13
+      unfolding timedRows first totalTooLarge otherDuration
       timed-13 c d = rw (short, a, same, c, d)
 
-      pub timed-0 : beyond len t ≡ false → wrongEdits movie t ≡ false → ofTrack (timedRows movie len) t ≡ 0
-      unfolding timedRows first tooLong otherDuration
+      pub timed-0 : chunkPastEnd len t ≡ false → wrongEdits movie t ≡ false → ofTrack (timedRows movie len) t ≡ 0
+      unfolding timedRows first totalTooLarge otherDuration
       timed-0 c d = rw (short, a, same, c, d)
 
 -- ---- rows 7 to 9, and 10 where the durations alone are too long
@@ -97,20 +97,20 @@ module _ (movie len : ℕ) (t : List ℕ) where
       rows-timed c = rw (ne-eqb (idOf t) 0 a, ne-eqb (scaleOf t) 0 b, c)
 
 pub timed-over : (movie len : ℕ) (t : List ℕ) → ltb 4294967295 (totalIn t) ≡ true → ofTrack (timedRows movie len) t ≡ 10
-unfolding timedRows first tooLong
+unfolding timedRows first totalTooLarge
 timed-over movie len t a = rw a
 
 -- ---- the conditions, by what the code reads
 
-pub beyond-by : (len : ℕ) (t x z o : List ℕ) (r : Bool) → x ≡ tableOf stsc t → z ≡ tableOf stsz t → o ≡ tableOf stco t
-    → r ≡ endWithin len (perChunk x (u32At o 12)) (chunkOffsets o) (sizes z) → not r ≡ beyond len t
-unfolding beyond
-beyond-by len t x z o r ex ez eo e = rw (e, ex, ez, eo)
+pub chunk-past-end-by : (len : ℕ) (t x z o : List ℕ) (r : Bool) → x ≡ tableOf stsc t → z ≡ tableOf stsz t → o ≡ tableOf stco t
+    → r ≡ endWithin len (perChunk x (u32At o 12)) (chunkOffsets o) (sizes z) → not r ≡ chunkPastEnd len t
+unfolding chunkPastEnd
+chunk-past-end-by len t x z o r ex ez eo e = rw (e, ex, ez, eo)
 
 pub wrong-by : (movie : ℕ) (t l : List ℕ) (scale total : ℕ) (r : Bool) → l ≡ elstOf t → scale ≡ scaleOf t → total ≡ totalIn t → r ≡ editsOk scale movie total l → not r ≡ wrongEdits movie t
 unfolding wrongEdits
 wrong-by movie t l scale total r el es et e = rw (e, el, es, et)
 
-pub total-by : (t s : List ℕ) → s ≡ tableOf stts t → sum (durations s) ≡ totalIn t
+pub total-by : (t s : List ℕ) → s ≡ tableOf stts t → sum (perSample s) ≡ totalIn t
 unfolding totalIn
-total-by t s e = ap (λ (l : List ℕ). sum (durations l)) e
+total-by t s e = ap (λ (l : List ℕ). sum (perSample l)) e

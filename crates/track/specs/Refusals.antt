@@ -8,7 +8,7 @@ use Rattle.atoms.specs.Kinds.{stts, ctts, stsc, stsz, stco, stss}
 use Rattle.structure.specs.Track.{idOf, scaleOf, durationOf, tableOf, elstOf, samplesOf, chunksOf, descriptionsOf}
 use Rattle.structure.specs.Rows.{Row, row, never}
 use Rattle.lists.specs.Lists.{sum, Run}
-use Rattle.runs.specs.Runs.{runsOf, durations}
+use Rattle.runs.specs.Runs.{runsOf, perSample}
 use Rattle.words.specs.Words.{sizes, chunkOffsets, syncsAgree}
 use Rattle.chunks.specs.Chunks.{perChunk, dealsContradict, endWithin}
 use Rattle.edits.specs.Edits.{editTotal, editsOk}
@@ -19,7 +19,7 @@ anyEmpty (r ∷ rs) = eqb (r .count) 0 || anyEmpty rs
 
 -- "an stts or ctts entry counts 0 samples"; "stts, or a present ctts, doesn't total N": of one of the two tables
 unfoldable pub miscounted : ℕ → List ℕ → Bool
-miscounted n s = anyEmpty (runsOf s) || not (eqb n (length (durations s)))
+miscounted n s = anyEmpty (runsOf s) || not (eqb n (length (perSample s)))
 
 -- 9: "sample tables contradict each other", with N samples from stsz and C chunks from stco
 unfoldable pub contradicts : List ℕ → Bool
@@ -39,19 +39,19 @@ contradicts t =
 
 -- "the total of the sample durations"
 unfoldable pub totalIn : List ℕ → ℕ
-totalIn t = sum (durations (tableOf stts t))
+totalIn t = sum (perSample (tableOf stts t))
 
 -- 10: "the sample durations, or a track's edit durations, total over 4,294,967,295"
-unfoldable pub tooLong : List ℕ → Bool
-tooLong t = ltb 4294967295 (totalIn t) || ltb 4294967295 (editTotal (elstOf t))
+unfoldable pub totalTooLarge : List ℕ → Bool
+totalTooLarge t = ltb 4294967295 (totalIn t) || ltb 4294967295 (editTotal (elstOf t))
 
 -- 11: "the mdhd duration is not the total of the sample durations"
 unfoldable pub otherDuration : List ℕ → Bool
 otherDuration t = not (eqb (durationOf t) (totalIn t))
 
 -- 12: "a chunk's offset plus the sizes of its samples passes the file's end"
-unfoldable pub beyond : ℕ → List ℕ → Bool
-beyond len t = not (endWithin len (perChunk (tableOf stsc t) (chunksOf t)) (chunkOffsets (tableOf stco t)) (sizes (tableOf stsz t)))
+unfoldable pub chunkPastEnd : ℕ → List ℕ → Bool
+chunkPastEnd len t = not (endWithin len (perChunk (tableOf stsc t) (chunksOf t)) (chunkOffsets (tableOf stco t)) (sizes (tableOf stsz t)))
 
 -- 13: "an edit list is wrong"
 unfoldable pub wrongEdits : ℕ → List ℕ → Bool
@@ -60,7 +60,7 @@ wrongEdits movie t = not (editsOk (scaleOf t) movie (totalIn t) (elstOf t))
 -- the rows from 10 on, and from 7 on, for a movie of that time scale in a file of that length. What 7 and 8 say of the movie is the movie's to add: an ID that
 -- occurs twice, and the movie's own scale
 unfoldable pub timedRows : ℕ → ℕ → List Row
-timedRows movie len = row 10 never tooLong ∷ row 11 never otherDuration ∷ row 12 never (beyond len) ∷ row 13 never (wrongEdits movie) ∷ []
+timedRows movie len = row 10 never totalTooLarge ∷ row 11 never otherDuration ∷ row 12 never (chunkPastEnd len) ∷ row 13 never (wrongEdits movie) ∷ []
 
 -- 7: "a track ID is 0"; 8: "a .. media time scale is 0"
 unfoldable pub trackRows : ℕ → ℕ → List Row

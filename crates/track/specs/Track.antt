@@ -8,7 +8,7 @@ use Rattle.atoms.specs.Kinds.{stts, ctts, stsc, stsz, stco, stss, stsd, vide}
 use Rattle.descriptions.specs.Descriptions.{descriptions}
 use Rattle.structure.specs.Track.{idOf, subtypeOf, scaleOf, durationOf, tableOf, elstOf, profileOf, samplesOf, chunksOf}
 use Rattle.lists.specs.Lists.{upTo}
-use Rattle.runs.specs.Runs.{durations, offsetAt}
+use Rattle.runs.specs.Runs.{perSample, compositionOffset}
 use Rattle.words.specs.Words.{sizes, chunkOffsets, isSync}
 use Rattle.chunks.specs.Chunks.{perChunk, descriptionIds}
 use Rattle.edits.specs.Edits.{edits}
@@ -47,8 +47,8 @@ trackOf t =
       subtype = subtypeOf t;
       scale = scaleOf t;
       storedDuration = durationOf t;
-      durations = durations (tableOf stts t);
-      offsets = map (λ i. offsetAt (tableOf ctts t) i) (upTo (samplesOf t));
+      durations = perSample (tableOf stts t);
+      offsets = map (λ i. compositionOffset (tableOf ctts t) i) (upTo (samplesOf t));
       sizes = sizes (tableOf stsz t);
       syncs = map (λ i. isSync (tableOf stss t) (suc i)) (upTo (samplesOf t));
       perChunk = perChunk (tableOf stsc t) (chunksOf t);

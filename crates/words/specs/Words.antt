@@ -32,13 +32,13 @@ unfoldable pub syncs : List ℕ → List ℕ
 syncs s = wordsAfter 16 s
 
 -- each number above the one before it, the first above `last`, and the last one at most n
-abbrev pub rising : ℕ → ℕ → List ℕ → Bool
-rising n last [] = leb last n
-rising n last (x ∷ xs) = cond (ltb last x) (rising n x xs) false
+abbrev pub strictlyRising : ℕ → ℕ → List ℕ → Bool
+strictlyRising n last [] = leb last n
+strictlyRising n last (x ∷ xs) = cond (ltb last x) (strictlyRising n x xs) false
 
 -- whether stss is right, not so if "stss isn't strictly rising within 1 to N". An absent one lists nothing and is right
 unfoldable pub syncsAgree : List ℕ → ℕ → Bool
-syncsAgree s n = rising n 0 (syncs s)
+syncsAgree s n = strictlyRising n 0 (syncs s)
 
 -- whether x is one of some numbers
 abbrev pub listed : ℕ → List ℕ → Bool

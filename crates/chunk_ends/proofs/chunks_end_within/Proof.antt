@@ -13,7 +13,7 @@ use Rattle.words.specs.Words.{sizes, chunkOffsets}
 use Rattle.words.proofs.Sums.{few-sizes}
 use Rattle.chunks.specs.Chunks.{perChunk, endWithin}
 use Rattle.chunks.specs.Cursors.{ahead}
-use Rattle.chunks.specs.declared.Cursor.{Cursor}
+use Rattle.chunks.specs.declared.ChunkCursor.{ChunkCursor}
 use Rattle.chunk_ends.proofs.Ends.{Ending, ending-start, ended, passes, ending-next, ending-less}
 use Rattle.chunk_ends.proofs.chunks_end_within.Statement.{statement}
 use Rattle.chunk_ends.proofs.chunks_end_within.Tie as tie
@@ -48,7 +48,7 @@ loop-holds c =
     let s = c .before .before .before .before .before .before .before in
     let i = c .before .start-cursor .ensures in (
       ending-start (s .args .limit) (now (s .args .stsc)) (now (s .args .stco)) (sizes (now (s .args .stsz))) (c .before .before .before .u32-at .ensures) (c .before .before .after .ensures) i (c .ready .ensures .0),
-      c .ready .ensures .1 (omega (arith, ap (λ (x : Cursor). x .remaining) i)),
+      c .ready .ensures .1 (omega (arith, ap (λ (x : ChunkCursor). x .remaining) i)),
     )
 
 run-within-requires : tie.Need-run-within-requires Inv-loop μ-loop
@@ -89,7 +89,7 @@ loop-again c =
     let b = i .before in
     let m = b .before .before .before in (
       ending-next (m .loop .inv .0) (b .run-within .ensures) (c .before .pass .ensures) (c .ready2 .ensures .0) (not-false _ (i .if2 .left)) (few m) (c .before .before .after2 .ensures) (c .before .before .before .further .ensures),
-      c .ready2 .ensures .1 (omega (arith, ap (λ (x : Cursor). x .remaining) (c .before .pass .ensures))),
+      c .ready2 .ensures .1 (omega (arith, ap (λ (x : ChunkCursor). x .remaining) (c .before .pass .ensures))),
     )
 
 returns-2 : tie.Need-returns-2 Inv-loop μ-loop

@@ -11,7 +11,7 @@ use lib.ListN.{length}
 use Rattle.lists.proofs.Laws.{pos-of-lt-mul}
 use Rattle.chunks.specs.Chunks.{perChunk}
 use Rattle.chunks.specs.Cursors.{ahead}
-use Rattle.chunks.specs.declared.Cursor.{Cursor}
+use Rattle.chunks.specs.declared.ChunkCursor.{ChunkCursor}
 use Rattle.chunks.proofs.Finding.{Seeking, seeking-start, seeking-fits, seeking-skip, seeking-in, seeking-past, seeking-less, seeking-end}
 use Rattle.chunks.proofs.Turns.{run-fits, few-chunks}
 use Rattle.chunks.proofs.seek.Statement.{statement}
@@ -39,7 +39,7 @@ ready-requires : tie.Need-ready-requires Inv-loop μ-loop
 ready-requires c κs = search needs
 
 loop-holds : tie.Need-loop-holds Inv-loop μ-loop
-loop-holds c = (seeking-start _ _ _ (c .before .start-cursor .ensures) (c .ready .ensures .0), c .ready .ensures .1 (omega (arith, ap (λ (x : Cursor). x .remaining) (c .before .start-cursor .ensures))))
+loop-holds c = (seeking-start _ _ _ (c .before .start-cursor .ensures) (c .ready .ensures .0), c .ready .ensures .1 (omega (arith, ap (λ (x : ChunkCursor). x .remaining) (c .before .start-cursor .ensures))))
 
 cast-per : tie.Need-cast-per Inv-loop μ-loop
 cast-per c = search needs
@@ -85,7 +85,7 @@ loop-again : tie.Need-loop-again Inv-loop μ-loop
 loop-again c =
     let m = c .before .before .before .before .before .before in (
       seeking-past (m .loop .inv .0) (c .before .pass2 .ensures) (c .ready2 .ensures .0) (c .before .before .if2 .left),
-      c .ready2 .ensures .1 (omega (arith, ap (λ (x : Cursor). x .remaining) (c .before .pass2 .ensures))),
+      c .ready2 .ensures .1 (omega (arith, ap (λ (x : ChunkCursor). x .remaining) (c .before .pass2 .ensures))),
     )
 
 cast-t18 : tie.Need-cast-t18 Inv-loop μ-loop

@@ -6,22 +6,22 @@ use mathlib.Core.Path.{_≡_, sym, ap, _∙_}
 use native.Mathlib.Omega.{arith}
 use lib.Dec.{ltb}
 use Rattle.bigendian.proofs.Halves.{kept}
-use Rattle.edits.specs.Edits.{placeOf, placeOk, editOk}
-use Rattle.edits.specs.declared.Place.{Place}
+use Rattle.edits.specs.Edits.{startOf, startOk, editOk}
+use Rattle.edits.specs.declared.EditStart.{EditStart}
 use Rattle.edits.proofs.Signs.{from-mag}
-use Rattle.edits.proofs.Turns.{ok-zero, ok-rate, ok-place}
+use Rattle.edits.proofs.Turns.{ok-zero, ok-rate, ok-start}
 use Rattle.edits.proofs.edit_ok.Statement.{statement}
 use Rattle.edits.proofs.edit_ok.Tie as tie
 
 -- the place that the media time stands for
-told : (c : tie.After-place-of) → c .place-of .result ≡ placeOf (c .before .before .before .before .args .e .media)
-told c = let s = c .before .before .before .before in c .place-of .ensures ∙ ap placeOf (kept (s .args .e .media) (omega (arith, s .pre)))
+known : (c : tie.After-start-of) → c .start-of .result ≡ startOf (c .before .before .before .before .args .e .media)
+known c = let s = c .before .before .before .before in c .start-of .ensures ∙ ap startOf (kept (s .args .e .media) (omega (arith, s .pre)))
 
 -- an entry whose duration and rate are right is as its place is
-answer : (c : tie.After-place-of) {p : Place} → p ≡ c .place-of .result →
+answer : (c : tie.After-start-of) {p : EditStart} → p ≡ c .start-of .result →
     let a = c .before .before .before .before .args in
-    editOk (a .scale) (a .movie) (a .total) (a .e) ≡ placeOk (a .scale) (a .movie) (a .total) (a .e .duration) p
-answer c q = let s = c .before .before .before .before in ok-place _ _ _ (s .args .e) (c .before .before .before .if1 .left) (c .before .before .if2 .left) (q ∙ told c)
+    editOk (a .scale) (a .movie) (a .total) (a .e) ≡ startOk (a .scale) (a .movie) (a .total) (a .e .duration) p
+answer c q = let s = c .before .before .before .before in ok-start _ _ _ (s .args .e) (c .before .before .before .if1 .left) (c .before .before .if2 .left) (q ∙ known c)
 
 returns : tie.Need-returns
 returns c = sym (ok-zero _ _ _ _ (c .if1 .taken))
@@ -29,8 +29,8 @@ returns c = sym (ok-zero _ _ _ _ (c .if1 .taken))
 returns-2 : tie.Need-returns-2
 returns-2 c = sym (ok-rate _ _ _ _ (c .before .if1 .left) (c .if2 .taken))
 
-place-of-requires : tie.Need-place-of-requires
-place-of-requires c κs = search needs
+start-of-requires : tie.Need-start-of-requires
+start-of-requires c κs = search needs
 
 enum-known-p : tie.Need-enum-known-p
 enum-known-p c = search needs
@@ -45,7 +45,7 @@ add-last : tie.Need-add-last
 add-last c =
     let m = c .before .before in
     let s = m .before .before .before .before .before .before in
-    omega (arith, from-mag (s .args .e .media) _ (sym (m .p .given .1) ∙ told (m .before .before)), s .pre, c .scaled .ensures .1)
+    omega (arith, from-mag (s .args .e .media) _ (sym (m .p .given .1) ∙ known (m .before .before)), s .pre, c .scaled .ensures .1)
 
 enum-told : tie.Need-enum-told
 enum-told c = search needs
@@ -72,7 +72,7 @@ edit-ok-spec =
     (tie.spec
     returns
     returns-2
-    place-of-requires
+    start-of-requires
     enum-known-p
     sub-scaled
     scaled-requires

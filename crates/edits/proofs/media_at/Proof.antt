@@ -8,7 +8,7 @@ use denote.Ref.{now}
 use lib.ListN.{length, length-drop}
 use Rattle.bigendian.proofs.Halves.{kept}
 use Rattle.bigendian.proofs.Parts.{rest as part-rest}
-use Rattle.edits.specs.Edits.{editsIn, placeOf, shownAt, mapIn, mediaAt}
+use Rattle.edits.specs.Edits.{editsIn, startOf, shownAt, mapIn, mediaAt}
 use Rattle.edits.proofs.Turns.{map-here, map-past, map-end, media-absent, media-listed}
 use Rattle.edits.proofs.media_at.Statement.{statement}
 use Rattle.edits.proofs.media_at.Tie as tie
@@ -23,7 +23,7 @@ abbrev μ-loop : tie.MeasureT-loop
 shows : (c : tie.After-edit-at Inv-loop μ-loop) → c .before .before .loop .rest < c .edit-at .result .duration →
     let m = c .before .before in
     let a = m .before .before .before .before .args in
-    shownAt (a .scale) (a .movie) (a .total) (m .loop .rest) (placeOf (c .edit-at .result .media)) ≡ mediaAt (a .scale) (a .movie) (a .total) (now (a .elst)) (a .t)
+    shownAt (a .scale) (a .movie) (a .total) (m .loop .rest) (startOf (c .edit-at .result .media)) ≡ mediaAt (a .scale) (a .movie) (a .total) (now (a .elst)) (a .t)
 shows c h = sym (map-here _ _ _ _ _ (c .before .loop-test .taken) (c .edit-at .ensures .0) h) ∙ c .before .before .loop .inv
 
 shown-requires : tie.Need-shown-requires Inv-loop μ-loop
@@ -52,7 +52,7 @@ returns-2 c =
     let f = rw (kept (r .edit-at .result .media) (omega (arith, r .edit-at .ensures .1))) at (c .shown2 .ensures) in
     let m = r .before .before in
     let a = m .before .before .before .before .args in
-    _∙_ {b = shownAt (a .scale) (a .movie) (a .total) (m .loop .rest) (placeOf (r .edit-at .result .media))} f (shows r (c .before .before .if2 .taken))
+    _∙_ {b = shownAt (a .scale) (a .movie) (a .total) (m .loop .rest) (startOf (r .edit-at .result .media))} f (shows r (c .before .before .if2 .taken))
 
 sub-s : tie.Need-sub-s Inv-loop μ-loop
 sub-s c = search needs

@@ -5,23 +5,23 @@ use Prim.Native.Nat.{ℕ, _+_}
 use mathlib.Core.Path.{_≡_, sym, ap, _∙_}
 use native.Mathlib.Omega.{arith}
 use Rattle.bigendian.proofs.Halves.{kept}
-use Rattle.edits.specs.Edits.{placeOf, placed, shownAt}
-use Rattle.edits.specs.declared.Place.{Place}
+use Rattle.edits.specs.Edits.{startOf, placed, shownAt}
+use Rattle.edits.specs.declared.EditStart.{EditStart}
 use Rattle.edits.proofs.Signs.{from-mag}
 use Rattle.edits.proofs.shown.Statement.{statement}
 use Rattle.edits.proofs.shown.Tie as tie
 
 -- the place that the media time stands for, and what is shown there
-told : (c : tie.After-place-of) → c .place-of .result ≡ placeOf (c .before .args .media)
-told c = c .place-of .ensures ∙ ap placeOf (kept (c .before .args .media) (c .before .fits .media .sfits))
+known : (c : tie.After-start-of) → c .start-of .result ≡ startOf (c .before .args .media)
+known c = c .start-of .ensures ∙ ap startOf (kept (c .before .args .media) (c .before .fits .media .sfits))
 
-answer : (c : tie.After-place-of) {p : Place} → p ≡ c .place-of .result →
+answer : (c : tie.After-start-of) {p : EditStart} → p ≡ c .start-of .result →
     let a = c .before .args in
-    shownAt (a .scale) (a .movie) (a .total) (a .t) p ≡ shownAt (a .scale) (a .movie) (a .total) (a .t) (placeOf (a .media))
-answer c q = let a = c .before .args in ap (shownAt (a .scale) (a .movie) (a .total) (a .t)) (q ∙ told c)
+    shownAt (a .scale) (a .movie) (a .total) (a .t) p ≡ shownAt (a .scale) (a .movie) (a .total) (a .t) (startOf (a .media))
+answer c q = let a = c .before .args in ap (shownAt (a .scale) (a .movie) (a .total) (a .t)) (q ∙ known c)
 
-place-of-requires : tie.Need-place-of-requires
-place-of-requires c κs = search needs
+start-of-requires : tie.Need-start-of-requires
+start-of-requires c κs = search needs
 
 enum-known-p : tie.Need-enum-known-p
 enum-known-p c = search needs
@@ -33,7 +33,7 @@ add-place : tie.Need-add-place
 add-place c =
     let m = c .before .before in
     let s = m .before .before .before in
-    omega (arith, from-mag (s .args .media) _ (sym (m .p .given .1) ∙ told (m .before .before)), s .pre, c .scaled .ensures .1)
+    omega (arith, from-mag (s .args .media) _ (sym (m .p .given .1) ∙ known (m .before .before)), s .pre, c .scaled .ensures .1)
 
 within-requires : tie.Need-within-requires
 within-requires c κs = search needs
@@ -60,7 +60,7 @@ pub shown-spec : {M : Type 1} → statement M
 shown-spec =
     tie.close
     (tie.spec
-    place-of-requires
+    start-of-requires
     enum-known-p
     scaled-requires
     add-place

@@ -6,75 +6,75 @@ use Rattle.leaves.specs.Leaves.{formOf}
 use Rattle.leaves.proofs.form_of.Statement.{statement}
 use Rattle.leaves.proofs.form_of.Tie as tie
 
-inside-requires : tie.Need-inside-requires
-inside-requires c κs = tt
+in-parent-requires : tie.Need-in-parent-requires
+in-parent-requires c κs = tt
 
-inside-requires-2 : tie.Need-inside-requires-2
-inside-requires-2 c κs = tt
+in-parent-requires-2 : tie.Need-in-parent-requires-2
+in-parent-requires-2 c κs = tt
 
-inside-requires-3 : tie.Need-inside-requires-3
-inside-requires-3 c κs = tt
+in-parent-requires-3 : tie.Need-in-parent-requires-3
+in-parent-requires-3 c κs = tt
 
-inside-requires-4 : tie.Need-inside-requires-4
-inside-requires-4 c κs = tt
+in-parent-requires-4 : tie.Need-in-parent-requires-4
+in-parent-requires-4 c κs = tt
 
-inside-requires-5 : tie.Need-inside-requires-5
-inside-requires-5 c κs = tt
+in-parent-requires-5 : tie.Need-in-parent-requires-5
+in-parent-requires-5 c κs = tt
 
-inside-requires-6 : tie.Need-inside-requires-6
-inside-requires-6 c κs = tt
+in-parent-requires-6 : tie.Need-in-parent-requires-6
+in-parent-requires-6 c κs = tt
 
-inside-requires-7 : tie.Need-inside-requires-7
-inside-requires-7 c κs = tt
+in-parent-requires-7 : tie.Need-in-parent-requires-7
+in-parent-requires-7 c κs = tt
 
-inside-requires-8 : tie.Need-inside-requires-8
-inside-requires-8 c κs = tt
+in-parent-requires-8 : tie.Need-in-parent-requires-8
+in-parent-requires-8 c κs = tt
 
-inside-requires-9 : tie.Need-inside-requires-9
-inside-requires-9 c κs = tt
+in-parent-requires-9 : tie.Need-in-parent-requires-9
+in-parent-requires-9 c κs = tt
 
-inside-requires-10 : tie.Need-inside-requires-10
-inside-requires-10 c κs = tt
+in-parent-requires-10 : tie.Need-in-parent-requires-10
+in-parent-requires-10 c κs = tt
 
 returns : tie.Need-returns
 unfolding formOf
-returns c = rw (c .before .match .keys1) (c .inside .ensures)
+returns c = rw (c .before .match .keys1) (c .in-parent .ensures)
 
 returns-2 : tie.Need-returns-2
 unfolding formOf
-returns-2 c = rw (c .before .match .keys2) (c .inside2 .ensures)
+returns-2 c = rw (c .before .match .keys2) (c .in-parent2 .ensures)
 
 returns-3 : tie.Need-returns-3
 unfolding formOf
-returns-3 c = rw (c .before .match .keys3) (c .inside3 .ensures)
+returns-3 c = rw (c .before .match .keys3) (c .in-parent3 .ensures)
 
 returns-4 : tie.Need-returns-4
 unfolding formOf
-returns-4 c = rw (c .before .match .keys4) (c .inside4 .ensures)
+returns-4 c = rw (c .before .match .keys4) (c .in-parent4 .ensures)
 
 returns-5 : tie.Need-returns-5
 unfolding formOf
-returns-5 c = rw (c .before .match .keys5) (c .inside5 .ensures)
+returns-5 c = rw (c .before .match .keys5) (c .in-parent5 .ensures)
 
 returns-6 : tie.Need-returns-6
 unfolding formOf
-returns-6 c = ⊎-elim (λ e. rw e (c .inside6 .ensures)) (λ e. rw e (c .inside6 .ensures)) (c .before .match .keys6)
+returns-6 c = ⊎-elim (λ e. rw e (c .in-parent6 .ensures)) (λ e. rw e (c .in-parent6 .ensures)) (c .before .match .keys6)
 
 returns-7 : tie.Need-returns-7
 unfolding formOf
-returns-7 c = rw (c .before .match .keys7) (c .inside7 .ensures)
+returns-7 c = rw (c .before .match .keys7) (c .in-parent7 .ensures)
 
 returns-8 : tie.Need-returns-8
 unfolding formOf
-returns-8 c = rw (c .before .match .keys8) (c .inside8 .ensures)
+returns-8 c = rw (c .before .match .keys8) (c .in-parent8 .ensures)
 
 returns-9 : tie.Need-returns-9
 unfolding formOf
-returns-9 c = ⊎-elim (λ e. rw e (c .inside9 .ensures)) (λ e. rw e (c .inside9 .ensures)) (c .before .match .keys9)
+returns-9 c = ⊎-elim (λ e. rw e (c .in-parent9 .ensures)) (λ e. rw e (c .in-parent9 .ensures)) (c .before .match .keys9)
 
 returns-10 : tie.Need-returns-10
 unfolding formOf
-returns-10 c = rw (c .before .match .keys10) (c .inside10 .ensures)
+returns-10 c = rw (c .before .match .keys10) (c .in-parent10 .ensures)
 
 returns-11 : tie.Need-returns-11
 unfolding formOf
@@ -86,16 +86,16 @@ pub form-of-spec : {M : Type 1} → statement M
 form-of-spec =
     tie.close
     (tie.spec
-    inside-requires
-    inside-requires-2
-    inside-requires-3
-    inside-requires-4
-    inside-requires-5
-    inside-requires-6
-    inside-requires-7
-    inside-requires-8
-    inside-requires-9
-    inside-requires-10
+    in-parent-requires
+    in-parent-requires-2
+    in-parent-requires-3
+    in-parent-requires-4
+    in-parent-requires-5
+    in-parent-requires-6
+    in-parent-requires-7
+    in-parent-requires-8
+    in-parent-requires-9
+    in-parent-requires-10
     returns
     returns-2
     returns-3

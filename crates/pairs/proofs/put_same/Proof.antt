@@ -7,14 +7,14 @@ use denote.Ref.{now}
 use lib.ListN.{length, length-drop}
 use Rattle.bigendian.proofs.Parts.{rest as part-rest}
 use Rattle.words.specs.Words.{wordsIn}
-use Rattle.pairs.specs.Walks.{alike}
-use Rattle.pairs.proofs.Wholes.{alike-next, alike-end}
+use Rattle.pairs.specs.Walks.{equalLengthPairs}
+use Rattle.pairs.proofs.Wholes.{equal-length-next, equal-length-end}
 use Rattle.pairs.proofs.Filling.{Filling, filling-start, filling-end, one-fits, one-total, one-turn}
 use Rattle.pairs.proofs.put_same.Statement.{statement}
 use Rattle.pairs.proofs.put_same.Tie as tie
 
 abbrev Inv-loop : tie.InvT-loop
-Inv-loop offsets bytes room₀ at t₀ k₀ total₀ room t k total = Filling (alike bytes (wordsIn offsets)) room₀ at (alike bytes (wordsIn t)) room k total
+Inv-loop offsets bytes room₀ at t₀ k₀ total₀ room t k total = Filling (equalLengthPairs bytes (wordsIn offsets)) room₀ at (equalLengthPairs bytes (wordsIn t)) room k total
 
 abbrev μ-loop : tie.MeasureT-loop
 μ-loop offsets bytes room₀ at t₀ k₀ total₀ room t k total = length t
@@ -33,21 +33,21 @@ add-total c =
     let i = c .before in
     let l = i .before .loop in
     let s = i .before .before .before .before in
-    record { fits = one-total (l .inv) _ _ (alike-next _ (c .u32-at .ensures) (i .loop-test .taken) (s .args .bytes)) (s .pre .total) }
+    record { fits = one-total (l .inv) _ _ (equal-length-next _ (c .u32-at .ensures) (i .loop-test .taken) (s .args .bytes)) (s .pre .total) }
 
 put-pair-requires : tie.Need-put-pair-requires Inv-loop μ-loop
 put-pair-requires c κs =
     let i = c .before .before in
     let l = i .before .loop in
     let s = i .before .before .before .before in
-    one-fits (l .inv) _ _ (alike-next _ (c .before .u32-at .ensures) (i .loop-test .taken) (s .args .bytes)) (s .pre .total)
+    one-fits (l .inv) _ _ (equal-length-next _ (c .before .u32-at .ensures) (i .loop-test .taken) (s .args .bytes)) (s .pre .total)
 
 add-k : tie.Need-add-k Inv-loop μ-loop
 add-k c =
     let i = c .before .before .before .before .before in
     let l = i .before .loop in
     let s = i .before .before .before .before in
-    let h = one-fits (l .inv) _ _ (alike-next _ (c .before .before .before .before .u32-at .ensures) (i .loop-test .taken) (s .args .bytes)) (s .pre .total) .2 in
+    let h = one-fits (l .inv) _ _ (equal-length-next _ (c .before .before .before .before .u32-at .ensures) (i .loop-test .taken) (s .args .bytes)) (s .pre .total) .2 in
     let g : l .k + 2 ≤ length (now (s .args .room)) = omega (arith, h, l .inv .same) in
     record { fits = omega (arith, g, s .good) }
 
@@ -71,13 +71,13 @@ loop-again c =
     let i = c .before .before .before .before .before .before in
     let l = i .before .loop in
     let s = i .before .before .before .before in
-    rw (part-rest 4 (now (l .t))) (one-turn (l .inv) _ _ (alike-next _ (c .before .before .before .before .before .u32-at .ensures) (i .loop-test .taken) (s .args .bytes)) (c .before .before .before .put-pair .ensures))
+    rw (part-rest 4 (now (l .t))) (one-turn (l .inv) _ _ (equal-length-next _ (c .before .before .before .before .before .u32-at .ensures) (i .loop-test .taken) (s .args .bytes)) (c .before .before .before .put-pair .ensures))
 
 same-length : tie.Need-same-length Inv-loop μ-loop
 same-length c = c .before .loop .inv .same
 
 returns : tie.Need-returns Inv-loop μ-loop
-returns c = let l = c .before .loop in filling-end _ _ _ _ _ _ _ (l .inv) (alike-end _ (now (l .t)) (c .loop-test .left))
+returns c = let l = c .before .loop in filling-end _ _ _ _ _ _ _ (l .inv) (equal-length-end _ (now (l .t)) (c .loop-test .left))
 
 pub put-same-spec : {M : Type 1} → statement M
 put-same-spec =

@@ -7,14 +7,14 @@ use denote.Ref.{now}
 use lib.ListN.{length, length-drop, drop}
 use Rattle.bigendian.proofs.Parts.{rest as part-rest}
 use Rattle.lists.specs.Lists.{expand}
-use Rattle.runs.specs.Runs.{runsIn, durations, lesserOf, leastOf}
+use Rattle.runs.specs.Runs.{runsIn, perSample, lesserOf, leastOf}
 use Rattle.runs.proofs.Turns.{spread-in, spread-none, spread-next}
 use Rattle.runs.proofs.Leasts.{lesser-zero, least-turn}
 use Rattle.runs.proofs.least_duration.Statement.{statement}
 use Rattle.runs.proofs.least_duration.Tie as tie
 
 abbrev Inv-loop : tie.InvT-loop
-Inv-loop stts t₀ least₀ t least = lesserOf least (leastOf (expand (runsIn t))) ≡ leastOf (durations stts)
+Inv-loop stts t₀ least₀ t least = lesserOf least (leastOf (expand (runsIn t))) ≡ leastOf (perSample stts)
 
 abbrev μ-loop : tie.MeasureT-loop
 μ-loop stts t₀ least₀ t least = length t
@@ -31,8 +31,8 @@ u32-at-requires c κs = search needs
 u32-at-requires-2 : tie.Need-u32-at-requires-2 Inv-loop μ-loop
 u32-at-requires-2 c κs = search needs
 
-told-requires : tie.Need-told-requires Inv-loop μ-loop
-told-requires c κs = search needs
+least-of-run-requires : tie.Need-least-of-run-requires Inv-loop μ-loop
+least-of-run-requires c κs = search needs
 
 lesser-requires : tie.Need-lesser-requires Inv-loop μ-loop
 lesser-requires c κs = search needs
@@ -55,7 +55,7 @@ loop-again c =
     let m = n .before .before in
     let rest = expand (runsIn (drop 8 (now (m .loop .t)))) in
     rw part-rest
-    (ap (λ x. lesserOf x (leastOf rest)) (c .before .lesser .ensures ∙ ap (lesserOf (m .loop .least)) (c .before .before .told .ensures))
+    (ap (λ x. lesserOf x (leastOf rest)) (c .before .lesser .ensures ∙ ap (lesserOf (m .loop .least)) (c .before .before .least-of-run .ensures))
     ∙ least-turn (m .loop .least) (n .u32-at .result) (c .before .before .before .u32-at2 .result) rest
     ∙ ap (λ l. lesserOf (m .loop .least) (leastOf l))
     (sym (spread-next (now (m .loop .t)) (n .before .loop-test .taken) (n .u32-at .ensures) (c .before .before .before .u32-at2 .ensures)))
@@ -74,7 +74,7 @@ least-duration-spec =
     loop-holds
     u32-at-requires
     u32-at-requires-2
-    told-requires
+    least-of-run-requires
     lesser-requires
     sub-t
     part-t-start

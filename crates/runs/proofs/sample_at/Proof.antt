@@ -10,14 +10,14 @@ use lib.ListN.{length, length-drop, drop}
 use Rattle.bigendian.proofs.Parts.{rest as part-rest}
 use Rattle.lists.specs.Lists.{expand}
 use Rattle.lists.proofs.Laws.{Walk, Ahead, walk-start, walk-past, walk-in, walk-end, wide-mul}
-use Rattle.runs.specs.Runs.{runsIn, durations, sampleAt}
+use Rattle.runs.specs.Runs.{runsIn, perSample, sampleAt}
 use Rattle.runs.proofs.Turns.{spread-in, spread-none, spread-next}
 use Rattle.runs.proofs.sample_at.Statement.{statement}
 use Rattle.runs.proofs.sample_at.Tie as tie
 
 abbrev Inv-loop : tie.InvT-loop
 Inv-loop stts t s₀ passed₀ rest₀ s passed rest =
-    (passed + length s * 4294967295 ≤ length stts * 4294967295) × Walk (durations stts) (expand (runsIn s)) t passed rest × (rest ≤ t)
+    (passed + length s * 4294967295 ≤ length stts * 4294967295) × Walk (perSample stts) (expand (runsIn s)) t passed rest × (rest ≤ t)
 
 abbrev μ-loop : tie.MeasureT-loop
 μ-loop stts t s₀ passed₀ rest₀ s passed rest = length s
@@ -26,7 +26,7 @@ abbrev μ-loop : tie.MeasureT-loop
 here : (c : tie.After-u32-at2 Inv-loop μ-loop) →
     let m = c .before .before .before in
     let a = m .before .before .before .args in
-    Ahead (durations (now (a .stts))) (c .before .u32-at .result) (c .u32-at2 .result) (expand (runsIn (drop 8 (now (m .loop .s)))))
+    Ahead (perSample (now (a .stts))) (c .before .u32-at .result) (c .u32-at2 .result) (expand (runsIn (drop 8 (now (m .loop .s)))))
     (a .t) (m .loop .passed) (m .loop .rest)
 here c =
     let m = c .before .before .before in

@@ -9,13 +9,13 @@ use lib.ListN.{length, length-drop, drop}
 use Rattle.bigendian.proofs.Parts.{rest as part-rest}
 use Rattle.lists.specs.Lists.{expand}
 use Rattle.lists.proofs.Laws.{Search, Next, search-start, search-past, search-in, search-end, search-fits}
-use Rattle.runs.specs.Runs.{runsIn, durations, timingOf}
+use Rattle.runs.specs.Runs.{runsIn, perSample, timingOf}
 use Rattle.runs.proofs.Turns.{spread-in, spread-none, spread-next}
 use Rattle.runs.proofs.timing_of.Statement.{statement}
 use Rattle.runs.proofs.timing_of.Tie as tie
 
 abbrev Inv-loop : tie.InvT-loop
-Inv-loop stts index t₀ skip₀ start₀ t skip start = Search 4294967295 (durations stts) (expand (runsIn t)) index skip start
+Inv-loop stts index t₀ skip₀ start₀ t skip start = Search 4294967295 (perSample stts) (expand (runsIn t)) index skip start
 
 abbrev μ-loop : tie.MeasureT-loop
 μ-loop stts index t₀ skip₀ start₀ t skip start = length t
@@ -24,7 +24,7 @@ abbrev μ-loop : tie.MeasureT-loop
 here : (c : tie.After-u32-at2 Inv-loop μ-loop) →
     let m = c .before .before .before in
     let s = m .before .before .before in
-    Next 4294967295 (durations (now (s .args .stts))) (c .before .u32-at .result) (c .u32-at2 .result) (expand (runsIn (drop 8 (now (m .loop .t)))))
+    Next 4294967295 (perSample (now (s .args .stts))) (c .before .u32-at .result) (c .u32-at2 .result) (expand (runsIn (drop 8 (now (m .loop .t)))))
     (s .args .index) (m .loop .skip) (m .loop .start)
 here c =
     let m = c .before .before .before in

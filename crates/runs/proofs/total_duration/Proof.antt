@@ -9,7 +9,7 @@ use lib.ListN.{length, length-drop, drop}
 use Rattle.bigendian.proofs.Parts.{rest as part-rest}
 use Rattle.lists.specs.Lists.{sum, expand}
 use Rattle.lists.proofs.Laws.{product-max}
-use Rattle.runs.specs.Runs.{runsIn, durations}
+use Rattle.runs.specs.Runs.{runsIn, perSample}
 use Rattle.runs.proofs.Turns.{spread-in}
 use Rattle.runs.proofs.Sums.{adds-next, adds-end}
 use Rattle.lists.specs.Totals.{totalOf}
@@ -18,7 +18,7 @@ use Rattle.runs.proofs.total_duration.Statement.{statement}
 use Rattle.runs.proofs.total_duration.Tie as tie
 
 abbrev Inv-loop : tie.InvT-loop
-Inv-loop stts t₀ total₀ t total = (total ≤ 4294967295) × (total + sum (expand (runsIn t)) ≡ sum (durations stts))
+Inv-loop stts t₀ total₀ t total = (total ≤ 4294967295) × (total + sum (expand (runsIn t)) ≡ sum (perSample stts))
 
 abbrev μ-loop : tie.MeasureT-loop
 μ-loop stts t₀ total₀ t total = length t
@@ -27,7 +27,7 @@ abbrev μ-loop : tie.MeasureT-loop
 here : (c : tie.After-u32-at2 Inv-loop μ-loop) →
     let m = c .before .before .before in
     m .loop .total + c .before .u32-at .result * c .u32-at2 .result + sum (expand (runsIn (drop 8 (now (m .loop .t)))))
-    ≡ sum (durations (now (m .before .before .before .args .stts)))
+    ≡ sum (perSample (now (m .before .before .before .args .stts)))
 here c = let m = c .before .before .before in adds-next _ _ _ (c .before .before .loop-test .taken) (c .before .u32-at .ensures) (c .u32-at2 .ensures) (m .loop .inv .1)
 
 product : (c : tie.After-u32-at2 Inv-loop μ-loop) → c .before .u32-at .result * c .u32-at2 .result ≤ 18446744065119617025

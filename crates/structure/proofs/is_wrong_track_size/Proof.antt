@@ -8,8 +8,8 @@ use Rattle.structure.proofs.Or.{either-are}
 use Rattle.structure.proofs.is_wrong_track_size.Statement.{statement}
 use Rattle.structure.proofs.is_wrong_track_size.Tie as tie
 
-is-narrow-requires : tie.Need-is-narrow-requires
-is-narrow-requires c κs = tt
+has-short-video-description-requires : tie.Need-has-short-video-description-requires
+has-short-video-description-requires c κs = tt
 
 track-profile-requires : tie.Need-track-profile-requires
 track-profile-requires c κs = tt
@@ -24,13 +24,13 @@ returns : tie.Need-returns
 unfolding wrongTrackSize
 returns c =
     let b = c .before in
-    either-are (c .either .ensures) (b .before .before .is-narrow .ensures) (ap not (b .profile-ok .ensures ∙ ap profileOk (b .before .track-profile .ensures)))
+    either-are (c .either .ensures) (b .before .before .has-short-video-description .ensures) (ap not (b .profile-ok .ensures ∙ ap profileOk (b .before .track-profile .ensures)))
 
 pub is-wrong-track-size-spec : {M : Type 1} → statement M
 is-wrong-track-size-spec =
     tie.close
     (tie.spec
-    is-narrow-requires
+    has-short-video-description-requires
     track-profile-requires
     profile-ok-requires
     either-requires

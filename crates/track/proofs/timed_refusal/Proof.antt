@@ -5,7 +5,7 @@ use mathlib.Core.Bool.{not}
 use mathlib.Core.List.{List}
 use Prim.Native.Nat.{ℕ}
 use Rattle.structure.specs.Track.{elstOf}
-use Rattle.track.specs.Refusals.{beyond, wrongEdits}
+use Rattle.track.specs.Refusals.{chunkPastEnd, wrongEdits}
 use mathlib.Core.Path.{_≡_, sym, ap, _∙_}
 use native.Mathlib.Omega.{arith}
 use denote.Ref.{now}
@@ -14,7 +14,7 @@ use lib.ListN.{length}
 use Rattle.atoms.specs.Kinds.{stsz}
 use Rattle.structure.proofs.Lengths.{table-short}
 use Rattle.edits.specs.Edits.{editTotal}
-use Rattle.track.proofs.Rows.{timed-10, timed-11, timed-12, timed-13, timed-0, beyond-by, wrong-by}
+use Rattle.track.proofs.Rows.{timed-10, timed-11, timed-12, timed-13, timed-0, chunk-past-end-by, wrong-by}
 use Rattle.track.proofs.timed_refusal.Statement.{statement}
 use Rattle.track.proofs.timed_refusal.Tie as tie
 
@@ -23,8 +23,8 @@ over : (c : tie.After-is-over) → ltb 4294967295 (editTotal (elstOf (now (c .be
 over c = sym (c .is-over .ensures ∙ ap (λ (l : List ℕ). ltb 4294967295 (editTotal l)) (c .before .edit-list .ensures))
 
 -- whether a chunk passes the file's end
-ends : (c : tie.After-chunks-end-within) → beyond (c .before .before .before .before .before .before .before .before .before .before .args .len) (now (c .before .before .before .before .before .before .before .before .before .before .args .trak)) ≡ not (c .chunks-end-within .result)
-ends c = sym (beyond-by _ _ _ _ _ _ (c .before .before .table2 .ensures) (c .before .before .before .table .ensures) (c .before .table3 .ensures) (c .chunks-end-within .ensures))
+ends : (c : tie.After-chunks-end-within) → chunkPastEnd (c .before .before .before .before .before .before .before .before .before .before .args .len) (now (c .before .before .before .before .before .before .before .before .before .before .args .trak)) ≡ not (c .chunks-end-within .result)
+ends c = sym (chunk-past-end-by _ _ _ _ _ _ (c .before .before .table2 .ensures) (c .before .before .before .table .ensures) (c .before .table3 .ensures) (c .chunks-end-within .ensures))
 
 -- whether the edit list is wrong
 shows : (c : tie.After-edits-ok) → wrongEdits (c .before .before .before .before .before .before .before .before .before .before .before .before .before .args .movie) (now (c .before .before .before .before .before .before .before .before .before .before .before .before .before .args .trak)) ≡ not (c .edits-ok .result)

@@ -7,13 +7,13 @@ use native.Mathlib.Omega.{arith}
 use denote.Ref.{now}
 use lib.ListN.{length, length-drop}
 use Rattle.bigendian.proofs.Parts.{rest as part-rest}
-use Rattle.words.specs.Words.{wordsIn, rising, syncsAgree}
+use Rattle.words.specs.Words.{wordsIn, strictlyRising, syncsAgree}
 use Rattle.words.proofs.Syncs.{agree-in, rising-falls, rising-on, rising-end}
 use Rattle.words.proofs.syncs_agree.Statement.{statement}
 use Rattle.words.proofs.syncs_agree.Tie as tie
 
 abbrev Inv-loop : tie.InvT-loop
-Inv-loop stss samples t₀ last₀ t last = rising samples last (wordsIn t) ≡ syncsAgree stss samples
+Inv-loop stss samples t₀ last₀ t last = strictlyRising samples last (wordsIn t) ≡ syncsAgree stss samples
 
 abbrev μ-loop : tie.MeasureT-loop
 μ-loop stss samples t₀ last₀ t last = length t
@@ -22,7 +22,7 @@ after-requires : tie.Need-after-requires Inv-loop μ-loop
 after-requires c κs = search needs
 
 loop-holds : tie.Need-loop-holds Inv-loop μ-loop
-loop-holds c = let a = c .before .before .args in ap (λ l. rising (a .samples) 0 (wordsIn l)) (c .after .ensures) ∙ sym (agree-in (now (a .stss)) (a .samples))
+loop-holds c = let a = c .before .before .args in ap (λ l. strictlyRising (a .samples) 0 (wordsIn l)) (c .after .ensures) ∙ sym (agree-in (now (a .stss)) (a .samples))
 
 u32-at-requires : tie.Need-u32-at-requires Inv-loop μ-loop
 u32-at-requires c κs = search needs

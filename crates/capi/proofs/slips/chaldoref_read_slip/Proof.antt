@@ -2,7 +2,7 @@
 -- Assumes nothing.
 use borrow.Author.Needs.{needs}
 use mathlib.Core.Path.{refl, ap, sym, _∙_}
-use Rattle.slip.specs.Slip.{numbersOf, slipIn}
+use Rattle.slip.specs.Slip.{slipReadNumbers, slipIn}
 use Rattle.capi.proofs.Answered.{too-few, fills}
 use Rattle.capi.proofs.Judged.{read-judged, read-room, head-length}
 use Rattle.capi.proofs.slips.chaldoref_read_slip.Statement.{statement}
@@ -70,10 +70,10 @@ same-length-2 : tie.Need-same-length-2
 same-length-2 c = search needs
 
 returns-2 : tie.Need-returns-2
-unfolding numbersOf
+unfolding slipReadNumbers
 returns-2 c =
     let q = c .before .before .before .before .before .before .before .before .before .before .before .before .before .before .before .read-slip .ensures in
-    fills _ _ _ _ _ _ _ _ _ _ _ (read-judged _ _) (sym (q .numbers) ∙ ap numbersOf (c .before .before .before .before .before .before .before .before .before .before .before .h .given .1))
+    fills _ _ _ _ _ _ _ _ _ _ _ (read-judged _ _) (sym (q .numbers) ∙ ap slipReadNumbers (c .before .before .before .before .before .before .before .before .before .before .before .h .given .1))
     (c .before .before .before .before .before .before .before .before .before .before .before .before .before .before .before .before .before .if1 .left)
     (c .before .before .hand .ensures)
     (q .places ∙ read-room _ _)
@@ -85,10 +85,10 @@ same-length-4 : tie.Need-same-length-4
 same-length-4 c = search needs
 
 returns-3 : tie.Need-returns-3
-unfolding numbersOf
+unfolding slipReadNumbers
 returns-3 c =
     let q = c .before .before .before .before .before .before .before .before .before .read-slip .ensures in
-    fills _ _ _ _ _ _ _ _ _ _ _ (read-judged _ _) (sym (q .numbers) ∙ ap numbersOf (c .before .before .before .before .before .enum-told .given .1))
+    fills _ _ _ _ _ _ _ _ _ _ _ (read-judged _ _) (sym (q .numbers) ∙ ap slipReadNumbers (c .before .before .before .before .before .enum-told .given .1))
     (c .before .before .before .before .before .before .before .before .before .before .before .if1 .left)
     (c .before .before .hand2 .ensures)
     (q .places ∙ read-room _ _)
@@ -100,10 +100,10 @@ same-length-6 : tie.Need-same-length-6
 same-length-6 c = search needs
 
 returns-4 : tie.Need-returns-4
-unfolding numbersOf
+unfolding slipReadNumbers
 returns-4 c =
     let q = c .before .before .before .before .before .before .before .before .before .read-slip .ensures in
-    fills _ _ _ _ _ _ _ _ _ _ _ (read-judged _ _) (sym (q .numbers) ∙ ap numbersOf (c .before .before .before .before .before .enum-told2 .given .1))
+    fills _ _ _ _ _ _ _ _ _ _ _ (read-judged _ _) (sym (q .numbers) ∙ ap slipReadNumbers (c .before .before .before .before .before .enum-told2 .given .1))
     (c .before .before .before .before .before .before .before .before .before .before .before .if1 .left)
     (c .before .before .hand3 .ensures)
     (q .places ∙ read-room _ _)

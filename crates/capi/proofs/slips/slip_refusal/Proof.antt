@@ -4,7 +4,7 @@ use borrow.Author.Needs.{needs}
 use mathlib.Core.Path.{ap, sym, _∙_}
 use mathlib.Core.Bool.{cond}
 use lib.Dec.{eqb}
-use Rattle.slip.specs.Slip.{numbersOf}
+use Rattle.slip.specs.Slip.{slipReadNumbers}
 use Rattle.capi.specs.Places.{refusalIn}
 use Rattle.capi.proofs.Judged.{fault-first}
 use Rattle.capi.proofs.slips.slip_refusal.Statement.{statement}
@@ -26,16 +26,16 @@ enum-told-3 : tie.Need-enum-told-3
 enum-told-3 c = search needs
 
 returns : tie.Need-returns
-unfolding numbersOf
-returns c = sym (fault-first _ _ ∙ ap (λ ns. cond (eqb (refusalIn ns) 17) 17 0) (sym (c .before .before .before .read-slip .ensures .numbers) ∙ ap numbersOf (c .enum-told .given .1)))
+unfolding slipReadNumbers
+returns c = sym (fault-first _ _ ∙ ap (λ ns. cond (eqb (refusalIn ns) 17) 17 0) (sym (c .before .before .before .read-slip .ensures .numbers) ∙ ap slipReadNumbers (c .enum-told .given .1)))
 
 returns-2 : tie.Need-returns-2
-unfolding numbersOf
-returns-2 c = sym (fault-first _ _ ∙ ap (λ ns. cond (eqb (refusalIn ns) 17) 17 0) (sym (c .before .before .before .read-slip .ensures .numbers) ∙ ap numbersOf (c .enum-told2 .given .1)))
+unfolding slipReadNumbers
+returns-2 c = sym (fault-first _ _ ∙ ap (λ ns. cond (eqb (refusalIn ns) 17) 17 0) (sym (c .before .before .before .read-slip .ensures .numbers) ∙ ap slipReadNumbers (c .enum-told2 .given .1)))
 
 returns-3 : tie.Need-returns-3
-unfolding numbersOf
-returns-3 c = sym (fault-first _ _ ∙ ap (λ ns. cond (eqb (refusalIn ns) 17) 17 0) (sym (c .before .before .before .read-slip .ensures .numbers) ∙ ap numbersOf (c .enum-told3 .given .1)))
+unfolding slipReadNumbers
+returns-3 c = sym (fault-first _ _ ∙ ap (λ ns. cond (eqb (refusalIn ns) 17) 17 0) (sym (c .before .before .before .read-slip .ensures .numbers) ∙ ap slipReadNumbers (c .enum-told3 .given .1)))
 
 pub slip-refusal-spec : {M : Type 1} → statement M
 slip-refusal-spec =

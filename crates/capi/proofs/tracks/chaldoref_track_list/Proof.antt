@@ -3,7 +3,7 @@
 use borrow.Author.Needs.{needs}
 use mathlib.Core.Path.{refl}
 use Rattle.capi.proofs.Answered.{too-few, fills, of-case}
-use Rattle.movie.specs.TrackList.{listRefusal, numbersOf}
+use Rattle.movie.specs.TrackList.{listRefusal, trackListNumbers}
 use Rattle.capi.proofs.Judged.{list-judged}
 use Rattle.capi.proofs.tracks.chaldoref_track_list.Statement.{statement}
 use Rattle.capi.proofs.tracks.chaldoref_track_list.Tie as tie
@@ -46,9 +46,9 @@ same-length-2 : tie.Need-same-length-2
 same-length-2 c = search needs
 
 returns-2 : tie.Need-returns-2
-unfolding numbersOf
+unfolding trackListNumbers
 returns-2 c =
-    fills _ _ _ _ _ _ _ _ _ _ _ (list-judged _ _) (of-case numbersOf (c .before .before .before .before .before .before .before .before .before .before .track-list .ensures .answer) (c .before .before .before .before .before .before .n .given .1))
+    fills _ _ _ _ _ _ _ _ _ _ _ (list-judged _ _) (of-case trackListNumbers (c .before .before .before .before .before .before .before .before .before .before .track-list .ensures .answer) (c .before .before .before .before .before .before .n .given .1))
     (c .before .before .before .before .before .before .before .before .before .before .before .before .if1 .left)
     (c .before .before .hand .ensures)
     (c .before .before .before .before .before .before .before .before .before .before .track-list .ensures .places)
@@ -60,9 +60,9 @@ same-length-4 : tie.Need-same-length-4
 same-length-4 c = search needs
 
 returns-3 : tie.Need-returns-3
-unfolding numbersOf
+unfolding trackListNumbers
 returns-3 c =
-    fills _ _ _ _ _ _ _ _ _ _ _ (list-judged _ _) (of-case numbersOf (c .before .before .before .before .before .before .before .before .before .before .track-list .ensures .answer) (c .before .before .before .before .before .before .r .given .1))
+    fills _ _ _ _ _ _ _ _ _ _ _ (list-judged _ _) (of-case trackListNumbers (c .before .before .before .before .before .before .before .before .before .before .track-list .ensures .answer) (c .before .before .before .before .before .before .r .given .1))
     (c .before .before .before .before .before .before .before .before .before .before .before .before .if1 .left)
     (c .before .before .hand2 .ensures)
     (c .before .before .before .before .before .before .before .before .before .before .track-list .ensures .places)

@@ -80,8 +80,8 @@ abbrev ev : NumberRead → Val
 ev = EL.val E.the-type E′.the-laws
 
 -- the relation of an answer, at its machine value written out
-told : (r : NumberRead) (u : Val) → Is E.the-row r (u ∷ []) → Is E.the-row r (ev r ∷ [])
-told r u is = subst (Is E.the-row r) (EL.tells E.the-type E′.the-laws r (u ∷ []) is) is
+row-holds : (r : NumberRead) (u : Val) → Is E.the-row r (u ∷ []) → Is E.the-row r (ev r ∷ [])
+row-holds r u is = subst (Is E.the-row r) (EL.tells E.the-type E′.the-laws r (u ∷ []) is) is
 
 -- a local that holds a place, as what can be lent, and back
 module _ {M : Type 1} (𝓤 : URA M) (H : Heap 𝓤) (A : Atoms 𝓤) (W : Given 𝓤 H A) (l : ℕ) (x : Cursor) where
@@ -166,10 +166,10 @@ module _ {M : Type 1} (𝓤 : URA M) (H : Heap 𝓤) (A : Atoms 𝓤) (W : Given
         use1 W (‵ (fat fullShare T′.mir l₃ 0 (pv (zs .0))) ⊛ ‵ (P .own (zs .0) (pv (zs .0) ∷ []))) (out-mem 𝓤 H A W l₃ (zs .0)) $ split ! $ move ! (1 ∷ []) $ peeks ! P (Is P) (shows 𝓤 H A P) (zs .0) (pv (zs .0) ∷ []) (λ is-p.
         -- [what the place owns; _3; the token; the answer; the slice; _6; …; _5; …; _4; …; _3's …; _2; …; _1; …; room for _0; …]
         assigns ! (of-opd ! (load ! (from ! (stop !)) (look ! 1 refl))) (from ! (stop !)) (init ! 5 refl (LL.lawful T.the-type T′.the-laws 𝓤 H A W .typed (zs .0) _ is-p .0)) $
-        assigns ! (agg ! (and-then ! (load ! (from ! (stop !)) (look ! 5 refl)) (and-then ! (load ! (from ! (stop !)) (look ! 9 refl)) (no-more !)))) (from ! (stop !)) (init ! 16 refl (LL.lawful S.the-type S′.the-laws 𝓤 H A W .typed (record { cursor = zs .0; read = r }) _ (LL.owes S.the-type S′.the-laws (record { cursor = zs .0; read = r }) (is-p, (told r u is, tt))) .0)) $
+        assigns ! (agg ! (and-then ! (load ! (from ! (stop !)) (look ! 5 refl)) (and-then ! (load ! (from ! (stop !)) (look ! 9 refl)) (no-more !)))) (from ! (stop !)) (init ! 16 refl (LL.lawful S.the-type S′.the-laws 𝓤 H A W .typed (record { cursor = zs .0; read = r }) _ (LL.owes S.the-type S′.the-laws (record { cursor = zs .0; read = r }) (is-p, (row-holds r u is, tt))) .0)) $
         returns ! (look ! 16 refl) $ forget ! 1 refl $ forget ! 5 refl $ forget ! 7 refl $ forget ! 9 refl $ forget ! 12 refl $ forget ! 14 refl $ forget ! 16 refl $
         move ! (16 ∷ 17 ∷ []) $ free1 ! $ move ! (14 ∷ 15 ∷ []) $ free1 ! $ move ! (12 ∷ 13 ∷ []) $ free1 ! $ move ! (1 ∷ 11 ∷ []) $ free1 ! $ move ! (8 ∷ 9 ∷ []) $ free1 ! $ move ! (6 ∷ 7 ∷ []) $ free1 ! $ move ! (4 ∷ 5 ∷ []) $ free1 ! $ free0 ! $
-        keep ! (1 ∷ 3 ∷ []) $ by ! (exits r (zs .0) e was (told r u is) is-p))))))))))))))))
+        keep ! (1 ∷ 3 ∷ []) $ by ! (exits r (zs .0) e was (row-holds r u is) is-p))))))))))))))))
 
 module _ {M : Type 1} (𝓤 : URA M) (H : Heap 𝓤) (A : Atoms 𝓤) (W : Given 𝓤 H A) (mem : Memory → SProp 𝓤) (run : Routine → Fun 𝓤) where
   next-number-walks : (C : Calls 𝓤 H) (Λ : Loops 𝓤 H) → FmC 𝓤 H (W .laws) C → Triple 𝓤 (C #advance) (Advance 𝓤 H A mem run) → Walks 𝓤 H A next-number.ended stayed (WpFn 𝓤 H C Λ code.function) (next-number.clauses 𝓤 H A mem run)

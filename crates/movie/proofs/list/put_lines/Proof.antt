@@ -13,14 +13,14 @@ use Rattle.bigendian.proofs.Parts.{rest}
 use Rattle.structure.specs.Movie.{tracksOf}
 use Rattle.structure.proofs.Places.{tracks-none, tracks-next}
 use Rattle.movie.proofs.Places.{track-here}
-use Rattle.movie.specs.TrackList.{fields, linesOf, Fitting}
+use Rattle.movie.specs.TrackList.{fields, linesOf, TotalsFit}
 use Rattle.movie.proofs.Lines.{fits-here, fits-rest, room-here, turn}
 use Rattle.movie.proofs.list.put_lines.Statement.{statement}
 use Rattle.movie.proofs.list.put_lines.Tie as tie
 
 abbrev Inv-loop : tie.InvT-loop
 Inv-loop moov room₀ t₀ at₀ room t at =
-    Fitting (tracksOf t)
+    TotalsFit (tracksOf t)
     × (at + 7 * length (tracksOf t) ≤ length room)
     × (length room ≡ length room₀)
     × (sets room at (linesOf (tracksOf t)) ≡ sets room₀ 0 (linesOf (tracksOf moov)))

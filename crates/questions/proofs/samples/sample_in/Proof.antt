@@ -9,7 +9,7 @@ use Rattle.questions.proofs.Asking.{table-fits}
 use Rattle.questions.proofs.Found.{chunk-fits, starts-low, sample-made}
 use Rattle.questions.proofs.samples.sample_in.Statement.{statement}
 use Rattle.questions.proofs.samples.sample_in.Tie as tie
-use Rattle.runs.proofs.offset_at.Reads as offset-at-reads′
+use Rattle.runs.proofs.composition_offset.Reads as composition-offset-reads′
 
 table-requires : tie.Need-table-requires
 table-requires c κs = search needs
@@ -20,8 +20,8 @@ timing-of-requires c κs = search needs
 table-requires-2 : tie.Need-table-requires-2
 table-requires-2 c κs = search needs
 
-offset-at-requires : tie.Need-offset-at-requires
-offset-at-requires c κs = search needs
+composition-offset-requires : tie.Need-composition-offset-requires
+composition-offset-requires c κs = search needs
 
 table-requires-3 : tie.Need-table-requires-3
 table-requires-3 c κs = search needs
@@ -43,7 +43,7 @@ shifted-requires c κs =
     let o = c .before .before .before .before .before in
     let r = o .before .before in
     let a = r .before .before .before in
-    (starts-low _ _ _ _ (r .before .table .ensures) (r .timing-of .ensures) (a .pre .1), rw (kept (o .offset-at .result) (o .offset-at .ok)) (o .offset-at .ensures .1))
+    (starts-low _ _ _ _ (r .before .table .ensures) (r .timing-of .ensures) (a .pre .1), rw (kept (o .composition-offset .result) (o .composition-offset .ok)) (o .composition-offset .ensures .1))
 
 table-requires-6 : tie.Need-table-requires-6
 table-requires-6 c κs = search needs
@@ -61,8 +61,8 @@ add-t16 c =
     let h = chunk-fits _ _ (a .pre .2) (a .pre .3) _ _ _ _ (p .before .before .before .table4 .ensures) (p .before .before .table5 .ensures) (p .before .u32-at .ensures) (p .before .u32-at .ok) (p .locate .ensures) in
     record { fits = omega arith }
 
-offset-at-requires-2 : tie.Need-offset-at-requires-2
-offset-at-requires-2 c κs = search needs
+located-offset-requires : tie.Need-located-offset-requires
+located-offset-requires c κs = search needs
 
 size-of-requires : tie.Need-size-of-requires
 size-of-requires c κs = search needs
@@ -75,10 +75,10 @@ returns c =
     let a = r .before .before .before in
     let y = c .before .before .before in
     let s = c .before .before .before .before .before in
-    let comp = kept (s .shifted .result) (s .shifted .ok) ∙ s .shifted .ensures ∙ ap (λ z. pos (r .timing-of .result .start) +ℤ z) (kept (o .offset-at .result) (o .offset-at .ok)) in
-    sample-made _ _ _ _ _ _ _ _ _ _ _ _ _ _ _ _ (a .pre .3) (r .before .table .ensures) (r .timing-of .ensures) (o .before .table2 .ensures) (o .offset-at .ensures .0) comp
+    let comp = kept (s .shifted .result) (s .shifted .ok) ∙ s .shifted .ensures ∙ ap (λ z. pos (r .timing-of .result .start) +ℤ z) (kept (o .composition-offset .result) (o .composition-offset .ok)) in
+    sample-made _ _ _ _ _ _ _ _ _ _ _ _ _ _ _ _ (a .pre .3) (r .before .table .ensures) (r .timing-of .ensures) (o .before .table2 .ensures) (o .composition-offset .ensures .0) comp
     (p .before .before .before .before .table3 .ensures) (p .before .before .before .table4 .ensures) (p .before .before .table5 .ensures) (p .before .u32-at .ensures) (p .locate .ensures)
-    (y .before .table6 .ensures) (y .is-sync .ensures) (c .before .offset-at2 .ensures) (c .size-of .ensures)
+    (y .before .table6 .ensures) (y .is-sync .ensures) (c .before .located-offset .ensures) (c .size-of .ensures)
 
 pub sample-in-spec : {M : Type 1} → statement M
 sample-in-spec =
@@ -87,7 +87,7 @@ sample-in-spec =
     table-requires
     timing-of-requires
     table-requires-2
-    offset-at-requires
+    composition-offset-requires
     table-requires-3
     table-requires-4
     table-requires-5
@@ -98,6 +98,6 @@ sample-in-spec =
     add-is-sync
     is-sync-requires
     add-t16
-    offset-at-requires-2
+    located-offset-requires
     size-of-requires
     returns)

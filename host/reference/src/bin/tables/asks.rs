@@ -135,7 +135,7 @@ impl<'a> Lines<'a> {
         let found = |t| held(t).map_or("outside".to_string(), |i| i.to_string());
         self.put(5, [0; 3], "sample_at", &self.media_times(), found);
         // "signed offset, 0 without ctts"
-        self.put(6, [0; 3], "offset_at in ctts", &indices, |i| at(&shifts, i).unwrap_or(0).to_string());
+        self.put(6, [0; 3], "composition_offset", &indices, |i| at(&shifts, i).unwrap_or(0).to_string());
     }
 
     /// Of stsz and stss.
@@ -162,7 +162,7 @@ impl<'a> Lines<'a> {
         let place = |i| at(&places, i).unwrap_or_else(|| past(i));
         let located = |i| format!("{}/{}/{}", place(i).chunk, place(i).within, place(i).description);
         self.put(13, [0; 3], "locate", &indices, located);
-        self.put(14, [0; 3], "offset_at", &indices, |i| place(i).offset.to_string());
+        self.put(14, [0; 3], "located_offset", &indices, |i| place(i).offset.to_string());
         let offsets = [0, 1, c.saturating_sub(1), c, 4_294_967_295];
         self.put(15, [0; 3], "chunk_offset", &offsets, |i| at(&track.stco, i).unwrap_or(0).to_string());
         let ends = ends(track);

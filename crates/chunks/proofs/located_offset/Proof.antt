@@ -1,4 +1,4 @@
--- `chunks::offset_at` meets its contract: the sum is the definition's, each part as its function says.
+-- `chunks::located_offset` meets its contract: the sum is the definition's, each part as its function says.
 -- Assumes nothing.
 use borrow.Author.Needs.{needs}
 use Prim.Native.Nat.{ℕ}
@@ -6,9 +6,9 @@ use mathlib.Core.Path.{ap, _∙_}
 use denote.Ref.{now}
 use Rattle.lists.specs.Lists.{between}
 use Rattle.words.specs.Words.{sizes}
-use Rattle.chunks.specs.Chunks.{offsetAt}
-use Rattle.chunks.proofs.offset_at.Statement.{statement}
-use Rattle.chunks.proofs.offset_at.Tie as tie
+use Rattle.chunks.specs.Chunks.{locatedOffset}
+use Rattle.chunks.proofs.located_offset.Statement.{statement}
+use Rattle.chunks.proofs.located_offset.Tie as tie
 
 span-requires : tie.Need-span-requires
 span-requires c κs = search needs
@@ -26,14 +26,14 @@ add-result : tie.Need-add-result
 add-result c = search needs
 
 returns : tie.Need-returns
-unfolding offsetAt
+unfolding locatedOffset
 returns c =
     let a = c .before .before .before .before .before .args in
     let e = c .bytes-between .ensures .0 ∙ ap (λ (b : ℕ). between (sizes (now (a .stsz))) b (a .index)) (c .before .before .span .ensures) in
     cc (c .before .chunk-offset .ensures, e)
 
-pub offset-at-spec : {M : Type 1} → statement M
-offset-at-spec =
+pub located-offset-spec : {M : Type 1} → statement M
+located-offset-spec =
     tie.close
     (tie.spec
     span-requires

@@ -1,4 +1,4 @@
--- `runs::offset_at` meets its contract: the number of the sample is the one at `ahead` of what the runs not yet read expand to; the sign is read last.
+-- `runs::composition_offset` meets its contract: the number of the sample is the one at `ahead` of what the runs not yet read expand to; the sign is read last.
 -- Assumes nothing.
 use borrow.Author.Needs.{needs}
 use mathlib.Core.Path.{_≡_, refl, sym, ap, _∙_}
@@ -9,13 +9,13 @@ use Rattle.bigendian.specs.BigEndian.{signed32}
 use Rattle.bigendian.proofs.Parts.{rest as part-rest}
 use Rattle.bigendian.proofs.Halves.{kept, signed-low}
 use Rattle.lists.specs.Lists.{expand}
-use Rattle.runs.specs.Runs.{runsIn, durations, offsetAt}
+use Rattle.runs.specs.Runs.{runsIn, perSample, compositionOffset}
 use Rattle.runs.proofs.Turns.{spread-in, at-first, at-next, at-end}
-use Rattle.runs.proofs.offset_at.Statement.{statement}
-use Rattle.runs.proofs.offset_at.Tie as tie
+use Rattle.runs.proofs.composition_offset.Statement.{statement}
+use Rattle.runs.proofs.composition_offset.Tie as tie
 
 abbrev Inv-loop : tie.InvT-loop
-Inv-loop ctts index t₀ ahead₀ t ahead = getD (expand (runsIn t)) ahead 0 ≡ getD (durations ctts) index 0
+Inv-loop ctts index t₀ ahead₀ t ahead = getD (expand (runsIn t)) ahead 0 ≡ getD (perSample ctts) index 0
 
 abbrev μ-loop : tie.MeasureT-loop
 μ-loop ctts index t₀ ahead₀ t ahead = length t
@@ -33,7 +33,7 @@ i32-at-requires : tie.Need-i32-at-requires Inv-loop μ-loop
 i32-at-requires c κs = search needs
 
 returns : tie.Need-returns Inv-loop μ-loop
-unfolding offsetAt
+unfolding compositionOffset
 returns c =
     let m = c .before .before .before .before in
     rw (kept (c .i32-at .result) (omega arith)) (
@@ -60,11 +60,11 @@ loop-again c =
     rw part-rest (sym (at-next _ _ (c .before .before .before .loop-test .taken) (c .before .before .u32-at .ensures) (c .before .if1 .left)) ∙ m .loop .inv)
 
 returns-2 : tie.Need-returns-2 Inv-loop μ-loop
-unfolding offsetAt
+unfolding compositionOffset
 returns-2 c = (sym (signed-low 0 (omega arith)) ∙ ap signed32 (sym (at-end _ _ (c .loop-test .left)) ∙ c .before .loop .inv), omega arith)
 
-pub offset-at-spec : {M : Type 1} → statement M
-offset-at-spec =
+pub composition-offset-spec : {M : Type 1} → statement M
+composition-offset-spec =
     tie.close
     (tie.spec
     Inv-loop
