@@ -12,7 +12,8 @@ use lib.ListN.{length, getD}
 use Rattle.lists.specs.Lists.{sum, holder, Holds}
 use Rattle.lists.proofs.Laws.{length-run, getD-in, getD-past}
 use Rattle.lists.proofs.Places.{holder-holds, holder-only, holds-below}
-use Rattle.chunks.specs.Chunks.{Deal, deals, firstOf, dealt, perChunk, descriptionIds, dealing, dealsAgree}
+use Rattle.chunks.specs.Chunks.{Deal, deals, firstOf, dealt, perChunk, descriptionIds}
+use Rattle.chunks.specs.Computed.{dealing, dealsAgree}
 use Rattle.chunks.proofs.Clauses.{Right, dealing-cons, agreed}
 
 module _ (chunks descriptions : ℕ) where

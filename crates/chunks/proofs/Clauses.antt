@@ -7,7 +7,8 @@ use mathlib.Core.List.{List, [], _∷_}
 use native.Mathlib.Omega.{arith}
 use lib.Dec.{ltb, leb, eqb}
 use borrow.Author.Tests.{lt-ltb, le-ltb, le-leb, lt-leb, eq-eqb, ne-eqb, ltb-false, leb-true, leb-false, eqb-true, eqb-false, not-false}
-use Rattle.chunks.specs.Chunks.{Deal, deals, firstOf, rightEntry, dealing, dealsAgree, any, startsElsewhere, notRising, passes, withoutChunks, withChunks, dealsNone, wrongDescriptionId, dealsContradict}
+use Rattle.chunks.specs.Chunks.{Deal, deals, firstOf, any, startsElsewhere, notRising, passes, withoutChunks, withChunks, dealsNone, wrongDescriptionId, dealsContradict}
+use Rattle.chunks.specs.Computed.{rightEntry, dealing, dealsAgree}
 
 -- ---- Booleans
 

@@ -7,7 +7,8 @@ use mathlib.Core.List.{List, [], _∷_}
 use Rattle.bigendian.specs.BigEndian.{beAt}
 use Rattle.lists.specs.Entries.{rowsOf, entries}
 use Rattle.words.specs.Words.{wordsAfter, sizes, chunkOffsets}
-use Rattle.chunks.specs.Chunks.{deals, perChunk, descriptionIds, dealsAgree, dealsContradict, locatedIn, offsetOf, endWithin}
+use Rattle.chunks.specs.Chunks.{deals, perChunk, descriptionIds, dealsContradict, offsetOf, endWithin}
+use Rattle.chunks.specs.Computed.{dealsAgree, locatedIn}
 use Rattle.chunks.specs.declared.Located.{Located}
 
 -- an atom of numbers below 65,536, in four bytes each; size, type and version are not read here

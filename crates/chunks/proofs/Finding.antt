@@ -10,7 +10,8 @@ use lib.ListN.{length, getD, drop}
 use lib.Seq.{getD-drop}
 use Rattle.lists.specs.Lists.{before, between, holder}
 use Rattle.lists.proofs.Laws.{Walk, Ahead, walk-start, walk-past, walk-in, walk-fits, in-within, holder-hit, holder-miss, length-run, pos-of-lt-mul}
-use Rattle.chunks.specs.Chunks.{dealsIn, dealt, perChunk, descriptionIds, locatedIn, offsetOf, locatedOffset}
+use Rattle.chunks.specs.Chunks.{dealsIn, dealt, perChunk, descriptionIds, offsetOf}
+use Rattle.chunks.specs.Computed.{locatedIn, locatedOffset}
 use Rattle.chunks.specs.Cursors.{ahead, idsAhead, Valid, Stands, startCursor, readied, past, cursorAt, sought}
 use Rattle.chunks.specs.declared.ChunkCursor.{ChunkCursor}
 use Rattle.chunks.specs.declared.Located.{Located}

@@ -17,7 +17,8 @@ use Rattle.lists.specs.Entries.{entries}
 use Rattle.lists.specs.Lists.{sum}
 use Rattle.lists.proofs.Laws.{length-run, sum-run}
 use Rattle.lists.proofs.Rows.{rows-none, rows-next}
-use Rattle.chunks.specs.Chunks.{Deal, dealOf, dealsIn, deals, firstOf, dealt, perChunk, descriptionIds, rightEntry, dealing, dealsAgree}
+use Rattle.chunks.specs.Chunks.{Deal, dealOf, dealsIn, deals, firstOf, dealt, perChunk, descriptionIds}
+use Rattle.chunks.specs.Computed.{rightEntry, dealing, dealsAgree}
 
 -- ---- a part
 

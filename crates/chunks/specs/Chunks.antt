@@ -7,7 +7,6 @@ use lib.Dec.{ltb, leb, eqb}
 use Rattle.bigendian.specs.BigEndian.{u32At}
 use Rattle.lists.specs.Lists.{sum, before, between, Run, expand, holder}
 use Rattle.lists.specs.Entries.{rowsOf, entries}
-use Rattle.chunks.specs.declared.Located.{Located}
 
 -- an entry: "first chunk, samples per chunk, description ID"
 pub record Deal : Type 0 where
@@ -48,21 +47,8 @@ perChunk s chunks = dealt (λ e. e .per) chunks (deals s)
 unfoldable pub descriptionIds : List ℕ → ℕ → List ℕ
 descriptionIds s chunks = dealt (λ e. e .id) chunks (deals s)
 
--- ---- the part of refusal 9 that speaks of stsc alone, with C chunks; `proofs/Clauses.antt` shows the two forms to be the same
+-- ---- the part of refusal 9 that speaks of stsc alone, with C chunks
 
--- an entry holds for some chunk up to the next entry's first, has samples in each, and an ID in 1 to the number of descriptions
-abbrev pub rightEntry : ℕ → ℕ → ℕ → ℕ → ℕ → Bool
-rightEntry first next per id descriptions = cond (leb next first) false (cond (eqb per 0) false (cond (eqb id 0) false (leb id descriptions)))
-
-abbrev pub dealing : ℕ → ℕ → List Deal → Bool
-dealing chunks descriptions [] = true
-dealing chunks descriptions (e ∷ es) = cond (rightEntry (e .first) (firstOf chunks es) (e .per) (e .id) descriptions) (dealing chunks descriptions es) false
-
--- as it is computed: the entries begin at chunk 1, or at one past the last of no chunks, and each is right
-unfoldable pub dealsAgree : List ℕ → ℕ → ℕ → Bool
-dealsAgree s chunks descriptions = cond (eqb (firstOf chunks (deals s)) 1) (dealing chunks descriptions (deals s)) false
-
--- as it is written
 abbrev pub isEmpty : List Deal → Bool
 isEmpty [] = true
 isEmpty (e ∷ es) = false
@@ -109,17 +95,9 @@ dealsContradict s chunks descriptions =
 
 -- ---- what is asked of the lists
 
--- where the sample with index i lies, with the samples and the IDs of the chunks: the index of its chunk, its index in the chunk, and its description ID
-unfoldable pub locatedIn : List ℕ → List ℕ → ℕ → Located
-locatedIn ps ids i = record { chunk = holder ps i; within = i - before ps (holder ps i); description = getD ids (holder ps i) 0 }
-
 -- the offset of the sample with index i, with the chunks' samples and offsets and the samples' sizes: "chunk offset plus sizes before it in the chunk"
 unfoldable pub offsetOf : List ℕ → List ℕ → List ℕ → ℕ → ℕ
 offsetOf ps cs zs i = getD cs (holder ps i) 0 + between zs (before ps (holder ps i)) i
-
--- the same of a place that was found
-unfoldable pub locatedOffset : List ℕ → List ℕ → Located → ℕ → ℕ
-locatedOffset cs zs p i = getD cs (p .chunk) 0 + between zs (i - p .within) i
 
 -- whether each chunk ends within a limit, not so if "a chunk's offset plus the sizes of its samples passes the file's end" (refusal 12): chunk after chunk
 -- gets the next samples

@@ -12,7 +12,8 @@ ghost use lib.ListN.{length};
 ghost use Rattle.lists.specs.Lists.{sum};
 ghost use Rattle.lists.specs.Totals.{totalOf};
 ghost use Rattle.words.specs.Words.{sizes, chunkOffsets};
-ghost use Rattle.chunks.specs.Chunks.{dealsIn, firstOf, rightEntry, dealsAgree, perChunk, descriptionIds, locatedIn, locatedOffset};
+ghost use Rattle.chunks.specs.Chunks.{dealsIn, firstOf, perChunk, descriptionIds};
+ghost use Rattle.chunks.specs.Computed.{rightEntry, dealsAgree, locatedIn, locatedOffset};
 ghost use Rattle.chunks.specs.Cursors.{startCursor, readied, past, sought};
 
 // The chunk at which the entries of a part begin: one past the last chunk where there is none. So the last entry holds for all chunks that remain.

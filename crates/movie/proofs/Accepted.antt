@@ -15,7 +15,8 @@ use Rattle.structure.proofs.Callers.{Clear, clear, some-none, shaped, none-else
 use Rattle.edits.specs.Edits.{editTotal}
 use Rattle.track.specs.Refusals.{contradicts, totalIn, totalTooLarge, otherDuration, chunkPastEnd, wrongEdits}
 use Rattle.movie.specs.Tracks.{idsOf, repeats}
-use Rattle.movie.specs.Refusals.{sameIds, idIsZero, movieScaleIsZero, scaleIsZero, fileRefusal, tableRows, tablesRefusal}
+use Rattle.movie.specs.Refusals.{sameIds, idIsZero, movieScaleIsZero, scaleIsZero, fileRefusal}
+use Rattle.movie.specs.TableRows.{tableRows, tablesRefusal}
 use Rattle.movie.proofs.Tables.{file-is, table-rows-rise}
 
 -- a track of a movie of that time scale, in a file of that length

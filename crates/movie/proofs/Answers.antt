@@ -13,7 +13,8 @@ use Rattle.structure.proofs.Callers.{Each}
 use Rattle.track.specs.Refusals.{totalIn}
 use Rattle.movie.specs.Refusals.{fileRefusal}
 use Rattle.movie.specs.Rooms.{noRoom, filledRoom, roomAfter}
-use Rattle.movie.specs.TrackList.{linesOf, TotalsFit, trackLines, listRefusal, listAnswer, trackListNumbers, listNumbers, Lists}
+use Rattle.movie.specs.TrackList.{linesOf, trackLines, listRefusal, listAnswer, trackListNumbers, listNumbers, Lists}
+use Rattle.movie.specs.Lines.{TotalsFit}
 use Rattle.movie.specs.declared.list.TrackList.the-variants.{Tracks, Refused}
 use Rattle.movie.proofs.Accepted.{Accepted, accepted}
 use Rattle.movie.proofs.Lines.{lines-length, all-lines}

@@ -8,7 +8,8 @@ use native.Mathlib.Nat.{add-zero, zero-add, add-suc, suc-add}
 use lib.ListN.{length, set, drop, length-append}
 use lib.Seq.{sets, sets-eq}
 use Rattle.track.specs.Refusals.{totalIn}
-use Rattle.movie.specs.TrackList.{lineOf, linesOf, TotalsFit}
+use Rattle.movie.specs.TrackList.{lineOf, linesOf}
+use Rattle.movie.specs.Lines.{TotalsFit}
 
 -- numbers stored in two goes
 pub sets-append : (xs ys l : List ℕ) (i : ℕ) → sets l i (xs ++ ys) ≡ sets (sets l i xs) (i + length xs) ys

@@ -10,14 +10,17 @@ use native.Mathlib.Omega.{arith}
 use borrow.Author.Tests.{eq-eqb, ne-eqb}
 use Rattle.atoms.specs.Kinds.{file, moov}
 use Rattle.atoms.proofs.Lengths.{body-short}
-use Rattle.structure.specs.Rows.{first, numbersRise, lowest, ofWhole, ofTrack, ofTracks, lowerOf, orElse}
+use Rattle.structure.specs.Rows.{first, numbersRise, lowest, ofWhole, orElse}
+use Rattle.structure.specs.ByTracks.{ofTrack, ofTracks, lowerOf}
 use Rattle.structure.specs.Movie.{moovOf, movieScale, tracksOf}
-use Rattle.structure.specs.Refusals.{fileRows, movieRows, movieRefusal, refusalOf}
+use Rattle.structure.specs.Refusals.{fileRows}
+use Rattle.structure.specs.MovieRows.{movieRows, movieRefusal, refusalOf}
 use Rattle.structure.proofs.Rows.{by-tracks, lowest-append}
 use Rattle.structure.proofs.Tracks.{movie-rows-rise}
 use Rattle.structure.proofs.Callers.{shaped}
-use Rattle.track.specs.Refusals.{trackRows, timedRows}
-use Rattle.movie.specs.Refusals.{idIsZero, scaleIsZero, moovRows, moovRefusal, fileRefusal, tableRows, tablesRefusal}
+use Rattle.track.specs.TrackRows.{trackRows, timedRows}
+use Rattle.movie.specs.Refusals.{idIsZero, scaleIsZero, moovRows, moovRefusal, fileRefusal}
+use Rattle.movie.specs.TableRows.{tableRows, tablesRefusal}
 
 pub rows-are : (scale len : ℕ) → moovRows scale len ≡ movieRows ++ tableRows scale len
 unfolding moovRows movieRows tableRows

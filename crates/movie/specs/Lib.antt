@@ -1,4 +1,6 @@
 pub mod Tracks
 pub mod Refusals
+pub mod TableRows
 pub mod Rooms
 pub mod TrackList
+pub mod Lines

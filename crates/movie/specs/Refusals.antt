@@ -1,4 +1,5 @@
--- The refusals of a file, 1 to 13: the paper's table, row after row.
+-- The refusals of a file, 1 to 13: the paper's table, row after row. Of all lists of rows this one, `moovRows` with `fileRows`, is to be
+-- believed, and `fileRefusal`, which judges by it.
 use Prim.Native.Nat.{ℕ}
 use mathlib.Core.List.{List, [], _∷_}
 use mathlib.Core.Bool.{Bool}
@@ -49,19 +50,3 @@ moovRefusal len m = lowest (moovRows (movieScale m) len) m (tracksOf m)
 -- the refusal of a file: the lowest number that applies; 0 where the file is not refused
 unfoldable pub fileRefusal : List ℕ → ℕ
 fileRefusal s = orElse (ofWhole fileRows s) (moovRefusal (length s) (moovOf s))
-
--- ---- what the code judges after the crate structure has passed the file: rows 7 to 13. That the two make up the table is proved
-
-unfoldable pub tableRows : ℕ → ℕ → List Row
-tableRows scale len =
-    row 7 sameIds idIsZero
-    ∷ row 8 movieScaleIsZero scaleIsZero
-    ∷ row 9 never contradicts
-    ∷ row 10 never totalTooLarge
-    ∷ row 11 never otherDuration
-    ∷ row 12 never (chunkPastEnd len)
-    ∷ row 13 never (wrongEdits scale)
-    ∷ []
-
-unfoldable pub tablesRefusal : ℕ → List ℕ → ℕ
-tablesRefusal len m = lowest (tableRows (movieScale m) len) m (tracksOf m)

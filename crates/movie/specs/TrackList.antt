@@ -1,5 +1,5 @@
 -- "Track list: for each trak in file order, ID, subtype, media time scale .. total, N, C, edits (0 without a list). Names play no part."
-use Prim.Native.Nat.{ℕ, _<_}
+use Prim.Native.Nat.{ℕ}
 use mathlib.Core.Path.{_≡_}
 use mathlib.Core.List.{List, [], _∷_, _++_}
 use mathlib.Core.Bool.{cond}
@@ -11,17 +11,12 @@ use Rattle.structure.specs.Rows.{orElse}
 use Rattle.track.specs.Refusals.{totalIn}
 use Rattle.movie.specs.Refusals.{fileRefusal}
 use Rattle.movie.specs.Rooms.{noRoom, roomAfter, refusedWith}
-use Rattle.movie.specs.declared.list.Line.{Line}
 use Rattle.movie.specs.declared.list.TrackList.{TrackList}
 use Rattle.movie.specs.declared.list.TrackList.the-variants.{Tracks, Refused}
 
 -- the seven numbers of a track, from the body of its trak
 unfoldable pub lineOf : List ℕ → List ℕ
 lineOf t = idOf t ∷ subtypeOf t ∷ scaleOf t ∷ totalIn t ∷ samplesOf t ∷ chunksOf t ∷ editsOf t ∷ []
-
--- the same numbers, of the struct that the code keeps them in
-abbrev pub fields : Line → List ℕ
-fields l = l .id ∷ l .subtype ∷ l .scale ∷ l .total ∷ l .samples ∷ l .chunks ∷ l .edits ∷ []
 
 -- those of some tracks, track after track
 abbrev pub linesOf : List (List ℕ) → List ℕ
@@ -53,8 +48,3 @@ pub record Lists (s room : List ℕ) (r : TrackList) (after : List ℕ) : Type 0
   pub answer : r ≡ listAnswer s room
   pub numbers : trackListNumbers r ≡ listNumbers s room
   pub places : after ≡ roomAfter (listRefusal s room) (trackLines s) room
-
--- ---- what the code asks for before it puts the list: each total fits 32 bits, as it does where refusal 10 is not given
-abbrev pub TotalsFit : List (List ℕ) → Type 0
-TotalsFit [] = Unit
-TotalsFit (t ∷ ts) = (totalIn t < 4294967296) × TotalsFit ts

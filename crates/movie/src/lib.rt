@@ -15,7 +15,8 @@ ghost use Prim.Native.Nat.{_<_, _^_};
 ghost use lib.ListN.{length};
 ghost use Rattle.structure.specs.Movie.{movieScale};
 ghost use Rattle.structure.specs.Rows.{ofWhole};
-ghost use Rattle.movie.specs.Refusals.{tableRows, tablesRefusal, fileRefusal};
+ghost use Rattle.movie.specs.Refusals.{fileRefusal};
+ghost use Rattle.movie.specs.TableRows.{tableRows, tablesRefusal};
 
 // What 7 and 8 say of the movie itself: an ID that occurs twice, a time scale of 0.
 fn own_refusal(moov: &[u8], scale: u32, len: u64) -> u32

@@ -17,7 +17,8 @@ ghost use lib.ListN.{length};
 ghost use lib.Seq.{sets};
 ghost use Rattle.structure.specs.Movie.{tracksOf};
 ghost use Rattle.track.specs.Refusals.{totalIn};
-ghost use Rattle.movie.specs.TrackList.{lineOf, linesOf, fields, TotalsFit, Lists};
+ghost use Rattle.movie.specs.TrackList.{lineOf, linesOf, Lists};
+ghost use Rattle.movie.specs.Lines.{fields, TotalsFit};
 
 // How many numbers the list has for a track.
 pub const LINE: usize = 7;

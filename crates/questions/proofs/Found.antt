@@ -18,7 +18,8 @@ use Rattle.lists.proofs.Places.{holder-holds, holds-below, each-at, before-le}
 use Rattle.runs.specs.Runs as runs
 use Rattle.runs.specs.declared.Timing.{Timing}
 use Rattle.words.specs.Words.{sizes, chunkOffsets, isSync}
-use Rattle.chunks.specs.Chunks.{perChunk, descriptionIds, locatedIn, offsetOf, locatedOffset}
+use Rattle.chunks.specs.Chunks.{perChunk, descriptionIds, offsetOf}
+use Rattle.chunks.specs.Computed.{locatedIn, locatedOffset}
 use Rattle.chunks.specs.declared.Located.{Located}
 use Rattle.chunks.proofs.Agreed.{samples-length}
 use Rattle.chunks.proofs.Finding.{offset-located}

@@ -17,7 +17,8 @@ use Rattle.lists.specs.Lists.{sum, Run, expand, holder, Holds}
 use Rattle.lists.proofs.Laws.{length-run}
 use Rattle.lists.proofs.Places.{holder-holds, holder-only, holds-below}
 use Rattle.runs.specs.declared.Lookup.the-variants.{At, Outside}
-use Rattle.runs.specs.Runs.{runsOf, perSample, compositionOffset, counting, sampleAt, lesserOf, leastOf}
+use Rattle.runs.specs.Runs.{runsOf, perSample, compositionOffset, sampleAt, lesserOf, leastOf}
+use Rattle.runs.specs.Computed.{counting}
 use Rattle.runs.proofs.Leasts.{lesser-none, lesser-other, lesser-both}
 use Rattle.runs.proofs.Turns.{spread-in, at-end}
 

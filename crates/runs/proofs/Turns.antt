@@ -13,7 +13,8 @@ use Rattle.lists.specs.Lists.{expand}
 use Rattle.lists.specs.Entries.{entries}
 use Rattle.lists.proofs.Laws.{getD-in, getD-past}
 use Rattle.lists.proofs.Rows.{rows-none, rows-next}
-use Rattle.runs.specs.Runs.{runOf, runsIn, runsOf, perSample, counting}
+use Rattle.runs.specs.Runs.{runOf, runsIn, runsOf, perSample}
+use Rattle.runs.specs.Computed.{counting}
 
 -- a table's runs are those of what follows its head
 pub runs-in : (s : List ℕ) → runsOf s ≡ runsIn (drop 16 s)

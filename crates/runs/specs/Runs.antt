@@ -1,6 +1,6 @@
 -- Tables of runs: stts ("sample count, duration") and ctts ("sample count, signed offset").
-use Prim.Native.Nat.{ℕ, _-_, min}
-use mathlib.Core.Bool.{Bool, false, cond}
+use Prim.Native.Nat.{ℕ, min}
+use mathlib.Core.Bool.{cond}
 use mathlib.Core.List.{List, [], _∷_, map}
 use lib.ListN.{getD}
 use lib.Dec.{ltb, eqb}
@@ -24,18 +24,13 @@ runsIn t = map runOf (rowsOf 8 t)
 unfoldable pub runsOf : List ℕ → List Run
 runsOf s = map runOf (entries 16 8 s)
 
--- one number for each sample: its duration, in stts
+-- one number for each sample: its duration, in stts; its offset as it is stored, in ctts
 unfoldable pub perSample : List ℕ → List ℕ
 perSample s = expand (runsOf s)
 
 -- the composition offset of the sample with index i, from 0: signed, in ctts; 0 without the table
 unfoldable pub compositionOffset : List ℕ → ℕ → ℤ
 compositionOffset s i = signed32 (getD (perSample s) i 0)
-
--- whether no run counts 0 samples and all of them total n; `proofs/Sentences.antt` says it without the subtraction (`Counted`)
-abbrev pub counting : ℕ → List Run → Bool
-counting n [] = eqb n 0
-counting n (r ∷ rs) = cond (eqb (r .count) 0) false (cond (ltb n (r .count)) false (counting (n - r .count) rs))
 
 -- the index, from 0, of the sample whose media times hold t: "decode time ≤ t < decode time plus duration". There is one where t is below the total, and only one
 -- (`sample-holds` and `sample-only` of `proofs/Sentences.antt`)

@@ -9,7 +9,8 @@ ghost use lib.ListN.{length, replicate};
 ghost use lib.Signed.{mag};
 ghost use Rattle.lists.specs.Lists.{sum};
 ghost use Rattle.lists.specs.Totals.{totalOf};
-ghost use Rattle.runs.specs.Runs.{runsOf, perSample, compositionOffset, counting, sampleAt, timingOf, lesserOf, leastOf};
+ghost use Rattle.runs.specs.Runs.{runsOf, perSample, compositionOffset, sampleAt, timingOf, lesserOf, leastOf};
+ghost use Rattle.runs.specs.Computed.{counting};
 
 // Whether no entry counts 0 samples and all of them total `samples`.
 pub fn counts(table: &[u8], samples: u32) -> bool

@@ -25,7 +25,8 @@ use Rattle.structure.specs.Profile.{profileOk}
 use Rattle.structure.specs.Track.{mdiaOf, minfOf, stblOf, tableOf, elstOf, subtypeOf, samplesOf, chunksOf, editsOf, descriptionsOf, profileOf}
 use Rattle.structure.specs.Movie.{moovOf, tracksOf, trackAt, movieProfile}
 use Rattle.structure.specs.Limits.{overLimits, tooMany}
-use Rattle.structure.specs.Refusals.{fileRows, movieRows, wrongSize, shortVideoDescription, wrongTrackSize, movieRefusal, refusalOf}
+use Rattle.structure.specs.Refusals.{fileRows, wrongSize, shortVideoDescription, wrongTrackSize}
+use Rattle.structure.specs.MovieRows.{movieRows, movieRefusal, refusalOf}
 use Rattle.structure.proofs.Tracks.{file-rows-rise, movie-rows-rise}
 use Rattle.structure.proofs.Shaped.{Entered, MayEnter, Shaped, ShapedMovie, ShapedFile}
 

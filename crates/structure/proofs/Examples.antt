@@ -16,7 +16,8 @@ use Rattle.structure.specs.Track.{mdiaOf, minfOf, stblOf, tableOf, elstO
 use Rattle.structure.specs.Movie.{moovOf, movieProfile}
 use Rattle.structure.specs.Limits.{overLimits, tooMany}
 use Rattle.structure.specs.Rows.{some, first, orElse}
-use Rattle.structure.specs.Refusals.{wrongVersion, wrongSize, shortVideoDescription, wrongTrackSize, fileRows, movieRows, movieRefusal, refusalOf}
+use Rattle.structure.specs.Refusals.{wrongVersion, wrongSize, shortVideoDescription, wrongTrackSize, fileRows}
+use Rattle.structure.specs.MovieRows.{movieRows, movieRefusal, refusalOf}
 
 -- ---- how the films are made
 

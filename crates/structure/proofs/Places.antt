@@ -10,7 +10,8 @@ use Rattle.bigendian.proofs.Laws.{beAt-take}
 use Rattle.atoms.specs.Kinds.{moov, trak, prfl}
 use Rattle.atoms.specs.Atoms.{bodyOf, sizeIn, atoms}
 use Rattle.atoms.proofs.Laws.{atoms-none, atoms-next, kinds-none, kinds-here, kinds-next}
-use Rattle.structure.specs.Rows.{Row, lowerOf, ofTrack, ofTracks}
+use Rattle.structure.specs.Rows.{Row}
+use Rattle.structure.specs.ByTracks.{lowerOf, ofTrack, ofTracks}
 use Rattle.structure.specs.Profile.{firstBefore}
 use Rattle.structure.specs.Movie.{tracksOf}
 use Rattle.structure.proofs.Rows.{lower-none, lower-assoc}

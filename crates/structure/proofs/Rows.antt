@@ -10,7 +10,8 @@ use lib.Dec.{ltb, eqb·suc-zero}
 use borrow.Author.Tests.{ltb-true, ne-eqb}
 use native.Mathlib.Omega.{arith}
 use Rattle.atoms.proofs.Laws.{and-left, and-right}
-use Rattle.structure.specs.Rows.{Row, some, first, lowest, ofWhole, ofTrack, lowerOf, ofTracks, orElse, numbersRise}
+use Rattle.structure.specs.Rows.{Row, some, first, lowest, ofWhole, orElse, numbersRise}
+use Rattle.structure.specs.ByTracks.{ofTrack, lowerOf, ofTracks}
 
 -- ---- the lower of two, 0 being none
 

@@ -4,9 +4,11 @@ use Prim.Native.Nat.{ℕ}
 use mathlib.Core.Path.{_≡_, refl}
 use mathlib.Core.List.{List}
 use mathlib.Core.Bool.{true}
-use Rattle.structure.specs.Rows.{ofWhole, ofTracks, lowerOf, numbersRise}
+use Rattle.structure.specs.Rows.{ofWhole, numbersRise}
+use Rattle.structure.specs.ByTracks.{ofTracks, lowerOf}
 use Rattle.structure.specs.Movie.{tracksOf}
-use Rattle.structure.specs.Refusals.{fileRows, movieRows, movieRefusal}
+use Rattle.structure.specs.Refusals.{fileRows}
+use Rattle.structure.specs.MovieRows.{movieRows, movieRefusal}
 use Rattle.structure.proofs.Rows.{by-tracks}
 
 pub file-rows-rise : numbersRise 0 fileRows ≡ true

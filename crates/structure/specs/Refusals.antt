@@ -1,4 +1,4 @@
--- The refusals of a file, 1 to 6, in the order of the paper's table.
+-- The refusals of a file, 1 to 6, in the order of the paper's table: their conditions, and the rows that are judged on the file itself.
 use Prim.Native.Nat.{ℕ}
 use mathlib.Core.List.{List, [], _∷_}
 use mathlib.Core.Bool.{Bool, not, _&&_, _||_}
@@ -12,9 +12,8 @@ use Rattle.leaves.specs.Present.{present}
 use Rattle.leaves.specs.Leaves.{sizedEntries, leavesOk}
 use Rattle.structure.specs.Profile.{profileOk}
 use Rattle.structure.specs.Track.{subtypeOf, tableOf, profileOf}
-use Rattle.structure.specs.Movie.{moovOf, tracksOf, movieProfile}
-use Rattle.structure.specs.Limits.{overLimits, tooMany}
-use Rattle.structure.specs.Rows.{Row, row, never, ofWhole, lowest, orElse}
+use Rattle.structure.specs.Movie.{movieProfile}
+use Rattle.structure.specs.Rows.{Row, row, never}
 
 -- 1: "the file is longer than 2,147,483,647 bytes"
 abbrev pub fileTooLong : List ℕ → Bool
@@ -44,26 +43,10 @@ shortVideoDescription t = eqb (subtypeOf t) vide && not (sizedEntries 36 (tableO
 unfoldable pub wrongTrackSize : List ℕ → Bool
 wrongTrackSize t = shortVideoDescription t || not (profileOk (profileOf t))
 
--- the rows that are judged on the file: number, condition on the file
+-- the rows that are judged on the file: number, condition on the file. `fileRefusal` of the crate movie begins with them
 unfoldable pub fileRows : List Row
 fileRows =
     row 1 fileTooLong never
     ∷ row 2 wrongAtoms never
     ∷ row 3 wrongCounts never
     ∷ []
-
--- the rows that are judged on the movie: number, condition on the body of its moov, condition on a track
-unfoldable pub movieRows : List Row
-movieRows =
-    row 4 wrongVersion never
-    ∷ row 5 wrongSize wrongTrackSize
-    ∷ row 6 tooMany overLimits
-    ∷ []
-
--- the refusal of a movie, from the body of its moov; 0 where it is not refused
-unfoldable pub movieRefusal : List ℕ → ℕ
-movieRefusal m = lowest movieRows m (tracksOf m)
-
--- the refusal of a file: the lowest number that applies; 0 where the file is not refused
-unfoldable pub refusalOf : List ℕ → ℕ
-refusalOf s = orElse (ofWhole fileRows s) (movieRefusal (moovOf s))

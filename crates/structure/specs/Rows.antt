@@ -1,6 +1,6 @@
 -- A table of refusals: rows in the order in which they are judged, each with its number, its condition on the whole and its
 -- condition on a track. The whole is a file or the body of a moov, and a track the body of a trak, as lists of bytes.
-use Prim.Native.Nat.{ℕ, min}
+use Prim.Native.Nat.{ℕ}
 use mathlib.Core.List.{List, [], _∷_}
 use mathlib.Core.Bool.{Bool, true, false, cond, _||_, _&&_}
 use lib.Dec.{eqb, ltb}
@@ -32,6 +32,10 @@ first f (r ∷ rs) = cond (f r) (r .number) (first f rs)
 abbrev pub lowest : List Row → List ℕ → List (List ℕ) → ℕ
 lowest rs m ts = first (λ r. r .whole m || some (r .track) ts) rs
 
+-- the number of the first row whose condition holds of the whole itself
+abbrev pub ofWhole : List Row → List ℕ → ℕ
+ofWhole rs m = first (λ r. r .whole m) rs
+
 -- a number, or where there is none the one that is judged after it
 unfoldable pub orElse : ℕ → ℕ → ℕ
 orElse a b = cond (eqb a 0) b a
@@ -40,22 +44,3 @@ orElse a b = cond (eqb a 0) b a
 unfoldable pub numbersRise : ℕ → List Row → Bool
 numbersRise n [] = true
 numbersRise n (r ∷ rs) = ltb n (r .number) && numbersRise (r .number) rs
-
--- ---- by tracks: the contracts of functions that judge a part. That these parts make up the table's answer is proved
--- (`by-tracks`, in proofs/Rows)
-
--- the number of the first row whose condition holds of the whole itself; and of one track
-abbrev pub ofWhole : List Row → List ℕ → ℕ
-ofWhole rs m = first (λ r. r .whole m) rs
-
-abbrev pub ofTrack : List Row → List ℕ → ℕ
-ofTrack rs t = first (λ r. r .track t) rs
-
--- the lower of two numbers, where 0 is none
-unfoldable pub lowerOf : ℕ → ℕ → ℕ
-lowerOf a b = cond (eqb a 0) b (cond (eqb b 0) a (min a b))
-
--- the lowest of the tracks' own
-unfoldable pub ofTracks : List Row → List (List ℕ) → ℕ
-ofTracks rs [] = 0
-ofTracks rs (t ∷ ts) = lowerOf (ofTrack rs t) (ofTracks rs ts)

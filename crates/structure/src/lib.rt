@@ -22,8 +22,10 @@ use trak::track_profile;
 ghost use mathlib.Core.Path.{_≡_};
 ghost use mathlib.Core.Bool.{_||_};
 ghost use Rattle.structure.specs.Limits.{overLimits, tooMany};
-ghost use Rattle.structure.specs.Rows.{lowerOf, ofWhole, ofTrack};
-ghost use Rattle.structure.specs.Refusals.{wrongVersion, wrongSize, shortVideoDescription, wrongTrackSize, fileRows, movieRows, movieRefusal, refusalOf};
+ghost use Rattle.structure.specs.Rows.{ofWhole};
+ghost use Rattle.structure.specs.ByTracks.{lowerOf, ofTrack};
+ghost use Rattle.structure.specs.Refusals.{wrongVersion, wrongSize, shortVideoDescription, wrongTrackSize, fileRows};
+ghost use Rattle.structure.specs.MovieRows.{movieRows, movieRefusal, refusalOf};
 
 // The longest file.
 const LONGEST: usize = 2147483647;

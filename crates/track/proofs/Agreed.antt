@@ -13,7 +13,8 @@ use Rattle.structure.proofs.Callers.{or-left, or-right}
 use Rattle.lists.specs.Lists.{sum}
 use Rattle.runs.specs.Runs.{perSample}
 use Rattle.runs.proofs.Sentences.{counted-length}
-use Rattle.chunks.specs.Chunks.{perChunk, dealsAgree, dealsContradict}
+use Rattle.chunks.specs.Chunks.{perChunk, dealsContradict}
+use Rattle.chunks.specs.Computed.{dealsAgree}
 use Rattle.chunks.proofs.Clauses.{agree-clauses}
 use Rattle.track.specs.Refusals.{miscounted, contradicts}
 use Rattle.track.proofs.Clauses.{counts-clauses}

@@ -10,9 +10,11 @@ use lib.Dec.{ltb, eqb}
 use borrow.Author.Tests.{ltb-true, ltb-false, eqb-true, eqb-false, eq-eqb, ne-eqb, not-true}
 use Rattle.lists.specs.Lists.{sum, Run, expand}
 use Rattle.lists.proofs.Laws.{length-run}
-use Rattle.runs.specs.Runs.{runsOf, perSample, counting}
+use Rattle.runs.specs.Runs.{runsOf, perSample}
+use Rattle.runs.specs.Computed.{counting}
 use Rattle.words.specs.Words.{syncsAgree}
-use Rattle.chunks.specs.Chunks.{Deal, deals, dealt, perChunk, dealsAgree, dealsContradict, isEmpty}
+use Rattle.chunks.specs.Chunks.{Deal, deals, dealt, perChunk, dealsContradict, isEmpty}
+use Rattle.chunks.specs.Computed.{dealsAgree}
 use Rattle.chunks.proofs.Clauses.{agree-clauses}
 use Rattle.atoms.proofs.Laws.{and-left, and-right}
 use Rattle.atoms.specs.Kinds.{stts, ctts, stsc, stsz, stco, stss, stsd}

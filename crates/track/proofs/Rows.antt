@@ -11,7 +11,8 @@ use Rattle.lists.specs.declared.Total.{Total}
 use Rattle.lists.specs.declared.Total.the-variants.{Sum, Over}
 use Rattle.lists.specs.Totals.{totalOf}
 use Rattle.lists.proofs.Totals.{total-known, over-known}
-use Rattle.structure.specs.Rows.{first, ofTrack}
+use Rattle.structure.specs.Rows.{first}
+use Rattle.structure.specs.ByTracks.{ofTrack}
 use Rattle.atoms.specs.Kinds.{stts, stsc, stsz, stco}
 use Rattle.bigendian.specs.BigEndian.{u32At}
 use Rattle.lists.specs.Lists.{sum}
@@ -20,7 +21,8 @@ use Rattle.words.specs.Words.{sizes, chunkOffsets}
 use Rattle.chunks.specs.Chunks.{perChunk, endWithin}
 use Rattle.structure.specs.Track.{idOf, scaleOf, durationOf, tableOf, elstOf}
 use Rattle.edits.specs.Edits.{editTotal, editsOk}
-use Rattle.track.specs.Refusals.{contradicts, totalIn, totalTooLarge, otherDuration, chunkPastEnd, wrongEdits, timedRows, trackRows}
+use Rattle.track.specs.Refusals.{contradicts, totalIn, totalTooLarge, otherDuration, chunkPastEnd, wrongEdits}
+use Rattle.track.specs.TrackRows.{timedRows, trackRows}
 
 -- ---- totals
 

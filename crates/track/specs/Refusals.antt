@@ -5,8 +5,7 @@ use mathlib.Core.Bool.{Bool, false, not, _&&_, _||_}
 use lib.ListN.{length}
 use lib.Dec.{ltb, eqb}
 use Rattle.atoms.specs.Kinds.{stts, ctts, stsc, stsz, stco, stss}
-use Rattle.structure.specs.Track.{idOf, scaleOf, durationOf, tableOf, elstOf, samplesOf, chunksOf, descriptionsOf}
-use Rattle.structure.specs.Rows.{Row, row, never}
+use Rattle.structure.specs.Track.{scaleOf, durationOf, tableOf, elstOf, samplesOf, chunksOf, descriptionsOf}
 use Rattle.lists.specs.Lists.{sum, Run}
 use Rattle.runs.specs.Runs.{runsOf, perSample}
 use Rattle.words.specs.Words.{sizes, chunkOffsets, syncsAgree}
@@ -56,12 +55,3 @@ chunkPastEnd len t = not (endWithin len (perChunk (tableOf stsc t) (chunksOf t))
 -- 13: "an edit list is wrong"
 unfoldable pub wrongEdits : ℕ → List ℕ → Bool
 wrongEdits movie t = not (editsOk (scaleOf t) movie (totalIn t) (elstOf t))
-
--- the rows from 10 on, and from 7 on, for a movie of that time scale in a file of that length. What 7 and 8 say of the movie is the movie's to add: an ID that
--- occurs twice, and the movie's own scale
-unfoldable pub timedRows : ℕ → ℕ → List Row
-timedRows movie len = row 10 never totalTooLarge ∷ row 11 never otherDuration ∷ row 12 never (chunkPastEnd len) ∷ row 13 never (wrongEdits movie) ∷ []
-
--- 7: "a track ID is 0"; 8: "a .. media time scale is 0"
-unfoldable pub trackRows : ℕ → ℕ → List Row
-trackRows movie len = row 7 never (λ t. eqb (idOf t) 0) ∷ row 8 never (λ t. eqb (scaleOf t) 0) ∷ row 9 never contradicts ∷ timedRows movie len

@@ -21,12 +21,14 @@ ghost use mathlib.Core.Bool.{_||_};
 ghost use Prim.Native.Nat.{_<_, _^_};
 ghost use lib.ListN.{length};
 ghost use lib.Dec.{ltb, eqb};
-ghost use Rattle.structure.specs.Rows.{ofTrack};
+ghost use Rattle.structure.specs.ByTracks.{ofTrack};
 ghost use Rattle.lists.specs.Lists.{sum};
 ghost use Rattle.chunks.specs.Chunks.{perChunk};
-ghost use Rattle.runs.specs.Runs.{runsOf, counting};
+ghost use Rattle.runs.specs.Runs.{runsOf};
+ghost use Rattle.runs.specs.Computed.{counting};
 ghost use Rattle.edits.specs.Edits.{editTotal};
-ghost use Rattle.track.specs.Refusals.{contradicts, totalIn, timedRows, trackRows};
+ghost use Rattle.track.specs.Refusals.{contradicts, totalIn};
+ghost use Rattle.track.specs.TrackRows.{timedRows, trackRows};
 
 // The total of a track's sample durations.
 pub fn media_total(trak: &[u8]) -> u32

@@ -7,7 +7,8 @@ use denote.Ref.{now}
 use lib.ListN.{length, length-drop}
 use borrow.Author.Tests.{not-true, not-false}
 use Rattle.bigendian.proofs.Parts.{rest as part-rest}
-use Rattle.chunks.specs.Chunks.{dealsIn, firstOf, dealing, dealsAgree}
+use Rattle.chunks.specs.Chunks.{dealsIn, firstOf}
+use Rattle.chunks.specs.Computed.{dealing, dealsAgree}
 use Rattle.chunks.proofs.Turns.{agree-not, agree-on, dealing-falls, dealing-on, dealing-end}
 use Rattle.chunks.proofs.deals_agree.Statement.{statement}
 use Rattle.chunks.proofs.deals_agree.Tie as tie

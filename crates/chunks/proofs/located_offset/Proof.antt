@@ -6,7 +6,7 @@ use mathlib.Core.Path.{ap, _∙_}
 use denote.Ref.{now}
 use Rattle.lists.specs.Lists.{between}
 use Rattle.words.specs.Words.{sizes}
-use Rattle.chunks.specs.Chunks.{locatedOffset}
+use Rattle.chunks.specs.Computed.{locatedOffset}
 use Rattle.chunks.proofs.located_offset.Statement.{statement}
 use Rattle.chunks.proofs.located_offset.Tie as tie
 

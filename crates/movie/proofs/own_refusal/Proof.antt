@@ -3,7 +3,8 @@
 use borrow.Author.Needs.{needs}
 use borrow.Author.Tests.{eq-eqb, ne-eqb}
 use Rattle.structure.specs.Rows.{first}
-use Rattle.movie.specs.Refusals.{sameIds, movieScaleIsZero, tableRows}
+use Rattle.movie.specs.Refusals.{sameIds, movieScaleIsZero}
+use Rattle.movie.specs.TableRows.{tableRows}
 use Rattle.movie.proofs.own_refusal.Statement.{statement}
 use Rattle.movie.proofs.own_refusal.Tie as tie
 

@@ -9,10 +9,10 @@ use denote.Ref.{now}
 use lib.ListN.{length, length-drop}
 use lib.Seq.{length-take-le}
 use Rattle.bigendian.proofs.Parts.{rest}
-use Rattle.structure.specs.Rows.{lowerOf, ofTracks}
+use Rattle.structure.specs.ByTracks.{lowerOf, ofTracks}
 use Rattle.structure.specs.Movie.{tracksOf}
 use Rattle.structure.proofs.Places.{found-end, found-here, found-next}
-use Rattle.movie.specs.Refusals.{tableRows, tablesRefusal}
+use Rattle.movie.specs.TableRows.{tableRows, tablesRefusal}
 use Rattle.movie.proofs.Places.{body-within}
 use Rattle.movie.proofs.Tables.{track-rows, tables-by-tracks}
 use Rattle.movie.proofs.tables_refusal.Statement.{statement}

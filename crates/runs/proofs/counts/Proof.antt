@@ -6,7 +6,8 @@ use native.Mathlib.Omega.{arith}
 use denote.Ref.{now}
 use lib.ListN.{length, length-drop}
 use Rattle.bigendian.proofs.Parts.{rest as part-rest}
-use Rattle.runs.specs.Runs.{counting, runsIn, runsOf}
+use Rattle.runs.specs.Runs.{runsIn, runsOf}
+use Rattle.runs.specs.Computed.{counting}
 use Rattle.runs.proofs.Turns.{runs-in, count-zero, count-over, count-next, count-end}
 use Rattle.runs.proofs.counts.Statement.{statement}
 use Rattle.runs.proofs.counts.Tie as tie

@@ -2,7 +2,7 @@
 -- Assumes nothing.
 use native.Mathlib.Omega.{arith}
 use borrow.Author.Tests.{eq-eqb, ne-eqb}
-use Rattle.structure.specs.Rows.{lowerOf}
+use Rattle.structure.specs.ByTracks.{lowerOf}
 use Rattle.structure.proofs.lower_of.Statement.{statement}
 use Rattle.structure.proofs.lower_of.Tie as tie
 

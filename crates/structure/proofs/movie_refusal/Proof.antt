@@ -8,9 +8,9 @@ use denote.Ref.{now}
 use lib.ListN.{length, length-drop}
 use lib.Seq.{length-take-le}
 use Rattle.bigendian.proofs.Parts.{rest}
-use Rattle.structure.specs.Rows.{lowerOf, ofTracks}
+use Rattle.structure.specs.ByTracks.{lowerOf, ofTracks}
 use Rattle.structure.specs.Movie.{tracksOf}
-use Rattle.structure.specs.Refusals.{movieRows, movieRefusal}
+use Rattle.structure.specs.MovieRows.{movieRows, movieRefusal}
 use Rattle.structure.proofs.Tracks.{movie-by-tracks}
 use Rattle.structure.proofs.Places.{found-end, found-here, found-next}
 use Rattle.structure.proofs.movie_refusal.Statement.{statement}

@@ -2,7 +2,7 @@
 -- Assumes nothing.
 use borrow.Author.Tests.{eq-eqb, ne-eqb}
 use Rattle.structure.specs.Rows.{orElse}
-use Rattle.structure.specs.Refusals.{refusalOf}
+use Rattle.structure.specs.MovieRows.{refusalOf}
 use Rattle.structure.proofs.refusal.Statement.{statement}
 use Rattle.structure.proofs.refusal.Tie as tie
 

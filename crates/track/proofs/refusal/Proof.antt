@@ -4,8 +4,8 @@ use borrow.Author.Needs.{needs}
 use denote.Ref.{now}
 use lib.Dec.{ltb}
 use Rattle.structure.specs.Track.{idOf, scaleOf}
-use Rattle.structure.specs.Rows.{ofTrack}
-use Rattle.track.specs.Refusals.{timedRows, trackRows}
+use Rattle.structure.specs.ByTracks.{ofTrack}
+use Rattle.track.specs.TrackRows.{timedRows, trackRows}
 use mathlib.Core.Path.{_≡_, sym, ap, _∙_}
 use Rattle.track.proofs.Rows.{sum-is, over-is, rows-7, rows-8, rows-9, rows-timed, timed-over, total-by}
 use Rattle.track.proofs.refusal.Statement.{statement}

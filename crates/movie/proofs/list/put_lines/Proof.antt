@@ -13,7 +13,8 @@ use Rattle.bigendian.proofs.Parts.{rest}
 use Rattle.structure.specs.Movie.{tracksOf}
 use Rattle.structure.proofs.Places.{tracks-none, tracks-next}
 use Rattle.movie.proofs.Places.{track-here}
-use Rattle.movie.specs.TrackList.{fields, linesOf, TotalsFit}
+use Rattle.movie.specs.TrackList.{linesOf}
+use Rattle.movie.specs.Lines.{fields, TotalsFit}
 use Rattle.movie.proofs.Lines.{fits-here, fits-rest, room-here, turn}
 use Rattle.movie.proofs.list.put_lines.Statement.{statement}
 use Rattle.movie.proofs.list.put_lines.Tie as tie

@@ -1,0 +1,22 @@
+-- The rows 7 to 13, which the code judges after the crate structure has passed the file. These need not be believed: they are between the
+-- crates' own functions, and `proofs/Tables.antt` shows that with those of structure they make up the table.
+use Prim.Native.Nat.{ℕ}
+use mathlib.Core.List.{List, [], _∷_}
+use Rattle.structure.specs.Movie.{tracksOf, movieScale}
+use Rattle.structure.specs.Rows.{Row, row, never, lowest}
+use Rattle.track.specs.Refusals.{contradicts, totalTooLarge, otherDuration, chunkPastEnd, wrongEdits}
+use Rattle.movie.specs.Refusals.{sameIds, idIsZero, movieScaleIsZero, scaleIsZero}
+
+unfoldable pub tableRows : ℕ → ℕ → List Row
+tableRows scale len =
+    row 7 sameIds idIsZero
+    ∷ row 8 movieScaleIsZero scaleIsZero
+    ∷ row 9 never contradicts
+    ∷ row 10 never totalTooLarge
+    ∷ row 11 never otherDuration
+    ∷ row 12 never (chunkPastEnd len)
+    ∷ row 13 never (wrongEdits scale)
+    ∷ []
+
+unfoldable pub tablesRefusal : ℕ → List ℕ → ℕ
+tablesRefusal len m = lowest (tableRows (movieScale m) len) m (tracksOf m)
