@@ -8,10 +8,11 @@ use lib.ListN.{length, getD}
 use lib.Dec.{eqb}
 use borrow.Author.Tests.{eqb-true}
 use native.Mathlib.Omega.{arith}
+use Rattle.lists.proofs.Booleans.{and-left, and-right}
 use Rattle.atoms.specs.Kinds.{container}
 use Rattle.atoms.specs.Atoms.{kindOf, bodyOf, atoms, ofKind, childIn, countIn}
 use Rattle.atoms.specs.Tree.{all, everywhere}
-use Rattle.atoms.proofs.Laws.{and-left, and-right, below}
+use Rattle.atoms.proofs.Laws.{below}
 
 module _ (f : List ℕ → Bool) (k : ℕ) where
   -- f holds of x, and x is of kind k

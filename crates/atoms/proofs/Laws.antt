@@ -11,6 +11,7 @@ use borrow.Author.Tests.{leb-true, ltb-false, eq-eqb, ne-eqb}
 use native.Mathlib.Omega.{arith}
 use Rattle.bigendian.specs.BigEndian.{u32At, u64At}
 use Rattle.bigendian.proofs.Laws.{beAt-take}
+use Rattle.lists.proofs.Booleans.{and-left, and-right}
 use Rattle.atoms.specs.Kinds.{file, container}
 use Rattle.atoms.specs.Pieces.{fitting}
 use Rattle.atoms.specs.Atoms.{kindOf, bodyOf, sizeInside, sizeTop, sizeIn, atoms, filled, ofKind, childIn}
@@ -30,14 +31,6 @@ sized-zero s = (omega arith, λ h. refl)
 sized-cond : (b : Bool) (s : List ℕ) (x y : ℕ) → (b ≡ true → Sized s x) → (b ≡ false → Sized s y) → Sized s (cond b x y)
 sized-cond true s x y f g = f refl
 sized-cond false s x y f g = g refl
-
-pub and-left : (a b : Bool) → (a && b) ≡ true → a ≡ true
-and-left true b e = refl
-and-left false b e = e
-
-pub and-right : (a b : Bool) → (a && b) ≡ true → b ≡ true
-and-right true b e = e
-and-right false b e = cc
 
 sized-fitting : (h z : ℕ) (s : List ℕ) → 8 ≤ h → Sized s (fitting h z s)
 unfolding fitting Sized

@@ -14,6 +14,7 @@ use Rattle.bigendian.specs.BigEndian.{u32At}
 use Rattle.lists.specs.Lists.{sum, before, between, holder}
 use Rattle.lists.proofs.Laws.{length-run}
 use Rattle.lists.proofs.Places.{holds-below, holder-holds, between-split, between-one}
+use Rattle.lists.proofs.Booleans.{cond-unless}
 use Rattle.words.specs.Words.{wordsIn, chunkOffsets}
 use Rattle.words.proofs.Turns.{offsets-in, words-drop}
 use Rattle.chunks.specs.Chunks.{perChunk, offsetOf, endWithin}
@@ -81,10 +82,6 @@ module _ {limit : ℕ} {s : List ℕ} {chunks : ℕ} {zs t : List ℕ} {whole : 
 abbrev pub Within : ℕ → List ℕ → List ℕ → List ℕ → Type 0
 Within limit ps cs zs = (k : ℕ) → k < length ps → getD cs k 0 + between zs (before ps k) (before ps k + getD ps k 0) ≤ limit
 
-halves : (a b : Bool) → cond a false b ≡ true → (a ≡ false) × (b ≡ true)
-halves true b e = let z : _≡_ {A = ℕ} 0 1 = cc in absurd (omega arith)
-halves false b e = (refl, e)
-
 second : (cs : List ℕ) (k : ℕ) → getD (drop 1 cs) k 0 ≡ getD cs (suc k) 0
 second [] k = refl
 second (x ∷ cs) k = refl
@@ -102,9 +99,9 @@ first-sum p zs = let e : 0 + p - 0 ≡ p = omega arith in ap (λ (k : ℕ). sum 
 pub all-within : (limit : ℕ) (ps cs zs : List ℕ) → endWithin limit ps cs zs ≡ true → Within limit ps cs zs
 all-within limit [] cs zs e k h = absurd (omega arith)
 all-within limit (p ∷ ps) cs zs e zero h =
-    omega (arith, ltb-false limit (getD cs 0 0 + sum (take p zs)) (halves (ltb limit (getD cs 0 0 + sum (take p zs))) _ e .0), first-sum p zs)
+    omega (arith, ltb-false limit (getD cs 0 0 + sum (take p zs)) (cond-unless (ltb limit (getD cs 0 0 + sum (take p zs))) _ e .0), first-sum p zs)
 all-within limit (p ∷ ps) cs zs e (suc k) h =
-    let t = all-within limit ps (drop 1 cs) (drop p zs) (halves (ltb limit (getD cs 0 0 + sum (take p zs))) _ e .1) k (omega arith) in
+    let t = all-within limit ps (drop 1 cs) (drop p zs) (cond-unless (ltb limit (getD cs 0 0 + sum (take p zs))) _ e .1) k (omega arith) in
     omega (arith, t, second cs k, later p ps zs k)
 
 pub within-all : (limit : ℕ) (ps cs zs : List ℕ) → Within limit ps cs zs → endWithin limit ps cs zs ≡ true

@@ -7,40 +7,9 @@ use mathlib.Core.List.{List, [], _∷_}
 use native.Mathlib.Omega.{arith}
 use lib.Dec.{ltb, leb, eqb}
 use borrow.Author.Tests.{lt-ltb, le-ltb, le-leb, lt-leb, eq-eqb, ne-eqb, ltb-false, leb-true, leb-false, eqb-true, eqb-false, not-false}
+use Rattle.lists.proofs.Booleans.{or-both, or-neither, and-false, and-true, cond-both, cond-unless, opposite}
 use Rattle.chunks.specs.Chunks.{Deal, deals, firstOf, any, startsElsewhere, notRising, passes, withoutChunks, withChunks, dealsNone, wrongDescriptionId, dealsContradict}
 use Rattle.chunks.specs.Computed.{rightEntry, dealing, dealsAgree}
-
--- ---- Booleans
-
-or-false : (a b : Bool) → a || b ≡ false → (a ≡ false) × (b ≡ false)
-or-false true b e = let z : _≡_ {A = ℕ} 0 1 = cc in absurd (omega arith)
-or-false false b e = (refl, e)
-
-neither : (a b : Bool) → a ≡ false → b ≡ false → a || b ≡ false
-neither a b p q = rw (p, q)
-
-and-false : (a : Bool) → a && false ≡ false
-and-false true = refl
-and-false false = refl
-
-and-true : (a : Bool) → a && true ≡ false → a ≡ false
-and-true true e = e
-and-true false e = refl
-
-both : (a b : Bool) → cond a b false ≡ true → (a ≡ true) × (b ≡ true)
-both true b e = (refl, e)
-both false b e = let z : _≡_ {A = ℕ} 0 1 = cc in absurd (omega arith)
-
-unless : (a b : Bool) → cond a false b ≡ true → (a ≡ false) × (b ≡ true)
-unless true b e = let z : _≡_ {A = ℕ} 0 1 = cc in absurd (omega arith)
-unless false b e = (refl, e)
-
--- two tests of which one passes exactly if the other does not
-opposite : (a b : Bool) → (a ≡ true → b ≡ false) → (b ≡ false → a ≡ true) → a ≡ not b
-opposite true true f g = let e = f refl in let z : _≡_ {A = ℕ} 0 1 = cc in absurd (omega arith)
-opposite true false f g = refl
-opposite false true f g = refl
-opposite false false f g = let e = g refl in let z : _≡_ {A = ℕ} 0 1 = cc in absurd (omega arith)
 
 -- ---- an entry
 
@@ -53,9 +22,9 @@ pub record Right (first next per id descriptions : ℕ) : Type 0 where
 
 pub is-right : (first next per id descriptions : ℕ) → rightEntry first next per id descriptions ≡ true → Right first next per id descriptions
 is-right first next per id descriptions e =
-    let a = unless (leb next first) (cond (eqb per 0) false (cond (eqb id 0) false (leb id descriptions))) e in
-    let b = unless (eqb per 0) (cond (eqb id 0) false (leb id descriptions)) (a .1) in
-    let c = unless (eqb id 0) (leb id descriptions) (b .1) in
+    let a = cond-unless (leb next first) (cond (eqb per 0) false (cond (eqb id 0) false (leb id descriptions))) e in
+    let b = cond-unless (eqb per 0) (cond (eqb id 0) false (leb id descriptions)) (a .1) in
+    let c = cond-unless (eqb id 0) (leb id descriptions) (b .1) in
     let p = eqb-false per 0 (b .0) in
     let q = eqb-false id 0 (c .0) in
     record { some = leb-false next first (a .0); full = omega arith; named = omega arith; known = leb-true id descriptions (c .1) }
@@ -72,7 +41,7 @@ module _ (chunks descriptions : ℕ) where
   pub dealing-cons : (e : Deal) (es : List Deal) → dealing chunks descriptions (e ∷ es) ≡ true →
       Right (e .first) (firstOf chunks es) (e .per) (e .id) descriptions × (dealing chunks descriptions es ≡ true)
   dealing-cons e es q =
-      let t = both (rightEntry (e .first) (firstOf chunks es) (e .per) (e .id) descriptions) (dealing chunks descriptions es) q in
+      let t = cond-both (rightEntry (e .first) (firstOf chunks es) (e .per) (e .id) descriptions) (dealing chunks descriptions es) q in
       (is-right (e .first) (firstOf chunks es) (e .per) (e .id) descriptions (t .0), t .1)
 
   first-within : (es : List Deal) → dealing chunks descriptions es ≡ true → firstOf chunks es ≤ chunks + 1
@@ -117,7 +86,7 @@ module _ (chunks descriptions : ℕ) where
   with-of : (es : List Deal) → firstOf chunks es ≡ 1 → dealing chunks descriptions es ≡ true → withChunks chunks es ≡ false
   with-of [] f q = let h : chunks ≤ 0 = omega (arith, f) in rw (le-ltb 0 chunks h)
   with-of (e ∷ es) f q =
-      ap (λ (b : Bool). ltb 0 chunks && b) (rw (eq-eqb (e .first) 1 f) (neither (notRising (e ∷ es)) (any (passes chunks) (e ∷ es)) (rising-of (e ∷ es) q) (passes-none (e ∷ es) q)))
+      ap (λ (b : Bool). ltb 0 chunks && b) (rw (eq-eqb (e .first) 1 f) (or-neither (notRising (e ∷ es)) (any (passes chunks) (e ∷ es)) (rising-of (e ∷ es) q) (passes-none (e ∷ es) q)))
       ∙ and-false (ltb 0 chunks)
 
   -- ---- entries that contradict nothing are right
@@ -125,10 +94,10 @@ module _ (chunks descriptions : ℕ) where
   dealing-if : (e : Deal) (es : List Deal) → notRising (e ∷ es) ≡ false → any (passes chunks) (e ∷ es) ≡ false → any dealsNone (e ∷ es) ≡ false →
       any (wrongDescriptionId descriptions) (e ∷ es) ≡ false → dealing chunks descriptions (e ∷ es) ≡ true
   dealing-if e [] r p d i =
-      let a = or-false (ltb chunks (e .first)) false p in
-      let b = or-false (eqb (e .per) 0) false d in
-      let c = or-false (eqb (e .id) 0 || ltb descriptions (e .id)) false i in
-      let u = or-false (eqb (e .id) 0) (ltb descriptions (e .id)) (c .0) in
+      let a = or-both (ltb chunks (e .first)) false p in
+      let b = or-both (eqb (e .per) 0) false d in
+      let c = or-both (eqb (e .id) 0 || ltb descriptions (e .id)) false i in
+      let u = or-both (eqb (e .id) 0) (ltb descriptions (e .id)) (c .0) in
       let x = eqb-false (e .per) 0 (b .0) in
       let y = eqb-false (e .id) 0 (u .0) in
       let k : Right (e .first) (chunks + 1) (e .per) (e .id) descriptions = record {
@@ -139,11 +108,11 @@ module _ (chunks descriptions : ℕ) where
       } in
       rw (right-is k)
   dealing-if e (f ∷ es) r p d i =
-      let o = or-false (leb (f .first) (e .first)) (notRising (f ∷ es)) r in
-      let a = or-false (ltb chunks (e .first)) (any (passes chunks) (f ∷ es)) p in
-      let b = or-false (eqb (e .per) 0) (any dealsNone (f ∷ es)) d in
-      let c = or-false (eqb (e .id) 0 || ltb descriptions (e .id)) (any (wrongDescriptionId descriptions) (f ∷ es)) i in
-      let u = or-false (eqb (e .id) 0) (ltb descriptions (e .id)) (c .0) in
+      let o = or-both (leb (f .first) (e .first)) (notRising (f ∷ es)) r in
+      let a = or-both (ltb chunks (e .first)) (any (passes chunks) (f ∷ es)) p in
+      let b = or-both (eqb (e .per) 0) (any dealsNone (f ∷ es)) d in
+      let c = or-both (eqb (e .id) 0 || ltb descriptions (e .id)) (any (wrongDescriptionId descriptions) (f ∷ es)) i in
+      let u = or-both (eqb (e .id) 0) (ltb descriptions (e .id)) (c .0) in
       let x = eqb-false (e .per) 0 (b .0) in
       let y = eqb-false (e .id) 0 (u .0) in
       let k : Right (e .first) (f .first) (e .per) (e .id) descriptions = record {
@@ -161,15 +130,15 @@ module _ (chunks descriptions : ℕ) where
       let z = eqb-false chunks 0 (and-true (eqb chunks 0) w) in
       let h : 0 < chunks = omega arith in
       let n : startsElsewhere (e ∷ es) || (notRising (e ∷ es) || any (passes chunks) (e ∷ es)) ≡ false = rw (lt-ltb 0 chunks h) at v in
-      let a = or-false (startsElsewhere (e ∷ es)) (notRising (e ∷ es) || any (passes chunks) (e ∷ es)) n in
-      let b = or-false (notRising (e ∷ es)) (any (passes chunks) (e ∷ es)) (a .1) in
+      let a = or-both (startsElsewhere (e ∷ es)) (notRising (e ∷ es) || any (passes chunks) (e ∷ es)) n in
+      let b = or-both (notRising (e ∷ es)) (any (passes chunks) (e ∷ es)) (a .1) in
       (eqb-true (e .first) 1 (not-false (eqb (e .first) 1) (a .0)), dealing-if e es (b .0) (b .1) d i)
 
 -- what agreement says
 pub agreed : (s : List ℕ) (chunks descriptions : ℕ) → dealsAgree s chunks descriptions ≡ true → (firstOf chunks (deals s) ≡ 1) × (dealing chunks descriptions (deals s) ≡ true)
 unfolding dealsAgree
 agreed s chunks descriptions e =
-    let t = both (eqb (firstOf chunks (deals s)) 1) (dealing chunks descriptions (deals s)) e in
+    let t = cond-both (eqb (firstOf chunks (deals s)) 1) (dealing chunks descriptions (deals s)) e in
     (eqb-true (firstOf chunks (deals s)) 1 (t .0), t .1)
 
 -- the test is that no clause holds
@@ -180,12 +149,12 @@ agree-clauses s chunks descriptions =
     opposite (dealsAgree s chunks descriptions) (dealsContradict s chunks descriptions)
     (λ e.
     let t = agreed s chunks descriptions e in
-    neither (withoutChunks chunks es) (withChunks chunks es || (any dealsNone es || any (wrongDescriptionId descriptions) es)) (without-of chunks descriptions es (t .0) (t .1))
-    (neither (withChunks chunks es) (any dealsNone es || any (wrongDescriptionId descriptions) es) (with-of chunks descriptions es (t .0) (t .1))
-    (neither (any dealsNone es) (any (wrongDescriptionId descriptions) es) (deals-some chunks descriptions es (t .1)) (wrong-id-none chunks descriptions es (t .1)))))
+    or-neither (withoutChunks chunks es) (withChunks chunks es || (any dealsNone es || any (wrongDescriptionId descriptions) es)) (without-of chunks descriptions es (t .0) (t .1))
+    (or-neither (withChunks chunks es) (any dealsNone es || any (wrongDescriptionId descriptions) es) (with-of chunks descriptions es (t .0) (t .1))
+    (or-neither (any dealsNone es) (any (wrongDescriptionId descriptions) es) (deals-some chunks descriptions es (t .1)) (wrong-id-none chunks descriptions es (t .1)))))
     (λ e.
-    let a = or-false (withoutChunks chunks es) (withChunks chunks es || (any dealsNone es || any (wrongDescriptionId descriptions) es)) e in
-    let b = or-false (withChunks chunks es) (any dealsNone es || any (wrongDescriptionId descriptions) es) (a .1) in
-    let c = or-false (any dealsNone es) (any (wrongDescriptionId descriptions) es) (b .1) in
+    let a = or-both (withoutChunks chunks es) (withChunks chunks es || (any dealsNone es || any (wrongDescriptionId descriptions) es)) e in
+    let b = or-both (withChunks chunks es) (any dealsNone es || any (wrongDescriptionId descriptions) es) (a .1) in
+    let c = or-both (any dealsNone es) (any (wrongDescriptionId descriptions) es) (b .1) in
     let t = right-if chunks descriptions es (a .0) (b .0) (c .0) (c .1) in
     rw (eq-eqb (firstOf chunks es) 1 (t .0)) (t .1))

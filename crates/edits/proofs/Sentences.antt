@@ -2,7 +2,7 @@
 -- Assumes nothing.
 use Prim.Native.Nat.{ℕ, zero, suc, _+_, _-_, _*_, _≤_, _<_}
 use mathlib.Core.Path.{_≡_, refl, sym, ap, _∙_}
-use mathlib.Core.Bool.{Bool, true, false, cond}
+use mathlib.Core.Bool.{true}
 use mathlib.Core.List.{List, [], _∷_}
 use native.Mathlib.Omega.{arith}
 use native.Mathlib.Nat.{mul-le-mul-right, div-zero, div-mul-le-self, le-div-iff-mul-le, le-trans, zero-add}
@@ -13,6 +13,7 @@ use lib.ListN.{length, getD, length-map}
 use borrow.Author.Tests.{lt-ltb, le-ltb, eq-eqb, ne-eqb, ltb-true, eqb-true, eqb-false}
 use Rattle.lists.specs.Lists.{sum, before, holder}
 use Rattle.lists.proofs.Places.{holder-holds, holds-below}
+use Rattle.lists.proofs.Booleans.{cond-both, cond-unless}
 use Rattle.edits.specs.declared.Edit.{Edit}
 use Rattle.edits.specs.declared.Mapped.the-variants.{Media, Nothing, Outside}
 use Rattle.edits.specs.declared.MovieTime.{MovieTime}
@@ -20,14 +21,6 @@ use Rattle.edits.specs.Edits.{edits, durationsOf, editTotal, startOf, in
 use Rattle.edits.proofs.Turns.{edits-in, media-absent, media-listed}
 
 -- ---- refusal 13
-
-both : (a b : Bool) → cond a b false ≡ true → (a ≡ true) × (b ≡ true)
-both true b e = (refl, e)
-both false b e = let z : _≡_ {A = ℕ} 0 1 = cc in absurd (omega arith)
-
-neither : (a b : Bool) → cond a false b ≡ true → (a ≡ false) × (b ≡ true)
-neither true b e = let z : _≡_ {A = ℕ} 0 1 = cc in absurd (omega arith)
-neither false b e = (refl, e)
 
 -- none of "a duration 0; a rate other than 65536 (1.0); a media time below -1; or an entry with media time m ≥ 0 and duration d where
 -- m + floor((d-1) × media scale / movie scale) is not below the sample total"
@@ -56,8 +49,8 @@ module _ (scale movie total : ℕ) where
   pub edit-known : (e : Edit) → editOk scale movie total e ≡ true → Right scale movie total e
   unfolding editOk
   edit-known e o =
-      let p = neither (eqb (e .duration) 0) _ o in
-      let q = both (eqb (e .rate) 65536) (startOk scale movie total (e .duration) (startOf (e .media))) (p .1) in
+      let p = cond-unless (eqb (e .duration) 0) _ o in
+      let q = cond-both (eqb (e .rate) 65536) (startOk scale movie total (e .duration) (startOf (e .media))) (p .1) in
       let z = eqb-false (e .duration) 0 (p .0) in
       record { lasts = omega arith; plain = eqb-true (e .rate) 65536 (q .0); above = below (e .duration) (e .media) (q .1); ends = last (e .duration) (e .media) (q .1) }
 
@@ -71,8 +64,8 @@ module _ (scale movie total : ℕ) where
   module _ (e₀ : Edit) where
     pub all-known : (es : List Edit) → allOk scale movie total es ≡ true → (i : ℕ) → i < length es → Right scale movie total (getD es i e₀)
     all-known [] o i h = absurd (omega arith)
-    all-known (e ∷ es) o zero h = edit-known e (both (editOk scale movie total e) (allOk scale movie total es) o .0)
-    all-known (e ∷ es) o (suc i) h = all-known es (both (editOk scale movie total e) (allOk scale movie total es) o .1) i (omega arith)
+    all-known (e ∷ es) o zero h = edit-known e (cond-both (editOk scale movie total e) (allOk scale movie total es) o .0)
+    all-known (e ∷ es) o (suc i) h = all-known es (cond-both (editOk scale movie total e) (allOk scale movie total es) o .1) i (omega arith)
 
     all-only : (es : List Edit) → ((i : ℕ) → i < length es → Right scale movie total (getD es i e₀)) → allOk scale movie total es ≡ true
     all-only [] f = refl

@@ -3,18 +3,15 @@
 use Prim.Native.Nat.{ℕ, zero, suc, _-_, _≤_, _<_}
 use mathlib.Core.Path.{_≡_, refl, sym, _∙_}
 use mathlib.Core.List.{List, [], _∷_}
-use mathlib.Core.Bool.{Bool, true, false, _&&_}
+use mathlib.Core.Bool.{false}
 use lib.ListN.{length, drop}
 use lib.Dec.{eqb, eqb·zero-suc, eqb·suc-suc}
 use native.Mathlib.Omega.{arith}
 use native.Mathlib.Nat.{pos-of-ne-zero}
+use Rattle.lists.proofs.Booleans.{and-false}
 use Rattle.atoms.specs.Pieces.{piecesAfter, filledBy}
 use Rattle.atoms.proofs.Pieces.{pieces-next, filled-none, filled-next, filled-end}
 use Rattle.leaves.specs.Leaves.{filledWith}
-
-and-no : (a : Bool) → (a && false) ≡ false
-and-no true = refl
-and-no false = refl
 
 sub-suc-one : (n : ℕ) → suc n - 1 ≡ n
 sub-suc-one n = omega arith
@@ -26,7 +23,7 @@ module _ (size : List ℕ → ℕ) (n : ℕ) (s : List ℕ) (z : ℕ) (e : z ≡
 
   pub with-over : (z ≡ 0 → ⊥) → z ≤ length s → n ≡ 0 → filledWith size n s ≡ false
   unfolding filledWith
-  with-over h g f = rw (pieces-next size s z e (pos-of-ne-zero h) g, f, eqb·zero-suc) (and-no (filledBy size s))
+  with-over h g f = rw (pieces-next size s z e (pos-of-ne-zero h) g, f, eqb·zero-suc) (and-false (filledBy size s))
 
 pub with-next : (size : List ℕ → ℕ) (n : ℕ) (s : List ℕ) (z : ℕ) → z ≡ size s → (z ≡ 0 → ⊥) → z ≤ length s → (n ≡ 0 → ⊥)
     → filledWith size n s ≡ filledWith size (n - 1) (drop z s)

@@ -2,18 +2,15 @@
 -- bytes of what they count, and no others are (`cut-only`). The idea: a number's groups end at the first byte without the top bit.
 -- Assumes nothing.
 use mathlib.Core.Path.{_≡_, refl, ap, ap₂, sym, _∙_}
-use mathlib.Core.Bool.{Bool, true, false, cond, _&&_}
+use mathlib.Core.Bool.{Bool, true, false, cond}
 use mathlib.Core.List.{List, [], _∷_, _++_}
 use Prim.Native.Nat.{ℕ, zero, suc, _+_, _/_, _%_, _<_, _≤_, _^_}
 use native.Mathlib.Omega.{arith}
 use lib.Dec.{ltb, eqb}
 use borrow.Author.Tests.{ltb-true, eqb-true, lt-ltb, le-ltb, eq-eqb}
+use Rattle.lists.proofs.Booleans.{and-both}
 use Rattle.leb128.specs.Numbers.{groupsIn, groups, writes, Below, value, onto, cut, same, written, allWritten, values}
 use Rattle.leb128.specs.Reading.{limit}
-
-pub and-true : (x y : Bool) → (x && y) ≡ true → (x ≡ true) × (y ≡ true)
-and-true true y e = (refl, e)
-and-true false y e = absurd (let z : _≡_ {A = ℕ} 0 1 = cc in omega arith)
 
 -- ---- one number
 
@@ -49,7 +46,7 @@ same-true [] [] e = refl
 same-true [] (y ∷ ys) e = absurd (let z : _≡_ {A = ℕ} 0 1 = cc in omega arith)
 same-true (x ∷ xs) [] e = absurd (let z : _≡_ {A = ℕ} 0 1 = cc in omega arith)
 same-true (x ∷ xs) (y ∷ ys) e =
-    let t = and-true (eqb x y) (same xs ys) e in
+    let t = and-both (eqb x y) (same xs ys) e in
     ap₂ (λ (z : ℕ) (zs : List ℕ). z ∷ zs) (eqb-true x y (t .0)) (same-true xs ys (t .1))
 
 -- ---- some numbers
@@ -78,8 +75,8 @@ written-writes : (bound : ℕ) (ps : List (List ℕ)) → allWritten bound ps �
 unfolding joined allWritten written values writes
 written-writes bound [] e = (refl, tt)
 written-writes bound (p ∷ ps) e =
-    let t = and-true (written bound p) (allWritten bound ps) e in
-    let u = and-true (ltb (value p) bound) (same p (groups (value p))) (t .0) in
+    let t = and-both (written bound p) (allWritten bound ps) e in
+    let u = and-both (ltb (value p) bound) (same p (groups (value p))) (t .0) in
     let ih = written-writes bound ps (t .1) in
     (ap₂ (λ (x y : List ℕ). x ++ y) (same-true p (groups (value p)) (u .1)) (ih .0), (ltb-true (value p) bound (u .0), ih .1))
 

@@ -7,11 +7,12 @@ use mathlib.Core.Bool.{false, _||_}
 use lib.ListN.{length, getD}
 use lib.Dec.{ltb}
 use borrow.Author.Tests.{eqb-true, eqb-false, ltb-false, not-false}
+use Rattle.lists.proofs.Booleans.{or-left, or-right}
 use Rattle.structure.specs.Rows.{some}
 use Rattle.structure.specs.Track.{idOf, scaleOf, durationOf, elstOf}
 use Rattle.structure.specs.Movie.{moovOf, movieScale, tracksOf}
 use Rattle.structure.proofs.Shaped.{Shaped, ShapedMovie, ShapedFile}
-use Rattle.structure.proofs.Callers.{Clear, clear, some-none, shaped, none-else, or-left, or-right, Each, tracks-each}
+use Rattle.structure.proofs.Callers.{Clear, clear, some-none, shaped, none-else, Each, tracks-each}
 use Rattle.edits.specs.Edits.{editTotal}
 use Rattle.track.specs.Refusals.{contradicts, totalIn, totalTooLarge, otherDuration, chunkPastEnd, wrongEdits}
 use Rattle.movie.specs.Tracks.{idsOf, repeats}

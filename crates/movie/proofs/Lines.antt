@@ -1,21 +1,16 @@
 -- The lines of the track list put one after the other: each turn stores the numbers of one track, and the rest follows.
 -- Assumes nothing.
 use Prim.Native.Nat.{ℕ, suc, _+_, _*_, _≤_, _<_}
-use mathlib.Core.Path.{_≡_, refl, sym, ap, _∙_}
+use mathlib.Core.Path.{_≡_, refl, sym, _∙_}
 use mathlib.Core.List.{List, [], _∷_, _++_}
 use native.Mathlib.Omega.{arith}
-use native.Mathlib.Nat.{add-zero, zero-add, add-suc, suc-add}
-use lib.ListN.{length, set, drop, length-append}
+use native.Mathlib.Nat.{zero-add}
+use lib.ListN.{length, drop, length-append}
 use lib.Seq.{sets, sets-eq}
+use Rattle.lists.proofs.Stores.{sets-append}
 use Rattle.track.specs.Refusals.{totalIn}
 use Rattle.movie.specs.TrackList.{lineOf, linesOf}
 use Rattle.movie.specs.Lines.{TotalsFit}
-
--- numbers stored in two goes
-pub sets-append : (xs ys l : List ℕ) (i : ℕ) → sets l i (xs ++ ys) ≡ sets (sets l i xs) (i + length xs) ys
-sets-append [] ys l i = ap (λ k. sets l k ys) (sym (add-zero i))
-sets-append (x ∷ xs) ys l i =
-    sets-append xs ys (set l i x) (suc i) ∙ ap (λ k. sets (sets (set l i x) (suc i) xs) k ys) (suc-add i (length xs) ∙ sym (add-suc i (length xs)))
 
 pub line-length : (t : List ℕ) → length (lineOf t) ≡ 7
 unfolding lineOf
@@ -40,7 +35,7 @@ module _ (b : List ℕ) (ts rest : List (List ℕ)) (q : ts ≡ b ∷ rest) wher
   pub turn : (room new line goal : List ℕ) (at : ℕ) → line ≡ lineOf b → new ≡ sets room at line → sets room at (linesOf ts) ≡ goal → sets new (at + 7) (linesOf rest) ≡ goal
   turn room new line goal at e d h =
       let z : sets room at (lineOf b ++ linesOf rest) ≡ goal = rw q at h in
-      rw (d, e) (sym (rw (line-length b) at (sets-append (lineOf b) (linesOf rest) room at)) ∙ z)
+      rw (d, e) (sym (rw (line-length b) at (sets-append room at (lineOf b) (linesOf rest))) ∙ z)
 
 -- all of them, in room for them all
 pub all-lines : (ts : List (List ℕ)) (room : List ℕ) → 7 * length ts ≤ length room → sets room 0 (linesOf ts) ≡ linesOf ts ++ drop (length (linesOf ts)) room

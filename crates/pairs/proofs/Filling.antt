@@ -9,7 +9,7 @@ use lib.ListN.{length, length-append}
 use lib.Seq.{sets, length-sets}
 use lib.Dec.{eqb, leb}
 use Rattle.lists.specs.Lists.{sum}
-use Rattle.leb128.proofs.Puts.{sets-append}
+use Rattle.lists.proofs.Stores.{sets-append}
 use Rattle.pairs.specs.Pairs.{flat}
 use Rattle.pairs.specs.Walks.{pairsBetween, lengthsOf, Fitting, Putting, pairsAhead, At, placePast, StartsAt, AtOnce, pairsAtOnce, Room, Put}
 use Rattle.pairs.specs.declared.Pair.{Pair}

@@ -8,9 +8,10 @@ use native.Mathlib.Omega.{arith}
 use lib.ListN.{length, getD, length-append}
 use lib.Seq.{sets, length-sets}
 use lib.Dec.{eqb, leb}
+use Rattle.lists.proofs.Stores.{sets-append}
 use Rattle.leb128.specs.Numbers.{groups, writes}
 use Rattle.leb128.specs.Writing.{putAt, pastPut}
-use Rattle.leb128.proofs.Puts.{sets-append, put-fits}
+use Rattle.leb128.proofs.Puts.{put-fits}
 use Rattle.words.specs.Words.{sizes, chunkOffsets}
 use Rattle.pairs.specs.Pairs.{pairOf, flat}
 use Rattle.pairs.specs.Walks.{pairsBetween, pairsAhead, At, placeAfter, StartsAt}

@@ -2,7 +2,7 @@
 -- Assumes nothing.
 use Prim.Native.Nat.{ℕ, suc, _+_, _*_, _-_, _≤_, _<_, min, max}
 use mathlib.Core.Path.{_≡_, refl, sym, ap, _∙_}
-use mathlib.Core.Bool.{Bool, true, false, cond, _&&_}
+use mathlib.Core.Bool.{Bool, true, false, cond}
 use mathlib.Core.List.{List, [], _∷_}
 use native.Mathlib.Omega.{arith}
 use native.Mathlib.Decide.{decLt, decLe}
@@ -13,6 +13,7 @@ use lib.Dec.{ltb}
 use Rattle.lists.specs.Lists.{sum, before, between, holder}
 use Rattle.lists.proofs.Laws.{holder-hit, holder-miss}
 use Rattle.lists.proofs.Places.{between-split}
+use Rattle.lists.proofs.Booleans.{and-false}
 use Rattle.chunks.specs.Chunks.{endWithin}
 use Rattle.leb128.specs.Numbers.{Below}
 use Rattle.pairs.specs.Pairs.{isTouched, pairOf, touched, flat}
@@ -26,10 +27,6 @@ is-touched i j begin p h g = rw (lt-ltb begin j h, lt-ltb i (begin + p) g)
 
 pub past-last : (i j begin p : ℕ) → j ≤ begin → isTouched i j begin p ≡ false
 past-last i j begin p h = rw (le-ltb begin j h)
-
-and-false : (b : Bool) → (b && false) ≡ false
-and-false true = refl
-and-false false = refl
 
 pub before-first : (i j begin p : ℕ) → begin + p ≤ i → isTouched i j begin p ≡ false
 before-first i j begin p h = rw (le-ltb i (begin + p) h) (and-false (ltb begin j))

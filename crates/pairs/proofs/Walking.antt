@@ -14,6 +14,7 @@ use lib.Dec.{eqb, leb}
 use Rattle.lists.specs.Lists.{sum, before, between, holder}
 use Rattle.lists.proofs.Laws.{sum-append, holder-miss, length-run, before-in}
 use Rattle.lists.proofs.Places.{holder-holds}
+use Rattle.lists.proofs.Booleans.{or-both}
 use Rattle.words.specs.Words.{sizes, chunkOffsets}
 use Rattle.chunks.specs.Chunks.{perChunk}
 use Rattle.chunks.specs.Cursors.{ahead, readied, past, sought}
@@ -87,10 +88,6 @@ starts stsc chunks i f c b o e d =
 
 -- ---- at a place
 
-or-false : (a b : Bool) → (a || b) ≡ false → (a ≡ false) × (b ≡ false)
-or-false true b e = let z : _≡_ {A = Bool} true false = e in let y : _≡_ {A = ℕ} 0 1 = cc in absurd (omega arith)
-or-false false b e = (refl, e)
-
 -- the first n chunks of a run by themselves
 replicate-cut : (n m v : ℕ) (r : List ℕ) → n ≤ m → replicate m v ++ r ≡ replicate n v ++ (replicate (m - n) v ++ r)
 replicate-cut zero m v r h = let e : m ≡ m - 0 = omega arith in ap (λ (k : ℕ). replicate k v ++ r) e
@@ -124,10 +121,10 @@ module _ (stsc stsz stco : List ℕ) (chunks i j : ℕ) (p : ChunkPosition) (w :
   -- a pair does
   module _ (e : (eqb (p .cursor .remaining) 0 || leb j (p .begin)) ≡ false) where
     pub some-remain : p .cursor .remaining ≡ 0 → ⊥
-    some-remain = eqb-false _ _ (or-false _ _ e .0)
+    some-remain = eqb-false _ _ (or-both _ _ e .0)
 
     pub begins-low : p .begin < j
-    begins-low = leb-false j (p .begin) (or-false (eqb (p .cursor .remaining) 0) _ e .1)
+    begins-low = leb-false j (p .begin) (or-both (eqb (p .cursor .remaining) 0) _ e .1)
 
     remains : 0 < p .cursor .remaining
     remains = let n = some-remain in omega arith

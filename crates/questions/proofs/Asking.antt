@@ -8,6 +8,7 @@ use native.Mathlib.Omega.{arith}
 use borrow.Author.Tests.{eq-eqb, ne-eqb}
 use lib.ListN.{length}
 use lib.Dec.{eqb}
+use Rattle.lists.proofs.Booleans.{cond-zero}
 use Rattle.words.specs.Words.{listed}
 use Rattle.structure.specs.Track.{idOf, tableOf}
 use Rattle.structure.specs.Movie.{moovOf, movieScale, tracksOf}
@@ -41,10 +42,6 @@ with-each P id (t ∷ ts) h e = go (eqb (idOf t) id) refl (λ q. with-each P id 
     go true q r = rw q (e 0 (omega arith))
     go false q r = rw q (r q)
 
-has-known : (b : Bool) → _≡_ {A = ℕ} (cond b 0 14) 0 → b ≡ true
-has-known true e = refl
-has-known false e = absurd (omega arith)
-
 pub record AskedTrack (s : List ℕ) (id : ℕ) : Type 0 where
   pub file : AcceptedFile s
   pub has : hasTrack id (moovOf s) ≡ true
@@ -56,7 +53,7 @@ unfolding askRefusal trackAsked hasTrack trackWith
 asked s id e =
     let n = none-else _ _ e in
     let f = accepted s (n .0) in
-    let h = has-known _ (n .1) in
+    let h = cond-zero _ 14 (omega arith) (n .1) in
     record {
       file = f;
       has = h;

@@ -12,9 +12,9 @@ use lib.IntN.{ℤ, pos, _+ℤ_}
 use denote.Ref.{RefT, now}
 use Rattle.bigendian.specs.BigEndian.{u32At}
 use Rattle.atoms.specs.Kinds.{stts, ctts, stsc, stsz, stco, stss}
-use Rattle.atoms.proofs.Laws.{and-left, and-right}
 use Rattle.lists.specs.Lists.{holder}
 use Rattle.lists.proofs.Places.{holder-holds, holds-below, each-at, before-le}
+use Rattle.lists.proofs.Booleans.{and-left, and-right, cond-zero}
 use Rattle.runs.specs.Runs as runs
 use Rattle.runs.specs.declared.Timing.{Timing}
 use Rattle.words.specs.Words.{sizes, chunkOffsets, isSync}
@@ -114,16 +114,12 @@ module _ (s t : List ℕ) (id n r : ℕ) (e : r ≡ askRefusal s id) (z : r ≡ 
 
 -- ---- the bytes
 
-in-range : (b : Bool) → _≡_ {A = ℕ} (cond b 0 15) 0 → b ≡ true
-in-range true e = refl
-in-range false e = absurd (omega arith)
-
 -- a question that is not refused asks for one of the track's samples
 in-track : (s : List ℕ) (id n : ℕ) → sampleRefusal s id n ≡ 0 → (askRefusal s id ≡ 0) × (n - 1 < samplesOf (trackAsked s id))
 unfolding sampleRefusal
 in-track s id n e =
     let q = none-else _ _ e in
-    let r = in-range _ (q .1) in
+    let r = cond-zero _ 15 (omega arith) (q .1) in
     let lo = ltb-true 0 n (and-left _ _ r) in
     let hi = leb-true n (samplesOf (trackAsked s id)) (and-right (ltb 0 n) _ r) in
     (q .0, omega arith)

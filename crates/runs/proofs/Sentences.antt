@@ -2,8 +2,8 @@
 -- sample holds a media time, and what the least duration is.
 -- Assumes nothing.
 use Prim.Native.Nat.{ℕ, zero, suc, _-_, _≤_, _<_}
-use mathlib.Core.Path.{_≡_, refl, sym, ap, _∙_}
-use mathlib.Core.Bool.{Bool, true, false, cond}
+use mathlib.Core.Path.{_≡_, sym, ap, _∙_}
+use mathlib.Core.Bool.{true, false, cond}
 use mathlib.Core.List.{List, [], _∷_, map}
 use native.Mathlib.Omega.{arith}
 use native.Mathlib.Decide.{decLt, ℕ-discrete}
@@ -16,6 +16,7 @@ use Rattle.bigendian.proofs.Halves.{signed-low}
 use Rattle.lists.specs.Lists.{sum, Run, expand, holder, Holds}
 use Rattle.lists.proofs.Laws.{length-run}
 use Rattle.lists.proofs.Places.{holder-holds, holder-only, holds-below}
+use Rattle.lists.proofs.Booleans.{cond-unless}
 use Rattle.runs.specs.declared.Lookup.the-variants.{At, Outside}
 use Rattle.runs.specs.Runs.{runsOf, perSample, compositionOffset, sampleAt, lesserOf, leastOf}
 use Rattle.runs.specs.Computed.{counting}
@@ -28,10 +29,6 @@ pub record Counted (n : ℕ) (rs : List Run) : Type 0 where
   pub each : (i : ℕ) → i < length rs → 0 < getD (map (λ r. r .count) rs) i 0
   pub all : length (expand rs) ≡ n
 
-neither : (a b : Bool) → cond a false b ≡ true → (a ≡ false) × (b ≡ true)
-neither true b e = let z : _≡_ {A = ℕ} 0 1 = cc in absurd (omega arith)
-neither false b e = (refl, e)
-
 each-next : (r : Run) (rs : List Run) → 0 < r .count → ((i : ℕ) → i < length rs → 0 < getD (map (λ x. x .count) rs) i 0) →
     (i : ℕ) → i < length (r ∷ rs) → 0 < getD (map (λ x. x .count) (r ∷ rs)) i 0
 each-next r rs p f zero h = p
@@ -40,8 +37,8 @@ each-next r rs p f (suc i) h = f i (omega arith)
 pub counting-known : (n : ℕ) (rs : List Run) → counting n rs ≡ true → Counted n rs
 counting-known n [] e = record { each = λ i h. absurd (omega arith); all = sym (eqb-true n 0 e) }
 counting-known n (r ∷ rs) e =
-    let p = neither (eqb (r .count) 0) (cond (ltb n (r .count)) false (counting (n - r .count) rs)) e in
-    let q = neither (ltb n (r .count)) (counting (n - r .count) rs) (p .1) in
+    let p = cond-unless (eqb (r .count) 0) (cond (ltb n (r .count)) false (counting (n - r .count) rs)) e in
+    let q = cond-unless (ltb n (r .count)) (counting (n - r .count) rs) (p .1) in
     let ih = counting-known (n - r .count) rs (q .1) in
     let z = eqb-false (r .count) 0 (p .0) in
     record {

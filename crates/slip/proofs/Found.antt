@@ -10,6 +10,7 @@ use native.Mathlib.Nat.{zero-add}
 use lib.Dec.{ltb, leb, eqb, lit<, lit≤}
 use lib.ListN.{length, getD, drop, length-append, drop-of-length-le, List·getD-append}
 use borrow.Author.Tests.{ltb-true, leb-true, eqb-true, lt-ltb, le-ltb, le-leb, eq-eqb, ne-eqb}
+use Rattle.lists.proofs.Booleans.{and-both}
 use Rattle.leb128.specs.Numbers.{groups, writes, Below}
 use Rattle.leb128.specs.Reading.{limit, readAt}
 use Rattle.slip.specs.Slip.{slipBytes, Outcome, accepted, malformed, slipIn, Rules, IsSlip, slipReadNumbers, numbersFor, roomFor, Reads}
@@ -26,7 +27,6 @@ use Rattle.slip.specs.declared.read.SlipRead.the-variants.{Accepted, NoR
 use Rattle.leb128.proofs.Groups.{number-written}
 use Rattle.leb128.proofs.Readings.{read-good}
 use Rattle.slip.proofs.Runs.{Allowed, read-groups, run-writes, Ran, run-ran, run-values, length-values, pairs-allowed, pairs-below, checked-all, checked-stopped}
-use Rattle.leb128.proofs.Cuts.{and-true}
 use Rattle.slip.proofs.Slips.{slip-read, slip-only}
 
 -- the five numbers that follow the form, before the pairs
@@ -60,7 +60,7 @@ allowed-rules bound h pairs i n l =
     let x = s .2 in
     let y = x .2 in
     let z = y .2 in
-    let t = and-true (ltb 0 (h .pairs)) (leb (h .pairs) 1048576) (z .1) in
+    let t = and-both (ltb 0 (h .pairs)) (leb (h .pairs) 1048576) (z .1) in
     record {
       some-id = ltb-true 0 (h .id) (i .1);
       some-scale = ltb-true 0 (h .scale) (s .1);

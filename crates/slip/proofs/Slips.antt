@@ -9,8 +9,9 @@ use native.Mathlib.Omega.{arith}
 use lib.Dec.{ltb, leb, eqb}
 use lib.ListN.{length}
 use borrow.Author.Tests.{ltb-true, leb-true, eqb-true, lt-ltb, le-leb, eq-eqb}
+use Rattle.lists.proofs.Booleans.{and-both}
 use Rattle.leb128.specs.Numbers.{writes, Below, cut, allWritten, values}
-use Rattle.leb128.proofs.Cuts.{and-true, cut-only, cut-writes}
+use Rattle.leb128.proofs.Cuts.{cut-only, cut-writes}
 use Rattle.slip.specs.Slip.{headNumbers, slipBytes, legal, Outcome, accepted, malformed, slipOf, slipIn, Rules, IsSlip}
 use Rattle.slip.specs.declared.Head.{Head}
 
@@ -22,12 +23,12 @@ rules-legal h pairs r =
 legal-rules : (form : ℕ) (h : Head) (pairs : List ℕ) → legal form h pairs ≡ true → Below (2 ^ 32) (h .id ∷ h .scale ∷ h .a ∷ h .b ∷ pairs) → (form ≡ 1) × Rules (2 ^ 32) h pairs
 unfolding legal
 legal-rules form h pairs e l =
-    let t₀ = and-true (eqb form 1) _ e in
-    let t₁ = and-true (ltb 0 (h .id)) _ (t₀ .1) in
-    let t₂ = and-true (ltb 0 (h .scale)) _ (t₁ .1) in
-    let t₃ = and-true (ltb (h .a) (h .b)) _ (t₂ .1) in
-    let t₄ = and-true (ltb 0 (h .pairs)) _ (t₃ .1) in
-    let t₅ = and-true (leb (h .pairs) 1048576) _ (t₄ .1) in (
+    let t₀ = and-both (eqb form 1) _ e in
+    let t₁ = and-both (ltb 0 (h .id)) _ (t₀ .1) in
+    let t₂ = and-both (ltb 0 (h .scale)) _ (t₁ .1) in
+    let t₃ = and-both (ltb (h .a) (h .b)) _ (t₂ .1) in
+    let t₄ = and-both (ltb 0 (h .pairs)) _ (t₃ .1) in
+    let t₅ = and-both (leb (h .pairs) 1048576) _ (t₄ .1) in (
       eqb-true form 1 (t₀ .0),
       record {
         some-id = ltb-true 0 (h .id) (t₁ .0);

@@ -10,9 +10,10 @@ use borrow.Author.Tests.{eq-eqb, ne-eqb, lt-ltb, le-ltb}
 use lib.ListN.{length, drop, length-append}
 use lib.Dec.{eqb}
 use lib.Seq.{sets, sets-eq, length-sets}
+use Rattle.lists.proofs.Stores.{sets-append}
 use Rattle.leb128.specs.Numbers.{writes}
 use Rattle.leb128.specs.Writing.{putAt, pastPut}
-use Rattle.leb128.proofs.Puts.{writes-append, writes-few, sets-append, put-fits}
+use Rattle.leb128.proofs.Puts.{writes-append, writes-few, put-fits}
 use Rattle.slip.specs.Slip.{headNumbers, slipBytes}
 use Rattle.slip.specs.declared.Head.{Head}
 use Rattle.structure.specs.Track.{scaleOf}

@@ -12,9 +12,9 @@ use lib.Dec.{eqb, ltb, leb, lit<}
 use lib.Seq.{sets, sets-eq}
 use Rattle.bigendian.specs.BigEndian.{u32At}
 use Rattle.atoms.specs.Kinds.{stts, stsc, stsz, stco}
-use Rattle.atoms.proofs.Laws.{and-left, and-right}
 use Rattle.lists.specs.Lists.{sum, holder}
 use Rattle.lists.proofs.Places.{holder-holds, holds-below, holder-only, holder-mono}
+use Rattle.lists.proofs.Booleans.{and-left, and-right, cond-zero}
 use Rattle.runs.specs.Runs.{perSample, sampleAt}
 use Rattle.runs.specs.declared.Lookup.{Lookup}
 use Rattle.runs.specs.declared.Lookup.the-variants.{At, Outside}
@@ -46,10 +46,6 @@ use Rattle.questions.proofs.Asking.{asked, table-fits}
 
 -- ---- the refusal
 
-in-span : (b : Bool) → _≡_ {A = ℕ} (cond b 0 15) 0 → b ≡ true
-in-span true e = refl
-in-span false e = absurd (omega arith)
-
 -- what a stretch that is not refused so far has
 pub record InSpan (s : List ℕ) (id a b : ℕ) : Type 0 where
   pub asks : askRefusal s id ≡ 0
@@ -60,7 +56,7 @@ pub in-span-of : (s : List ℕ) (id a b : ℕ) → spanAt s id a b ≡ 0 → InS
 unfolding totalIn trackOf
 in-span-of s id a b e =
     let n = none-else _ _ e in
-    let h = in-span _ (n .1) in
+    let h = cond-zero _ 15 (omega arith) (n .1) in
     record { asks = n .0; order = ltb-true a b (and-left _ _ h); ends = leb-true b _ (and-right (ltb a b) _ h) }
 
 -- ---- the track

@@ -10,11 +10,11 @@ use lib.Dec.{eqb, ltb, eqb·suc-zero}
 use borrow.Author.Tests.{ltb-true, ltb-false, leb-true, eqb-true, eqb-false, not-false, eq-eqb}
 use native.Mathlib.Omega.{arith}
 use Rattle.bigendian.specs.BigEndian.{beAt, u32At}
+use Rattle.lists.proofs.Booleans.{or-left, or-right, and-left, and-right}
 use Rattle.atoms.specs.Pieces.{piecesAfter}
 use Rattle.atoms.specs.Kinds.{file, moov, trak, edts, mdia, minf, stbl, mvhd, tkhd, mdhd, hdlr, elst, stts, ctts, stsc, stsz, stco, stss, stsd, vide, container}
 use Rattle.atoms.specs.Atoms.{headerOf, bodyOf, bodyIn, atoms, ofKind, childIn, countIn}
 use Rattle.atoms.specs.Tree.{everywhere}
-use Rattle.atoms.proofs.Laws.{and-left, and-right}
 use Rattle.atoms.proofs.Into.{all-kind, everywhere-here, everywhere-into}
 use Rattle.leaves.specs.declared.Form.the-variants.{Entries, Sizes}
 use Rattle.leaves.specs.declared.LeafRule.the-variants.{Size}
@@ -31,14 +31,6 @@ use Rattle.structure.proofs.Tracks.{file-rows-rise, movie-rows-rise}
 use Rattle.structure.proofs.Shaped.{Entered, MayEnter, Shaped, ShapedMovie, ShapedFile}
 
 -- ---- a table of rows of which none holds
-
-pub or-left : (a b : Bool) → (a || b) ≡ false → a ≡ false
-or-left true b e = e
-or-left false b e = refl
-
-pub or-right : (a b : Bool) → (a || b) ≡ false → b ≡ false
-or-right true b e = let z : _≡_ {A = Bool} true false = e in cc
-or-right false b e = e
 
 -- f holds of no row
 abbrev pub Clear : (Row → Bool) → List Row → Type 0

@@ -9,7 +9,7 @@ use mathlib.Core.Bool.{Bool, true, false, cond, _||_}
 use lib.Dec.{ltb, eqb·suc-zero}
 use borrow.Author.Tests.{ltb-true, ne-eqb}
 use native.Mathlib.Omega.{arith}
-use Rattle.atoms.proofs.Laws.{and-left, and-right}
+use Rattle.lists.proofs.Booleans.{and-left, and-right}
 use Rattle.structure.specs.Rows.{Row, some, first, lowest, ofWhole, orElse, numbersRise}
 use Rattle.structure.specs.ByTracks.{ofTrack, lowerOf, ofTracks}
 

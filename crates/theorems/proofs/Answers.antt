@@ -9,8 +9,8 @@ use native.Mathlib.Decide.{decLe, decLt}
 use lib.ListN.{length}
 use lib.Dec.{eqb, ltb}
 use borrow.Author.Tests.{lt-ltb, le-ltb, le-leb, lt-leb, ltb-true, leb-true, eqb-true}
-use Rattle.atoms.proofs.Laws.{and-left, and-right}
 use Rattle.lists.specs.Lists.{sum, holder}
+use Rattle.lists.proofs.Booleans.{and-left, and-right}
 use Rattle.pairs.specs.Pairs.{flat}
 use Rattle.edits.specs.declared.MediaTime.{MediaTime}
 use Rattle.structure.specs.Track.{samplesOf}

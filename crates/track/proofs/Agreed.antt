@@ -9,8 +9,8 @@ use lib.Dec.{eqb}
 use borrow.Author.Tests.{eqb-true, not-false}
 use Rattle.atoms.specs.Kinds.{stts, ctts, stsc}
 use Rattle.structure.specs.Track.{tableOf, samplesOf, chunksOf, descriptionsOf}
-use Rattle.structure.proofs.Callers.{or-left, or-right}
 use Rattle.lists.specs.Lists.{sum}
+use Rattle.lists.proofs.Booleans.{or-left, or-right}
 use Rattle.runs.specs.Runs.{perSample}
 use Rattle.runs.proofs.Sentences.{counted-length}
 use Rattle.chunks.specs.Chunks.{perChunk, dealsContradict}

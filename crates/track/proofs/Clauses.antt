@@ -10,13 +10,13 @@ use lib.Dec.{ltb, eqb}
 use borrow.Author.Tests.{ltb-true, ltb-false, eqb-true, eqb-false, eq-eqb, ne-eqb, not-true}
 use Rattle.lists.specs.Lists.{sum, Run, expand}
 use Rattle.lists.proofs.Laws.{length-run}
+use Rattle.lists.proofs.Booleans.{and-false, not-or, or-second, not-not, and-left, and-right}
 use Rattle.runs.specs.Runs.{runsOf, perSample}
 use Rattle.runs.specs.Computed.{counting}
 use Rattle.words.specs.Words.{syncsAgree}
 use Rattle.chunks.specs.Chunks.{Deal, deals, dealt, perChunk, dealsContradict, isEmpty}
 use Rattle.chunks.specs.Computed.{dealsAgree}
 use Rattle.chunks.proofs.Clauses.{agree-clauses}
-use Rattle.atoms.proofs.Laws.{and-left, and-right}
 use Rattle.atoms.specs.Kinds.{stts, ctts, stsc, stsz, stco, stss, stsd}
 use Rattle.bigendian.specs.BigEndian.{u32At}
 use Rattle.structure.specs.Track.{tableOf, samplesOf, chunksOf, descriptionsOf}
@@ -30,10 +30,6 @@ eqb-shift n c l h = go (eqb (n - c) l) refl
     go : (f : Bool) → eqb (n - c) l ≡ f → eqb n (c + l) ≡ f
     go true f = let e = eqb-true (n - c) l f in eq-eqb n (c + l) (omega arith)
     go false f = let e = eqb-false (n - c) l f in ne-eqb n (c + l) (λ z. e (omega arith))
-
-and-false : (x : Bool) → (x && false) ≡ false
-and-false true = refl
-and-false false = refl
 
 counting-runs : (n : ℕ) (rs : List Run) → counting n rs ≡ (not (anyEmpty rs) && eqb n (length (expand rs)))
 counting-runs n [] = refl
@@ -52,11 +48,6 @@ counting-runs n (r ∷ rs) = first (eqb (r .count) 0) refl (counting-runs (n - r
     first true f ih = refl
     first false f ih = second (ltb n (r .count)) refl ih
 
-not-or : (a b : Bool) → not (a || not b) ≡ (not a && b)
-not-or true b = refl
-not-or false true = refl
-not-or false false = refl
-
 pub counts-clauses : (n : ℕ) (s : List ℕ) → counting n (runsOf s) ≡ not (miscounted n s)
 unfolding miscounted perSample
 counts-clauses n s = counting-runs n (runsOf s) ∙ sym (not-or (anyEmpty (runsOf s)) (eqb n (length (expand (runsOf s)))))
@@ -66,10 +57,6 @@ counts-clauses n s = counting-runs n (runsOf s) ∙ sym (not-or (anyEmpty (runsO
 no-deals : (ds : List Deal) → not (isEmpty ds) ≡ false → ds ≡ []
 no-deals [] e = refl
 no-deals (d ∷ ds) e = absurd (let z : _≡_ {A = ℕ} 0 1 = cc in omega arith)
-
-or-second : (x y : Bool) → y ≡ true → (x || y) ≡ true
-or-second true y e = refl
-or-second false y e = e
 
 -- without chunks and with samples, either stsc contradicts or the samples are not dealt
 pub none-dealt : (s : List ℕ) (chunks descriptions samples : ℕ) → (eqb chunks 0 && not (eqb samples 0)) ≡ true
@@ -97,10 +84,6 @@ rest-clauses false true s y h = refl
 rest-clauses false false true y h = refl
 rest-clauses false false false true h = refl
 rest-clauses false false false false h = refl
-
-not-not : (x : Bool) → not (not x) ≡ x
-not-not true = refl
-not-not false = refl
 
 -- as the code joins what the tables answer, and as the paper joins its clauses
 joined-clauses : (m p n q d s y : Bool) → (q ≡ true → (d || s) ≡ true) → not ((((not m && (p || not n)) && not d) && not s) && not y) ≡ (m || ((not p && n) || (q || (d || (s || y)))))

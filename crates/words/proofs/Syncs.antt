@@ -2,7 +2,7 @@
 -- Assumes nothing.
 use Prim.Native.Nat.{ℕ, zero, suc, _≤_, _<_}
 use mathlib.Core.Path.{_≡_, refl, ap, _∙_}
-use mathlib.Core.Bool.{Bool, true, false, cond}
+use mathlib.Core.Bool.{true, false}
 use mathlib.Core.List.{List, [], _∷_}
 use native.Mathlib.Omega.{arith}
 use lib.Dec.{leb, ltb}
@@ -10,6 +10,7 @@ use lib.ListN.{length, drop, getD}
 use borrow.Author.Tests.{lt-ltb, le-ltb, le-leb, eq-eqb, ne-eqb, ltb-true, leb-true}
 use Rattle.bigendian.specs.BigEndian.{beAt, u32At}
 use Rattle.lists.specs.Entries.{rowsOf, entries}
+use Rattle.lists.proofs.Booleans.{cond-both}
 use Rattle.words.specs.Words.{wordsIn, wordsAfter, strictlyRising, syncs, syncsAgree, listed, isSync}
 use Rattle.words.proofs.Turns.{syncs-in, words-none, words-next}
 
@@ -50,20 +51,16 @@ listed-end y t h = ap (listed y) (words-none t h)
 
 -- ---- the sentence
 
-both : (a b : Bool) → cond a b false ≡ true → (a ≡ true) × (b ≡ true)
-both true b e = (refl, e)
-both false b e = let z : _≡_ {A = ℕ} 0 1 = cc in absurd (omega arith)
-
 rises : (n last : ℕ) (xs : List ℕ) → strictlyRising n last xs ≡ true → last ≤ n
 rises n last [] e = leb-true last n e
-rises n last (x ∷ xs) e = let t = both (ltb last x) (strictlyRising n x xs) e in omega (arith, ltb-true last x (t .0), rises n x xs (t .1))
+rises n last (x ∷ xs) e = let t = cond-both (ltb last x) (strictlyRising n x xs) e in omega (arith, ltb-true last x (t .0), rises n x xs (t .1))
 
 -- each number is above `last` and at most n
 pub within : (n last : ℕ) (xs : List ℕ) → strictlyRising n last xs ≡ true → (k : ℕ) → k < length xs → (last < getD xs k 0) × (getD xs k 0 ≤ n)
 within n last [] e k h = absurd (omega arith)
-within n last (x ∷ xs) e zero h = let t = both (ltb last x) (strictlyRising n x xs) e in (ltb-true last x (t .0), rises n x xs (t .1))
+within n last (x ∷ xs) e zero h = let t = cond-both (ltb last x) (strictlyRising n x xs) e in (ltb-true last x (t .0), rises n x xs (t .1))
 within n last (x ∷ xs) e (suc k) h =
-    let t = both (ltb last x) (strictlyRising n x xs) e in
+    let t = cond-both (ltb last x) (strictlyRising n x xs) e in
     let u = within n x xs (t .1) k (omega arith) in
     (omega (arith, ltb-true last x (t .0), u .0), u .1)
 
@@ -71,8 +68,8 @@ within n last (x ∷ xs) e (suc k) h =
 pub strictly : (n last : ℕ) (xs : List ℕ) → strictlyRising n last xs ≡ true → (j k : ℕ) → j < k → k < length xs → getD xs j 0 < getD xs k 0
 strictly n last [] e j k l h = absurd (omega arith)
 strictly n last (x ∷ xs) e j zero l h = absurd (omega arith)
-strictly n last (x ∷ xs) e zero (suc k) l h = within n x xs (both (ltb last x) (strictlyRising n x xs) e .1) k (omega arith) .0
-strictly n last (x ∷ xs) e (suc j) (suc k) l h = strictly n x xs (both (ltb last x) (strictlyRising n x xs) e .1) j k (omega arith) (omega arith)
+strictly n last (x ∷ xs) e zero (suc k) l h = within n x xs (cond-both (ltb last x) (strictlyRising n x xs) e .1) k (omega arith) .0
+strictly n last (x ∷ xs) e (suc j) (suc k) l h = strictly n x xs (cond-both (ltb last x) (strictlyRising n x xs) e .1) j k (omega arith) (omega arith)
 
 -- numbers of which that is so are rising
 pub rises-if : (n last : ℕ) (xs : List ℕ) → last ≤ n → ((k : ℕ) → k < length xs → (last < getD xs k 0) × (getD xs k 0 ≤ n)) →
