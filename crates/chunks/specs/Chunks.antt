@@ -1,4 +1,5 @@
--- Samples dealt to chunks: stsc with stco and stsz. Chunks are numbered from 1 in stsc; elsewhere a chunk and a sample are named by their index from 0.
+-- Samples dealt to chunks: stsc with stco and stsz. Chunks are numbered from 1 in stsc; elsewhere a chunk and a sample are named by their index
+-- from 0.
 use Prim.Native.Nat.{ℕ, _+_, _-_}
 use mathlib.Core.Bool.{Bool, true, false, cond, not, _&&_, _||_}
 use mathlib.Core.List.{List, [], _∷_, map}
@@ -95,12 +96,13 @@ dealsContradict s chunks descriptions =
 
 -- ---- what is asked of the lists
 
--- the offset of the sample with index i, with the chunks' samples and offsets and the samples' sizes: "chunk offset plus sizes before it in the chunk"
+-- the offset of the sample with index i, with the chunks' samples and offsets and the samples' sizes: "chunk offset plus sizes before it in the
+-- chunk"
 unfoldable pub offsetOf : List ℕ → List ℕ → List ℕ → ℕ → ℕ
 offsetOf ps cs zs i = getD cs (holder ps i) 0 + between zs (before ps (holder ps i)) i
 
--- whether each chunk ends within a limit, not so if "a chunk's offset plus the sizes of its samples passes the file's end" (refusal 12): chunk after chunk
--- gets the next samples
+-- whether each chunk ends within a limit, not so if "a chunk's offset plus the sizes of its samples passes the file's end" (refusal 12): chunk
+-- after chunk gets the next samples
 abbrev pub endWithin : ℕ → List ℕ → List ℕ → List ℕ → Bool
 endWithin limit [] cs zs = true
 endWithin limit (p ∷ ps) cs zs = cond (ltb limit (getD cs 0 0 + sum (take p zs))) false (endWithin limit ps (drop 1 cs) (drop p zs))

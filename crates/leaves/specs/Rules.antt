@@ -1,4 +1,5 @@
--- The rules that hold of every body of the tree, as the walk is asked for them.
+-- The rules that hold of every body of the tree, as the walk is asked for them. These need not be believed: they are between the crates' own
+-- functions, and stand for definitions of Atoms, Present and Leaves.
 use Prim.Native.Nat.{ℕ}
 use mathlib.Core.List.{List}
 use mathlib.Core.Bool.{Bool}

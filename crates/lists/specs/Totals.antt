@@ -1,4 +1,4 @@
--- A total that is kept in 32 bits.
+-- A total that is kept in 32 bits. This need not be believed: it is between the crates' own functions.
 use Prim.Native.Nat.{ℕ}
 use mathlib.Core.Bool.{cond}
 use lib.Dec.{ltb}

@@ -1,5 +1,5 @@
--- The byte ranges of some samples: "One pair (offset, length) for each chunk touched, in chunk order". Samples are named by their index from 0, from i up to,
--- not including, j.
+-- The byte ranges of some samples: "One pair (offset, length) for each chunk touched, in chunk order". Samples are named by their index from 0,
+-- from i up to, not including, j.
 use Prim.Native.Nat.{ℕ, _+_, min, max}
 use mathlib.Core.Bool.{Bool, cond, _&&_}
 use mathlib.Core.List.{List, [], _∷_}

@@ -32,8 +32,8 @@ perSample s = expand (runsOf s)
 unfoldable pub compositionOffset : List ℕ → ℕ → ℤ
 compositionOffset s i = signed32 (getD (perSample s) i 0)
 
--- the index, from 0, of the sample whose media times hold t: "decode time ≤ t < decode time plus duration". There is one where t is below the total, and only one
--- (`sample-holds` and `sample-only` of `proofs/Sentences.antt`)
+-- the index, from 0, of the sample whose media times hold t: "decode time ≤ t < decode time plus duration". There is one where t is below the
+-- total, and only one (`sample-holds` and `sample-only` of `proofs/Sentences.antt`)
 unfoldable pub sampleAt : List ℕ → ℕ → Lookup
 sampleAt ds t = cond (ltb t (sum ds)) (At (holder ds t)) Outside
 

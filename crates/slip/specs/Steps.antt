@@ -64,7 +64,10 @@ valuesFrom k top bs (suc c) at = valueOf (readAt k top bs at) ∷ valuesFrom k t
 
 -- what follows the form: five numbers, twice as many as the last of them says, and the end
 unfoldable pub afterPairs : List ℕ → List ℕ → ℕ → NumberRun → SlipScan
-afterPairs bs ns at (all ps end) = cond (eqb end (length bs)) (Slip (record { id = getD ns 0 0; scale = getD ns 1 0; a = getD ns 2 0; b = getD ns 3 0; pairs = getD ns 4 0 }) at) (Malformed end)
+afterPairs bs ns at (all ps end) =
+    cond (eqb end (length bs))
+    (Slip (record { id = getD ns 0 0; scale = getD ns 1 0; a = getD ns 2 0; b = getD ns 3 0; pairs = getD ns 4 0 }) at)
+    (Malformed end)
 afterPairs bs ns at (stopped p) = Malformed p
 
 unfoldable pub afterHead : ℕ → ℕ → List ℕ → NumberRun → SlipScan

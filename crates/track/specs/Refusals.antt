@@ -28,8 +28,8 @@ contradicts t =
     || ((not (eqb (length (tableOf ctts t)) 0) && miscounted (samplesOf t) (tableOf ctts t))
     -- "C is 0 with .. N not 0"
     || ((eqb (chunksOf t) 0 && not (eqb (samplesOf t) 0))
-    -- "C is 0 with stsc not empty"; "C is above 0 and stsc is empty, doesn't start at chunk 1, isn't strictly rising, or passes C"; "an entry has 0 samples per
-    -- chunk"; "an ID is 0 or above the number of descriptions": each a clause of `dealsContradict`
+    -- "C is 0 with stsc not empty"; "C is above 0 and stsc is empty, doesn't start at chunk 1, isn't strictly rising, or passes C"; "an entry
+    -- has 0 samples per chunk"; "an ID is 0 or above the number of descriptions": each a clause of `dealsContradict`
     || (dealsContradict (tableOf stsc t) (chunksOf t) (descriptionsOf t)
     -- "samples dealt to the C chunks don't total N"
     || (not (eqb (sum (perChunk (tableOf stsc t) (chunksOf t))) (samplesOf t))
