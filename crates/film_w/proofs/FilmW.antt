@@ -47,7 +47,7 @@ unfoldable pub accepted-w : fileRefusal bytes ≡ 0
 unfolding beAt container piecesAfter total filledBy fitting headerOf bodyOf sizeInside sizeTop sizeIn ofKind all everywhere one atMostOne tables present formOf skipped versionOk holdsEntries sizeEntry filledWith sizedEntries sizeOk leafOk firstBefore ofVersion0 profileIn profileOk mdiaOf minfOf stblOf tableOf elstOf idOf scaleOf durationOf subtypeOf profileOf moovOf movieScale movieProfile overLimits tooMany some first orElse wrongVersion wrongSize shortVideoDescription wrongTrackSize fileRows rowsOf entries runsOf perSample wordsAfter sizes chunkOffsets syncs syncsAgree deals perChunk dealsContradict edits editTotal editsOk miscounted contradicts totalIn totalTooLarge otherDuration chunkPastEnd wrongEdits sameIds idIsZero movieScaleIsZero scaleIsZero moovRows moovRefusal fileRefusal
 accepted-w = refl
 
--- the track with ID 1: that there is one, its samples, and its lists
+-- the track with ID 1: that there is one, its samples, total and scale, and its lists
 pub asked-w : askRefusal bytes 1 ≡ 0
 unfolding accepted-w hasTrack askRefusal
 asked-w = refl
@@ -56,17 +56,26 @@ pub samples-w : samplesOf (trackAsked bytes 1) ≡ 4
 unfolding accepted-w trackWith trackAsked
 samples-w = refl
 
+pub total-w : totalIn (trackAsked bytes 1) ≡ 120
+unfolding accepted-w trackWith trackAsked
+total-w = refl
+
+pub scale-w : scaleOf (trackAsked bytes 1) ≡ 600
+unfolding accepted-w trackWith trackAsked
+scale-w = refl
+
 pub track-w : trackOf (trackAsked bytes 1) ≡ plain
 unfolding accepted-w trackWith trackAsked signed32 compositionOffset isSync descriptionIds leastSize trackOf
 track-w = refl
 
--- the cases hold of each file that has such a track, from the lists alone
-from-lists : (s : List ℕ) → askRefusal s 1 ≡ 0 → samplesOf (trackAsked s 1) ≡ 4 → trackOf (trackAsked s 1) ≡ plain → AllHold s cases
+-- the cases hold of each file that has such a track, from these numbers and the lists alone
+from-lists : (s : List ℕ) → askRefusal s 1 ≡ 0 → samplesOf (trackAsked s 1) ≡ 4 → totalIn (trackAsked s 1) ≡ 120 → scaleOf (trackAsked s 1) ≡ 600
+    → trackOf (trackAsked s 1) ≡ plain → AllHold s cases
 unfolding offsetOf pairOf noRoom filledRoom roomAfter orElse groupsIn groups writes slipBytes atRefusal atNumber atAnswer sampleOf sampleRefusal sampleAnswer firstIn pastIn pairsIn bytesIn stretchPairs spanRefusal stretchRefusal stretchAnswer slipHead slipOfStretch slipRefusal slipAnswer
-from-lists s asked four track =
-    rw (asked, four, track)
+from-lists s asked four total scale track =
+    rw (asked, four, total, scale, track)
     (refl, (refl, (refl, (refl, (refl, (refl, (refl, (refl, (refl, (refl, ((refl, refl), ((refl, refl), ((refl, refl), ((refl, refl), tt))))))))))))))
 
 -- "proved as a single theorem over the list of them"
 pub film-w : AllHold bytes cases
-film-w = from-lists bytes asked-w samples-w track-w
+film-w = from-lists bytes asked-w samples-w total-w scale-w track-w

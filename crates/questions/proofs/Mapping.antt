@@ -54,7 +54,7 @@ not-asked s id t r e n = record { answer = rw (← e, ne-eqb r 0 n); numbers = r
 module _ (s m k l : List ℕ) (id : ℕ) (t : MovieTime) (r movie scale total : ℕ) (e : r ≡ askRefusal s id) (z : r ≡ 0) (d : k ≡ trackAsked s id) (b : m ≡ moovOf s)
     (q : movie ≡ movieScale m) (o : l ≡ elstOf k) (c : scale ≡ scaleOf k) (n : total ≡ totalIn k) where
   falls : mediaAt scale movie total l t ≡ mappedOf s id t
-  unfolding mappedOf mappedIn trackOf totalIn
+  unfolding mappedOf mappedIn
   falls = rw (o, c, n, q, b, d)
 
   pub is-mapped : (f : Mapped) (a : TimeAnswer) → f ≡ mediaAt scale movie total l t → a ≡ toAnswer f → Maps s id t a
@@ -79,11 +79,15 @@ module _ (s k x : List ℕ) (id : ℕ) (t : MediaTime) (r : ℕ) (e : r ≡ askR
   unfolding trackOf
   same = rw (g, d)
 
+  same-total : sum (perSample x) ≡ totalIn (trackAsked s id)
+  unfolding totalIn
+  same-total = rw (g, d)
+
   pub outside-at : f ≡ Outside → SampleAt s id t (Refused 15)
   unfolding atRefusal orElse
   outside-at q =
       let w = outside-known (perSample x) (t .0) (sym h ∙ q) in
-      refused-at s id t 15 (rw (← e, eq-eqb r 0 z, ← same, le-ltb (t .0) (sum (perSample x)) w)) (λ y. omega arith)
+      refused-at s id t 15 (rw (← e, eq-eqb r 0 z, ← same-total, le-ltb (t .0) (sum (perSample x)) w)) (λ y. omega arith)
 
   module _ (i : ℕ) (q : f ≡ At i) where
     pub few-at : i < 1048576
@@ -97,6 +101,6 @@ module _ (s k x : List ℕ) (id : ℕ) (t : MediaTime) (r : ℕ) (e : r ≡ askR
     found-at n y =
         let o = sample-holds (perSample x) (t .0) i (sym h ∙ q) in
         let b = holds-below (perSample x) (t .0) i o in
-        let c : atRefusal s id t ≡ 0 = rw (← e, eq-eqb r 0 z, ← same, lt-ltb (t .0) (sum (perSample x)) (b .0)) in
+        let c : atRefusal s id t ≡ 0 = rw (← e, eq-eqb r 0 z, ← same-total, lt-ltb (t .0) (sum (perSample x)) (b .0)) in
         let u : n ≡ suc (holder (perSample x) (t .0)) = omega (arith, y, holder-only (perSample x) (t .0) i o) in
         record { answer = rw (c, ← same, ← u); numbers = rw (c, ← same, ← u) }

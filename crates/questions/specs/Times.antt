@@ -4,15 +4,17 @@ use mathlib.Core.Path.{_≡_}
 use mathlib.Core.List.{List, [], _∷_}
 use mathlib.Core.Bool.{cond}
 use lib.Dec.{eqb, ltb}
-use Rattle.lists.specs.Lists.{sum, holder}
+use Rattle.lists.specs.Lists.{holder}
 use Rattle.edits.specs.Edits.{mediaAt}
 use Rattle.edits.specs.declared.MediaTime.{MediaTime}
 use Rattle.edits.specs.declared.MovieTime.{MovieTime}
 use Rattle.edits.specs.declared.Mapped.{Mapped}
 use Rattle.edits.specs.declared.Mapped.the-variants.{Media, Nothing, Outside}
+use Rattle.structure.specs.Track.{scaleOf, elstOf}
 use Rattle.structure.specs.Movie.{moovOf, movieScale}
 use Rattle.structure.specs.Rows.{orElse}
-use Rattle.track.specs.Track.{Track, trackOf}
+use Rattle.track.specs.Track.{trackOf}
+use Rattle.track.specs.Refusals.{totalIn}
 use Rattle.movie.specs.Rooms.{refusedWith}
 use Rattle.questions.specs.Asked.{askRefusal, trackAsked}
 use Rattle.questions.specs.declared.times.NumberAnswer.{NumberAnswer}
@@ -24,7 +26,7 @@ use Rattle.questions.specs.declared.times.TimeAnswer.the-variants.{Shown
 
 -- where the sample total is not above t "the time .. lies outside": 15
 unfoldable pub atRefusal : List ℕ → ℕ → MediaTime → ℕ
-atRefusal s id t = orElse (askRefusal s id) (cond (ltb (t .0) (sum (trackOf (trackAsked s id) .durations))) 0 15)
+atRefusal s id t = orElse (askRefusal s id) (cond (ltb (t .0) (totalIn (trackAsked s id))) 0 15)
 
 -- the sample's number, from 1. `holder` is the only index of which that holds (`holder-holds` and `holder-only` of the crate lists)
 unfoldable pub atNumber : List ℕ → ℕ → MediaTime → ℕ
@@ -44,12 +46,12 @@ pub record SampleAt (s : List ℕ) (id : ℕ) (t : MediaTime) (r : NumberAnswer)
 
 -- ---- "Movie time t to media time"
 
--- where the time falls, of a track in a movie of that scale
-unfoldable pub mappedIn : ℕ → Track → MovieTime → Mapped
-mappedIn movie t time = mediaAt (t .scale) movie (sum (t .durations)) (t .editTable) time
+-- where the time falls, in a movie of that scale, of the track whose trak has the body t
+unfoldable pub mappedIn : ℕ → List ℕ → MovieTime → Mapped
+mappedIn movie t time = mediaAt (scaleOf t) movie (totalIn t) (elstOf t) time
 
 unfoldable pub mappedOf : List ℕ → ℕ → MovieTime → Mapped
-mappedOf s id t = mappedIn (movieScale (moovOf s)) (trackOf (trackAsked s id)) t
+mappedOf s id t = mappedIn (movieScale (moovOf s)) (trackAsked s id) t
 
 -- a time that lies outside is refused 15
 unfoldable pub toAnswer : Mapped → TimeAnswer

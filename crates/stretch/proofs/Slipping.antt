@@ -18,7 +18,6 @@ use Rattle.slip.specs.Slip.{headNumbers, slipBytes}
 use Rattle.slip.specs.declared.Head.{Head}
 use Rattle.structure.specs.Track.{scaleOf}
 use Rattle.structure.specs.Rows.{orElse}
-use Rattle.track.specs.Track.{trackOf}
 use Rattle.movie.specs.Rooms.{noRoom, filledRoom, roomAfter, refusedWith}
 use Rattle.pairs.specs.Pairs.{flat}
 use Rattle.edits.specs.declared.MediaTime.{MediaTime}
@@ -92,7 +91,7 @@ module _ (s t out : List ℕ) (id : ℕ) (a b : MediaTime) (r : ℕ) (e : r ≡ 
   same-pairs = pairs-are s t id a b (in-span-of s id (a .0) (b .0) (sym e ∙ z)) d p q
 
   head-is : _≡_ {A = Head} (record { id = id; scale = scale; a = a .0; b = b .0; pairs = n }) (slipHead s id a b)
-  unfolding slipHead trackOf
+  unfolding slipHead
   head-is =
       let m : n ≡ length (stretchPairs s id a b) = c ∙ ap length same-pairs in
       let k : scale ≡ scaleOf (trackAsked s id) = f ∙ ap scaleOf d in

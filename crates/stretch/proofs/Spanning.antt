@@ -53,7 +53,6 @@ pub record InSpan (s : List ℕ) (id a b : ℕ) : Type 0 where
   pub ends : b ≤ totalIn (trackAsked s id)
 
 pub in-span-of : (s : List ℕ) (id a b : ℕ) → spanAt s id a b ≡ 0 → InSpan s id a b
-unfolding totalIn trackOf
 in-span-of s id a b e =
     let n = none-else _ _ e in
     let h = cond-zero _ 15 (omega arith) (n .1) in
@@ -142,11 +141,11 @@ by-samples (suc n) within q p e =
 
 module _ (s : List ℕ) (id a b : ℕ) where
   pub asked-refused : (k : ℕ) → asks.Refused k ≡ spanAsked s id a b → (k ≡ spanAt s id a b) × (k ≡ 0 → ⊥)
-  unfolding spanAsked spanIn orElse totalIn trackOf
+  unfolding spanAsked spanIn orElse
   asked-refused k e = by-refused (askRefusal s id) (ltb a b && leb b (totalIn (trackAsked s id))) _ k e
 
   pub asked-samples : (p : Span) → Samples p ≡ spanAsked s id a b → (0 ≡ spanAt s id a b) × Spans (trackAsked s id) a b p × InSpan s id a b
-  unfolding spanAsked spanIn orElse totalIn trackOf
+  unfolding spanAsked spanIn orElse
   asked-samples p e =
       let w = by-samples (askRefusal s id) (ltb a b && leb b (totalIn (trackAsked s id))) _ p e in
       (w .0, rw (w .1) (record { first = refl; past = refl }), in-span-of s id a b (sym (w .0)))

@@ -9,8 +9,8 @@ use Rattle.pairs.specs.Pairs.{flat}
 use Rattle.edits.specs.declared.MediaTime.{MediaTime}
 use Rattle.slip.specs.Slip.{slipBytes}
 use Rattle.slip.specs.declared.Head.{Head}
+use Rattle.structure.specs.Track.{scaleOf}
 use Rattle.structure.specs.Rows.{orElse}
-use Rattle.track.specs.Track.{trackOf}
 use Rattle.movie.specs.Rooms.{noRoom, roomAfter, refusedWith}
 use Rattle.questions.specs.Asked.{trackAsked}
 use Rattle.stretch.specs.Stretches.{stretchPairs, spanRefusal}
@@ -19,7 +19,7 @@ use Rattle.stretch.specs.declared.slips.SlipAnswer.the-variants.{Written
 
 -- the slip's numbers before its pairs; "scale" is the media time scale
 unfoldable pub slipHead : List ℕ → ℕ → MediaTime → MediaTime → Head
-slipHead s id a b = record { id = id; scale = trackOf (trackAsked s id) .scale; a = a .0; b = b .0; pairs = length (stretchPairs s id a b) }
+slipHead s id a b = record { id = id; scale = scaleOf (trackAsked s id); a = a .0; b = b .0; pairs = length (stretchPairs s id a b) }
 
 -- its bytes
 unfoldable pub slipOfStretch : List ℕ → ℕ → MediaTime → MediaTime → List ℕ

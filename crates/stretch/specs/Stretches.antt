@@ -5,12 +5,13 @@ use mathlib.Core.List.{List, [], _∷_}
 use mathlib.Core.Bool.{cond, _&&_}
 use lib.ListN.{length}
 use lib.Dec.{eqb, ltb, leb}
-use Rattle.lists.specs.Lists.{sum, between, holder}
+use Rattle.lists.specs.Lists.{between, holder}
 use Rattle.pairs.specs.Pairs.{touched, flat}
 use Rattle.pairs.specs.declared.Pair.{Pair}
 use Rattle.edits.specs.declared.MediaTime.{MediaTime}
 use Rattle.structure.specs.Rows.{orElse}
 use Rattle.track.specs.Track.{Track, trackOf}
+use Rattle.track.specs.Refusals.{totalIn}
 use Rattle.movie.specs.Rooms.{noRoom, roomAfter, refusedWith}
 use Rattle.questions.specs.Asked.{askRefusal, trackAsked}
 use Rattle.stretch.specs.declared.StretchAnswer.{StretchAnswer}
@@ -37,7 +38,7 @@ stretchPairs s id a b = pairsIn (trackOf (trackAsked s id)) a b
 
 -- where a < b ≤ total does not hold, the "stretch lies outside": 15
 abbrev pub spanAt : List ℕ → ℕ → ℕ → ℕ → ℕ
-spanAt s id a b = orElse (askRefusal s id) (cond (ltb a b && leb b (sum (trackOf (trackAsked s id) .durations))) 0 15)
+spanAt s id a b = orElse (askRefusal s id) (cond (ltb a b && leb b (totalIn (trackAsked s id))) 0 15)
 
 unfoldable pub spanRefusal : List ℕ → ℕ → MediaTime → MediaTime → ℕ
 spanRefusal s id a b = spanAt s id (a .0) (b .0)

@@ -17,6 +17,8 @@ use Rattle.structure.specs.Track.{samplesOf}
 use Rattle.structure.specs.Rows.{orElse}
 use Rattle.structure.proofs.Callers.{none-else}
 use Rattle.movie.specs.Rooms.{noRoom}
+use Rattle.track.specs.Track.{trackOf}
+use Rattle.track.specs.Refusals.{totalIn}
 use Rattle.questions.specs.Asked.{askRefusal, trackAsked}
 use Rattle.questions.specs.Samples.{sampleOf, sampleRefusal, sampleAnswer}
 use Rattle.questions.specs.Times.{atRefusal, atNumber, atAnswer}
@@ -74,11 +76,11 @@ module _ (s : List ℕ) (id : ℕ) (e : askRefusal s id ≡ 0) where
   -- ---- times
 
   pub at-is : (t : MediaTime) → t .0 < sum (tables s id .durations) → atAnswer s id t ≡ number.Number (suc (holder (tables s id .durations) (t .0)))
-  unfolding atAnswer atRefusal atNumber orElse
+  unfolding atAnswer atRefusal atNumber orElse totalIn trackOf
   at-is t h = rw (e, lt-ltb (t .0) (sum (tables s id .durations)) h)
 
   pub at-outside : (t : MediaTime) → sum (tables s id .durations) ≤ t .0 → atAnswer s id t ≡ number.Refused 15
-  unfolding atAnswer atRefusal orElse
+  unfolding atAnswer atRefusal orElse totalIn trackOf
   at-outside t h = rw (e, le-ltb (t .0) (sum (tables s id .durations)) h)
 
   pub at-known : (t : MediaTime) (n : ℕ) → atAnswer s id t ≡ number.Number n → (t .0 < sum (tables s id .durations)) × (n ≡ suc (holder (tables s id .durations) (t .0)))
@@ -91,7 +93,7 @@ module _ (s : List ℕ) (id : ℕ) (e : askRefusal s id ≡ 0) where
 
   pub pairs-is : (a b : MediaTime) (room : List ℕ) → a .0 < b .0 → b .0 ≤ sum (tables s id .durations) → length (flat (stretchPairs s id a b)) ≤ length room
       → stretchAnswer s id a b room ≡ stretch.Pairs (length (stretchPairs s id a b)) (bytesIn (tables s id) a b)
-  unfolding stretchAnswer stretchRefusal spanRefusal noRoom orElse
+  unfolding stretchAnswer stretchRefusal spanRefusal noRoom orElse totalIn trackOf
   pairs-is a b room o w r =
       rw (e, lt-ltb (a .0) (b .0) o, le-leb (b .0) (sum (tables s id .durations)) w, le-ltb (length room) (length (flat (stretchPairs s id a b))) r)
 
@@ -102,7 +104,7 @@ span-test true e = refl
 span-test false e = absurd (omega arith)
 
 pub span-known : (s : List ℕ) (id : ℕ) (a b : MediaTime) → spanRefusal s id a b ≡ 0 → Span s id a b
-unfolding spanRefusal
+unfolding spanRefusal totalIn trackOf
 span-known s id a b e =
     let n = none-else _ _ e in
     let r = span-test _ (n .1) in
