@@ -2,10 +2,10 @@
 -- Assumes nothing.
 use Prim.Native.Nat.{ℕ, zero, suc, _≤_, _<_}
 use mathlib.Core.Path.{_≡_, refl, ap, sym, _∙_}
-use mathlib.Core.List.{List, [], _∷_}
+use mathlib.Core.List.{List, _∷_}
 use mathlib.Core.Bool.{Bool, true, false, cond}
 use native.Mathlib.Omega.{arith}
-use borrow.Author.Tests.{eq-eqb, ne-eqb, lt-ltb, le-ltb}
+use borrow.Author.Tests.{ne-eqb, lt-ltb, le-ltb}
 use lib.Dec.{eqb, ltb}
 use lib.ListN.{length, replicate}
 use lib.IntN.{ℤ, pos}
@@ -48,14 +48,18 @@ as-many (suc n) values = rw (ne-eqb (suc n) 0 (λ q. omega arith)) (zeros-length
 
 -- ---- a question that fills room
 
--- the list is as the question's own refusal R leaves it
-pub fills : (ns : List ℕ) (R : ℕ) (vs : List ℕ) (refusal : ℕ) (values places list room : List ℕ) (r : ℕ) (after filled : List ℕ) → ns ≡ judged R vs → ns ≡ refusal ∷ values
+-- the list is as the question's own refusal R leaves it, which is the first of its numbers
+pub fills-first : (ns : List ℕ) (R : ℕ) (refusal : ℕ) (values places list room : List ℕ) (r : ℕ) (after filled : List ℕ) → refusalIn ns ≡ R → ns ≡ refusal ∷ values
     → length values ≤ length places → Hands refusal values places r after → filled ≡ roomAfter R list room → Fills ns places list room r after filled
 unfolding noRoom
-fills ns R vs refusal values places list room r after filled j e h k d =
+fills-first ns R refusal values places list room r after filled j e h k d =
     let z : r ≡ refusal = k .result ∙ rw (le-ltb (length places) (length values) h) (sym (own refusal)) in
-    let w : refusal ≡ R = ap refusalIn (sym e ∙ j) ∙ first-is R vs in
+    let w : refusal ≡ R = ap refusalIn (sym e) ∙ j in
     record { handed = handed ns refusal values places r after e k; listed = rw (z, w) d }
+
+pub fills : (ns : List ℕ) (R : ℕ) (vs : List ℕ) (refusal : ℕ) (values places list room : List ℕ) (r : ℕ) (after filled : List ℕ) → ns ≡ judged R vs → ns ≡ refusal ∷ values
+    → length values ≤ length places → Hands refusal values places r after → filled ≡ roomAfter R list room → Fills ns places list room r after filled
+fills ns R vs refusal values places list room r after filled j = fills-first ns R refusal values places list room r after filled (ap refusalIn j ∙ first-is R vs)
 
 -- too few places
 else-first : (n b : ℕ) → orElse (suc n) b ≡ suc n
@@ -78,16 +82,20 @@ unfolding orElse
 some-refusal zero e = omega arith
 some-refusal (suc n) e = let z = rw (else-first n 16) at e in omega arith
 
-pub too-few : (ns : List ℕ) (refusal first : ℕ) (values places list room : List ℕ) (r : ℕ) → ns ≡ judged refusal values → refusal ≡ orElse first (noRoom list room)
-    → length places < length values → r ≡ orElse first 16 → Fills ns places list room r places room
+pub too-few-first : (ns : List ℕ) (refusal first count : ℕ) (places list room : List ℕ) (r : ℕ) → refusalIn ns ≡ refusal → length (valuesIn ns) ≡ count
+    → refusal ≡ orElse first (noRoom list room) → length places < count → r ≡ orElse first 16 → Fills ns places list room r places room
 unfolding noRoom roomAfter
-too-few ns refusal first values places list room r e d h q =
-    let n : refusalIn ns ≡ refusal = rw e (first-is refusal values) in
-    let k = lt-ltb (length places) (length (valuesIn ns)) (rw (e, as-many refusal values) h) in
+too-few-first ns refusal first count places list room r n c d h q =
+    let k = lt-ltb (length places) (length (valuesIn ns)) (rw c h) in
     record {
       handed = record { result = rw (n, k, d) (q ∙ then-short first list room); placed = rw k };
       listed = rw (q, ne-eqb (orElse first 16) 0 (some-refusal first));
     }
+
+pub too-few : (ns : List ℕ) (refusal first : ℕ) (values places list room : List ℕ) (r : ℕ) → ns ≡ judged refusal values → refusal ≡ orElse first (noRoom list room)
+    → length places < length values → r ≡ orElse first 16 → Fills ns places list room r places room
+too-few ns refusal first values places list room r e =
+    too-few-first ns refusal first (length values) places list room r (ap refusalIn e ∙ first-is refusal values) (ap (λ (x : List ℕ). length (valuesIn x)) e ∙ as-many refusal values)
 
 -- the numbers of an answer that is known by its case
 pub of-case : {X Y : Type 0} (numbers : X → Y) {answer x y : X} → x ≡ answer → x ≡ y → numbers answer ≡ numbers y

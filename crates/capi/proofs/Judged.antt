@@ -11,7 +11,7 @@ use Rattle.slip.specs.declared.Head.{Head}
 use Rattle.structure.specs.Rows.{orElse}
 use Rattle.structure.specs.Movie.{moovOf, tracksOf}
 use Rattle.track.specs.Track.{trackOf}
-use Rattle.movie.specs.Rooms.{noRoom, filledRoom, roomAfter, refusedWith}
+use Rattle.movie.specs.Rooms.{noRoom, filledRoom, roomAfter}
 use Rattle.movie.specs.TrackList.{listRefusal, listAnswer, trackListNumbers}
 use Rattle.movie.specs.declared.list.TrackList.the-variants as lists
 use Rattle.questions.specs.Asked.{trackAsked}
@@ -21,7 +21,7 @@ use Rattle.stretch.specs.Slips.{slipOfStretch, slipRefusal, slipAnswer, slipNum
 use Rattle.stretch.specs.declared.slips.SlipAnswer.the-variants as slips
 use Rattle.profiles.specs.Profiles.{keptOf, profileAsked, profileRefusal, profileAnswer, profileAnswerNumbers}
 use Rattle.profiles.specs.declared.ProfileAnswer.the-variants as profiles
-use Rattle.capi.specs.Places.{refusalIn}
+use Rattle.capi.specs.Places.{refusalIn, valuesIn}
 use Rattle.capi.specs.Numbers.{media, ofTrackList, ofStretch, ofProfile, ofSlipWriting, pairsOf, faultOf}
 use Rattle.capi.proofs.Answered.{judged, numbers-are}
 
@@ -46,42 +46,43 @@ module _ (s : List ℕ) (id a b : ℕ) (room : List ℕ) where
 
 -- ---- a slip that is read
 
--- its numbers after the form; zeros where it is malformed
-abbrev pub headOf : Outcome → List ℕ
-headOf (accepted h pairs) = h .id ∷ h .scale ∷ h .a ∷ h .b ∷ h .pairs ∷ []
-headOf malformed = 0 ∷ 0 ∷ 0 ∷ 0 ∷ 0 ∷ []
-
 abbrev pub readRefusal : Outcome → List ℕ → ℕ
 readRefusal o room = orElse (faultOf o) (noRoom (pairsOf o) room)
 
-by-room : (short : Bool) (values : List ℕ) → cond short (refusedWith (length values) 16) (0 ∷ values) ≡ judged (cond short 16 0) values
-by-room true values = refl
-by-room false values = refl
+-- its refusal is the first of its numbers, and six follow
+first-by : (short : Bool) (h : Head) → refusalIn (cond short (refused 16 0) (0 ∷ h .id ∷ h .scale ∷ h .a ∷ h .b ∷ h .pairs ∷ 0 ∷ [])) ≡ cond short 16 0
+first-by true h = refl
+first-by false h = refl
+
+pub read-first : (o : Outcome) (room : List ℕ) → refusalIn (numbersFor (length room) o) ≡ readRefusal o room
+unfolding numbersFor faultOf pairsOf noRoom orElse
+read-first (accepted h pairs) room = first-by (ltb (length room) (length pairs)) h
+read-first (malformed p) room = refl
+
+six-by : (short : Bool) (h : Head) → length (valuesIn (cond short (refused 16 0) (0 ∷ h .id ∷ h .scale ∷ h .a ∷ h .b ∷ h .pairs ∷ 0 ∷ []))) ≡ 6
+six-by true h = refl
+six-by false h = refl
+
+pub read-six : (o : Outcome) (k : ℕ) → length (valuesIn (numbersFor k o)) ≡ 6
+unfolding numbersFor
+read-six (accepted h pairs) k = six-by (ltb k (length pairs)) h
+read-six (malformed p) k = refl
 
 room-by : (short : Bool) (room new : List ℕ) → cond short room new ≡ cond (eqb (cond short 16 0) 0) new room
 room-by true room new = refl
 room-by false room new = refl
 
-pub read-judged : (o : Outcome) (room : List ℕ) → numbersFor (length room) o ≡ judged (readRefusal o room) (headOf o)
-unfolding numbersFor faultOf pairsOf noRoom orElse
-read-judged (accepted h pairs) room = by-room (ltb (length room) (length pairs)) _
-read-judged malformed room = refl
-
 pub read-room : (o : Outcome) (room : List ℕ) → roomFor room o ≡ roomAfter (readRefusal o room) (pairsOf o) room
 unfolding roomFor faultOf pairsOf noRoom orElse roomAfter filledRoom
 read-room (accepted h pairs) room = room-by (ltb (length room) (length pairs)) room _
-read-room malformed room = refl
+read-room (malformed p) room = refl
 
 -- a slip is malformed exactly if 17 is the first of its numbers
-fault-by : (short : Bool) (h : Head) → _≡_ {A = ℕ} 0 (cond (eqb (refusalIn (cond short (refused 16) (0 ∷ h .id ∷ h .scale ∷ h .a ∷ h .b ∷ h .pairs ∷ []))) 17) 17 0)
+fault-by : (short : Bool) (h : Head) → _≡_ {A = ℕ} 0 (cond (eqb (refusalIn (cond short (refused 16 0) (0 ∷ h .id ∷ h .scale ∷ h .a ∷ h .b ∷ h .pairs ∷ 0 ∷ []))) 17) 17 0)
 fault-by true h = refl
 fault-by false h = refl
 
 pub fault-first : (o : Outcome) (k : ℕ) → faultOf o ≡ cond (eqb (refusalIn (numbersFor k o)) 17) 17 0
 unfolding faultOf numbersFor
 fault-first (accepted h pairs) k = fault-by (ltb k (length pairs)) h
-fault-first malformed k = refl
-
-pub head-length : (o : Outcome) → length (headOf o) ≡ 5
-head-length (accepted h pairs) = refl
-head-length malformed = refl
+fault-first (malformed p) k = refl

@@ -64,16 +64,16 @@ ofFeature s id code = featureNumbers (featureAnswer s id code)
 abbrev pub ofSlipWriting : List ℕ → ℕ → ℕ → ℕ → List ℕ → List ℕ
 ofSlipWriting s id a b out = slipNumbers (slipAnswer s id (media a) (media b) out)
 
--- "the numbers after the form": ID, scale, a, b and the number of pairs
+-- "the numbers after the form": ID, scale, a, b and the number of pairs; and the place that "refusal 17 shall carry", 0 without it
 abbrev pub ofSlipReading : List ℕ → List ℕ → List ℕ
 ofSlipReading bs room = numbersFor (length room) (slipIn bs)
 
 -- "the pairs in lent 32-bit numbers"
 unfoldable pub pairsOf : Outcome → List ℕ
 pairsOf (accepted h pairs) = pairs
-pairsOf malformed = []
+pairsOf (malformed place) = []
 
 -- the refusal before the room is looked at: 17, or 0
 unfoldable pub faultOf : Outcome → ℕ
 faultOf (accepted h pairs) = 0
-faultOf malformed = 17
+faultOf (malformed place) = 17

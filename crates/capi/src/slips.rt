@@ -41,17 +41,17 @@ fn slip_refusal(bytes: &[u8]) -> u32
     let mut none = [0u32; 0];
     match read_slip(bytes, &mut none) {
         SlipRead::Accepted(_) => 0,
-        SlipRead::Malformed => 17,
+        SlipRead::Malformed(_) => 17,
         SlipRead::NoRoom => 0,
     }
 }
 
-// Reads a slip: its pairs in the room, and in five places track ID, scale, a, b and how many pairs.
+// Reads a slip: its pairs in the room, and in six places track ID, scale, a, b, how many pairs, and 0; or zeros and, with refusal 17, the place where the slip goes wrong.
 #[no_mangle]
 pub extern "C" fn chaldoref_read_slip(bytes: &[u8], room: &mut [u32], places: &mut [u64]) -> u32
     ensures { λ r. ⌜ Fills (ofSlipReading (now (bytes .entry)) (now (room .entry))) (now (places .entry)) (pairsOf (slipIn (now (bytes .entry)))) (now (room .entry)) r (now (places .exit)) (now (room .exit)) ⌝ }
 {
-    if places.len() < 5 {
+    if places.len() < 6 {
         return or_short(slip_refusal(bytes));
     }
     match read_slip(bytes, room) {
@@ -63,10 +63,11 @@ pub extern "C" fn chaldoref_read_slip(bytes: &[u8], room: &mut [u32], places: &m
                 h.a as u64,
                 h.b as u64,
                 h.pairs as u64,
+                0,
             ],
             places,
         ),
-        SlipRead::Malformed => hand(17, &[0u64; 5], places),
-        SlipRead::NoRoom => hand(16, &[0u64; 5], places),
+        SlipRead::Malformed(place) => hand(17, &[0, 0, 0, 0, 0, place as u64], places),
+        SlipRead::NoRoom => hand(16, &[0u64; 6], places),
     }
 }

@@ -15,7 +15,7 @@ use Rattle.leb128.specs.Reading.{limit}
 -- ---- one number
 
 -- groups count the number whose groups they are
-value-groups : (k n : ℕ) → n < limit k 128 → value (groupsIn k n) ≡ n
+pub value-groups : (k n : ℕ) → n < limit k 128 → value (groupsIn k n) ≡ n
 unfolding groupsIn value limit
 value-groups zero n h = omega arith
 value-groups (suc k) n h = go (ltb n 128) refl (value-groups k (n / 128))
@@ -25,7 +25,7 @@ value-groups (suc k) n h = go (ltb n 128) refl (value-groups k (n / 128))
     go false f ih = omega (arith, ih (omega arith))
 
 -- bytes that begin with the groups of a number are cut behind them
-cut-groups : (k n : ℕ) (rest : List ℕ) → n < limit k 128 → cut (groupsIn k n ++ rest) ≡ groupsIn k n ∷ cut rest
+pub cut-groups : (k n : ℕ) (rest : List ℕ) → n < limit k 128 → cut (groupsIn k n ++ rest) ≡ groupsIn k n ∷ cut rest
 unfolding groupsIn cut onto limit
 cut-groups zero n rest h = rw (lt-ltb n 128 h)
 cut-groups (suc k) n rest h = go (ltb n 128) refl (cut-groups k (n / 128) rest)
@@ -35,12 +35,12 @@ cut-groups (suc k) n rest h = go (ltb n 128) refl (cut-groups k (n / 128) rest)
     go true f ih = rw f
     go false f ih = rw (le-ltb (128 + n % 128) 128 (omega arith)) (ap (onto (128 + n % 128)) (ih (omega arith)))
 
-same-refl : (xs : List ℕ) → same xs xs ≡ true
+pub same-refl : (xs : List ℕ) → same xs xs ≡ true
 unfolding same
 same-refl [] = refl
 same-refl (x ∷ xs) = rw (eq-eqb x x refl) (same-refl xs)
 
-same-true : (xs ys : List ℕ) → same xs ys ≡ true → xs ≡ ys
+pub same-true : (xs ys : List ℕ) → same xs ys ≡ true → xs ≡ ys
 unfolding same
 same-true [] [] e = refl
 same-true [] (y ∷ ys) e = absurd (let z : _≡_ {A = ℕ} 0 1 = cc in omega arith)
@@ -52,7 +52,7 @@ same-true (x ∷ xs) (y ∷ ys) e =
 -- ---- some numbers
 
 -- the bytes of pieces, one after the other
-unfoldable joined : List (List ℕ) → List ℕ
+unfoldable pub joined : List (List ℕ) → List ℕ
 joined [] = []
 joined (p ∷ ps) = p ++ joined ps
 
@@ -61,7 +61,7 @@ unfolding joined onto
 joined-onto b [] = refl
 joined-onto b (p ∷ ps) = refl
 
-joined-cut : (bs : List ℕ) → joined (cut bs) ≡ bs
+pub joined-cut : (bs : List ℕ) → joined (cut bs) ≡ bs
 unfolding joined cut
 joined-cut [] = refl
 joined-cut (b ∷ bs) = go (ltb b 128) (joined-cut bs)
@@ -83,7 +83,7 @@ written-writes bound (p ∷ ps) e =
 pub cut-only : (bound : ℕ) (bs : List ℕ) → allWritten bound (cut bs) ≡ true → (bs ≡ writes (values (cut bs))) × Below bound (values (cut bs))
 cut-only bound bs e = let w = written-writes bound (cut bs) e in (sym (joined-cut bs) ∙ w .0, w .1)
 
-small-ten : (n : ℕ) → n < 2 ^ 64 → n < limit 9 128
+pub small-ten : (n : ℕ) → n < 2 ^ 64 → n < limit 9 128
 unfolding limit
 small-ten n h = omega arith
 

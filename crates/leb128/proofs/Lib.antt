@@ -1,4 +1,5 @@
 pub mod Cuts
 pub mod Groups
-pub mod Puts
 pub mod Readings
+pub mod Pieces
+pub mod Puts

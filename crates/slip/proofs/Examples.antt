@@ -3,8 +3,8 @@
 use mathlib.Core.Path.{_≡_, refl}
 use mathlib.Core.List.{List, [], _∷_}
 use Prim.Native.Nat.{ℕ}
-use Rattle.leb128.specs.Numbers.{groups, groupsIn, writes, value, onto, cut, same, written, allWritten, values}
-use Rattle.slip.specs.Slip.{slipBytes, legal, Outcome, accepted, malformed, slipOf, slipIn}
+use Rattle.leb128.specs.Numbers.{groups, groupsIn, writes, value, onto, cut, same, written, values, unended, cutShort}
+use Rattle.slip.specs.Slip.{slipBytes, allowed, keeps, wanted, faultFrom, Outcome, accepted, malformed, outcomeOf, slipIn}
 use Rattle.slip.specs.declared.Head.{Head}
 
 abbrev worked : Head
@@ -18,14 +18,15 @@ unfolding slipBytes writes groups groupsIn
 worked-written = refl
 
 worked-read : slipIn bytes ≡ accepted worked (1100 ∷ 50 ∷ 900 ∷ 70 ∷ [])
-unfolding slipIn slipOf legal allWritten written same cut onto value values groups groupsIn
+unfolding slipIn outcomeOf faultFrom allowed keeps wanted unended cutShort written same cut onto value values groups groupsIn
 worked-read = refl
 
 unfoldable outcomes : List (List ℕ) → List Outcome
 outcomes [] = []
 outcomes (s ∷ ss) = slipIn s ∷ outcomes ss
 
--- no bytes; form 2; ID 1 in a byte too many; a = b; no pairs; a pair cut short; a byte too many at the end
+-- no bytes; form 2; ID 1 in a byte too many; a = b; no pairs; a pair cut short; a byte too many at the end; an ID of 0 in a slip that also ends early; five bytes
+-- with the top bit set at the end, which are broken, and four, which are cut short
 damaged : outcomes (
     []
     ∷ (2 ∷ 1 ∷ 1 ∷ 0 ∷ 1 ∷ 1 ∷ 5 ∷ 6 ∷ [])
@@ -34,6 +35,10 @@ damaged : outcomes (
     ∷ (1 ∷ 1 ∷ 1 ∷ 0 ∷ 1 ∷ 0 ∷ [])
     ∷ (1 ∷ 1 ∷ 1 ∷ 0 ∷ 1 ∷ 1 ∷ 5 ∷ 0x86 ∷ [])
     ∷ (1 ∷ 1 ∷ 1 ∷ 0 ∷ 1 ∷ 1 ∷ 5 ∷ 6 ∷ 7 ∷ [])
-    ∷ []) ≡ malformed ∷ malformed ∷ malformed ∷ malformed ∷ malformed ∷ malformed ∷ malformed ∷ []
-unfolding outcomes slipIn slipOf legal allWritten written same cut onto value values groups groupsIn
+    ∷ (1 ∷ 0 ∷ [])
+    ∷ (1 ∷ 0xff ∷ 0xff ∷ 0xff ∷ 0xff ∷ 0xff ∷ [])
+    ∷ (1 ∷ 0xff ∷ 0xff ∷ 0xff ∷ 0xff ∷ [])
+    ∷ [])
+    ≡ malformed 0 ∷ malformed 0 ∷ malformed 1 ∷ malformed 4 ∷ malformed 5 ∷ malformed 8 ∷ malformed 8 ∷ malformed 1 ∷ malformed 1 ∷ malformed 5 ∷ []
+unfolding outcomes slipIn outcomeOf faultFrom allowed keeps wanted unended cutShort written same cut onto value values groups groupsIn
 damaged = refl

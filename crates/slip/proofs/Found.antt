@@ -1,20 +1,18 @@
--- Stepping through a slip number by number finds what `specs/Slip.antt` says of its bytes: `found-accepted`, `found-malformed`. The idea: both are read from the
--- sentence `IsSlip`, the one by `slip-read` and `slip-only`, the other by the laws of runs, over the width.
+-- Stepping through a slip number by number finds what `specs/Slip.antt` says of its bytes: `found-accepted`, by what a run of all its numbers says, over the width, and
+-- `found-malformed`, by where the first fault of its pieces is (`Faults`).
 -- Assumes nothing.
 use mathlib.Core.Path.{_≡_, refl, ap, sym, subst, _∙_}
 use mathlib.Core.Bool.{Bool, true, false, cond}
 use mathlib.Core.List.{List, [], _∷_, _++_, append-assoc, append-nil}
-use Prim.Native.Nat.{ℕ, _+_, _*_, _<_, _≤_, _^_}
+use Prim.Native.Nat.{ℕ, _+_, _*_, _<_, _≤_}
 use native.Mathlib.Omega.{arith}
-use native.Mathlib.Nat.{zero-add}
 use lib.Dec.{ltb, leb, eqb, lit<, lit≤}
-use lib.ListN.{length, getD, drop, length-append, drop-of-length-le, List·getD-append}
-use borrow.Author.Tests.{ltb-true, leb-true, eqb-true, lt-ltb, le-ltb, le-leb, eq-eqb, ne-eqb}
-use Rattle.lists.proofs.Booleans.{and-both}
-use Rattle.leb128.specs.Numbers.{groups, writes, Below}
+use lib.ListN.{length, getD, drop, drop-of-length-le, List·getD-append}
+use borrow.Author.Tests.{ltb-true, leb-true, eqb-true, lt-ltb, le-ltb, eq-eqb, ne-eqb}
+use Rattle.leb128.specs.Numbers.{groups, writes, Below, cut, values}
 use Rattle.leb128.specs.Reading.{limit, readAt}
-use Rattle.slip.specs.Slip.{slipBytes, Outcome, accepted, malformed, slipIn, Rules, IsSlip, slipReadNumbers, numbersFor, roomFor, Reads}
-use Rattle.slip.specs.Steps.{allowed, NumberRun, all, stopped, run, checkedOf, valuesFrom, afterPairs, afterHead, restIn, byForm, scanIn}
+use Rattle.slip.specs.Slip.{slipBytes, allowed, Fault, accepted, malformed, outcomeOf, slipIn, Rules, IsSlip, slipReadNumbers, numbersFor, roomFor, Reads}
+use Rattle.slip.specs.Steps.{NumberRun, all, stopped, run, checkedOf, valuesFrom, afterPairs, afterHead, restIn, byForm, scanIn}
 use Rattle.slip.specs.declared.Head.{Head}
 use Rattle.leb128.specs.declared.number.NumberRead.{NumberRead}
 use Rattle.leb128.specs.declared.number.NumberRead.the-variants.{Good, Broken, Short}
@@ -26,8 +24,10 @@ use Rattle.slip.specs.declared.read.SlipRead.{SlipRead}
 use Rattle.slip.specs.declared.read.SlipRead.the-variants.{Accepted, NoRoom}
 use Rattle.leb128.proofs.Groups.{number-written}
 use Rattle.leb128.proofs.Readings.{read-good}
-use Rattle.slip.proofs.Runs.{Allowed, read-groups, run-writes, Ran, run-ran, run-values, length-values, pairs-allowed, pairs-below, checked-all, checked-stopped}
-use Rattle.slip.proofs.Slips.{slip-read, slip-only}
+use Rattle.slip.proofs.Runs.{Allowed, Ran, run-ran, run-values, length-values, pairs-below, checked-all, checked-stopped}
+use Rattle.lists.proofs.Booleans.{and-both}
+use Rattle.slip.proofs.Slips.{slip-read}
+use Rattle.slip.proofs.Faults.{found-fault}
 
 -- the five numbers that follow the form, before the pairs
 abbrev head : Head → List ℕ
@@ -46,13 +46,7 @@ five (x₀ ∷ x₁ ∷ x₂ ∷ x₃ ∷ []) e = absurd (omega arith)
 five (x₀ ∷ x₁ ∷ x₂ ∷ x₃ ∷ x₄ ∷ []) e = refl
 five (x₀ ∷ x₁ ∷ x₂ ∷ x₃ ∷ x₄ ∷ x₅ ∷ ns) e = absurd (omega arith)
 
--- the rules of document 01 are the rules of the numbers by their place
-rules-allowed : (bound : ℕ) (h : Head) (pairs : List ℕ) → Rules bound h pairs → 1048576 < bound → Allowed bound 1 0 (head h)
-unfolding allowed
-rules-allowed bound h pairs r w =
-    let l = r .below in
-    (l .0, lt-ltb 0 (h .id) (r .some-id), (l .1 .0, lt-ltb 0 (h .scale) (r .some-scale), (l .1 .1 .0, refl, (l .1 .1 .1 .0, lt-ltb (h .a) (h .b) (r .order), (omega (arith, r .few-pairs), rw (lt-ltb 0 (h .pairs) (r .some-pairs), le-leb (h .pairs) 1048576 (r .few-pairs)), tt)))))
-
+-- numbers that are allowed by their place keep the rules of document 01
 allowed-rules : (bound : ℕ) (h : Head) (pairs : List ℕ) → Allowed bound 1 0 (head h) → length pairs ≡ 2 * h .pairs → Below bound pairs → Rules bound h pairs
 unfolding allowed
 allowed-rules bound h pairs i n l =
@@ -100,29 +94,6 @@ both-ran k top bs ns ps from at end r₁ r₂ e =
     none = let h : length bs ≤ end = omega arith in drop-of-length-le bs h
 
 module _ (k top : ℕ) (t : top ≤ 128) where
-  pub rest-read : limit k top ≤ 2 ^ 64 → 1048576 < limit k top → (pre : List ℕ) (from : ℕ) (h : Head) (pairs : List ℕ) → length pre ≡ from → Rules (limit k top) h pairs
-      → restIn k top (pre ++ writes (h .id ∷ h .scale ∷ h .a ∷ h .b ∷ h .pairs ∷ pairs)) from ≡ Slip h (from + length (writes (head h)))
-  unfolding restIn afterHead afterPairs
-  rest-read w wide pre from h pairs e r = ap (afterHead k top bs) run₁ ∙ ap (afterPairs bs (head h) (from + length (writes (head h)))) run₂ ∙ rw (eq-eqb (from + length (writes (head h)) + length (writes pairs)) (length bs) ends)
-    where
-      bs : List ℕ
-      bs = pre ++ writes (h .id ∷ h .scale ∷ h .a ∷ h .b ∷ h .pairs ∷ pairs)
-
-      full : bs ≡ pre ++ (writes (head h) ++ (writes pairs ++ []))
-      full = ap (λ (x : List ℕ). pre ++ x) (head-first h pairs)
-
-      again : bs ≡ (pre ++ writes (head h)) ++ (writes pairs ++ [])
-      again = full ∙ sym (append-assoc pre (writes (head h)) (writes pairs ++ []))
-
-      run₁ : run k top bs 5 1 0 from ≡ all (head h) (from + length (writes (head h)))
-      run₁ = rw full (run-writes k top (head h) 1 0 pre (writes pairs ++ []) from t w (rules-allowed (limit k top) h pairs r wide) e)
-
-      run₂ : run k top bs (2 * h .pairs) 6 0 (from + length (writes (head h))) ≡ all pairs (from + length (writes (head h)) + length (writes pairs))
-      run₂ = rw (again, ← r .all-pairs) (run-writes k top pairs 6 0 (pre ++ writes (head h)) [] (from + length (writes (head h))) t w (pairs-allowed (limit k top) pairs 6 0 (omega arith) (r .below .1 .1 .1 .1)) (omega (arith, length-append pre (writes (head h)))))
-
-      ends : from + length (writes (head h)) + length (writes pairs) ≡ length bs
-      ends = rw full (simp (length-append, append-nil) (omega arith))
-
   pub rest-only : 0 < top → k ≤ 9 → (bs : List ℕ) (from : ℕ) (h : Head) (at : ℕ) → ((x : ℕ) → getD bs x 0 < 256) → restIn k top bs from ≡ Slip h at → IsRest k top bs from h (valuesFrom k top bs (2 * h .pairs) at)
   unfolding restIn afterHead afterPairs
   rest-only p nine bs from h at are e = go₁ (run k top bs 5 1 0 from) refl e
@@ -210,20 +181,6 @@ module _ (bs : List ℕ) (r : NumberRead) (is : r ≡ readAt 4 16 bs 0) where
 
 -- ---- the form and what follows it
 
--- a slip's bytes are found as it
-found-read : (bs : List ℕ) (h : Head) (pairs : List ℕ) → IsSlip bs h pairs → (at : ℕ) × (scanIn bs ≡ Slip h at)
-unfolding scanIn byForm slipBytes writes limit
-found-read bs h pairs s = (length (groups 1) + length (writes (head h)), rw (s .bytes) (ap (byForm all-bytes) form ∙ rest-read 4 16 (lit≤ tt) (omega arith) (omega arith) (groups 1) (length (groups 1)) h pairs refl (s .rules)))
-  where
-    rest : List ℕ
-    rest = writes (h .id ∷ h .scale ∷ h .a ∷ h .b ∷ h .pairs ∷ pairs)
-
-    all-bytes : List ℕ
-    all-bytes = groups 1 ++ rest
-
-    form : readAt 4 16 all-bytes 0 ≡ Good 1 (length (groups 1))
-    form = read-groups 4 16 1 [] rest 0 (lit≤ tt) (omega arith) (omega arith) refl ∙ rw zero-add
-
 -- what is found as a slip is that slip's bytes
 found-only : (bs : List ℕ) (h : Head) (at : ℕ) → ((x : ℕ) → getD bs x 0 < 256) → scanIn bs ≡ Slip h at → IsSlip bs h (valuesFrom 4 16 bs (2 * h .pairs) at)
 unfolding scanIn byForm slipBytes writes limit groups
@@ -255,18 +212,15 @@ module _ (bs : List ℕ) (are : (x : ℕ) → getD bs x 0 < 256) (r : SlipScan) 
   pub found-accepted : (h : Head) (at : ℕ) → r ≡ Slip h at → slipIn bs ≡ accepted h (valuesFrom 4 16 bs (2 * h .pairs) at)
   found-accepted h at q = slip-read bs h (valuesFrom 4 16 bs (2 * h .pairs) at) (found-only bs h at are (sym is ∙ q))
 
-  pub found-malformed : (p : ℕ) → r ≡ Malformed p → slipIn bs ≡ malformed
-  found-malformed p q = go (slipIn bs) refl
-    where
-      go : (o : Outcome) → slipIn bs ≡ o → slipIn bs ≡ malformed
-      go (accepted h pairs) f = absurd (let g = found-read bs h pairs (slip-only bs h pairs f) in let w = g .1 in let z : _≡_ {A = ℕ} 0 1 = cc in omega arith)
-      go malformed f = f
+  pub found-malformed : (p : ℕ) → r ≡ Malformed p → slipIn bs ≡ malformed p
+  unfolding slipIn outcomeOf
+  found-malformed p q = ap (λ (f : Fault). outcomeOf f (values (cut bs))) (found-fault bs are p (sym is ∙ q))
 
 -- ---- the answer and the room, in each of the three cases
 
-pub reads-malformed : (bs room : List ℕ) → slipIn bs ≡ malformed → Reads bs room SlipRead.Malformed room
+pub reads-malformed : (bs room : List ℕ) (p : ℕ) → slipIn bs ≡ malformed p → Reads bs room (SlipRead.Malformed p) room
 unfolding slipReadNumbers numbersFor roomFor
-reads-malformed bs room e = record { numbers = sym (ap (numbersFor (length room)) e); places = sym (ap (roomFor room) e) }
+reads-malformed bs room p e = record { numbers = sym (ap (numbersFor (length room)) e); places = sym (ap (roomFor room) e) }
 
 module _ (bs room : List ℕ) (h : Head) (ps : List ℕ) (e : slipIn bs ≡ accepted h ps) (n : length ps ≡ 2 * h .pairs) where
   pub reads-no-room : length room < 2 * h .pairs → Reads bs room NoRoom room

@@ -29,13 +29,13 @@ numbers-only (Accepted h) (Accepted g) e =
     let b : h .b ≡ g .b = cc in
     let p : h .pairs ≡ g .pairs = cc in
     λ j. Accepted (record { id = i j; scale = s j; a = a j; b = b j; pairs = p j })
-numbers-only (Accepted h) Malformed e = absurd (let z : _≡_ {A = ℕ} 0 17 = cc in omega arith)
+numbers-only (Accepted h) (Malformed q) e = absurd (let z : _≡_ {A = ℕ} 0 17 = cc in omega arith)
 numbers-only (Accepted h) NoRoom e = absurd (let z : _≡_ {A = ℕ} 0 16 = cc in omega arith)
-numbers-only Malformed (Accepted g) e = absurd (let z : _≡_ {A = ℕ} 17 0 = cc in omega arith)
-numbers-only Malformed Malformed e = refl
-numbers-only Malformed NoRoom e = absurd (let z : _≡_ {A = ℕ} 17 16 = cc in omega arith)
+numbers-only (Malformed p) (Accepted g) e = absurd (let z : _≡_ {A = ℕ} 17 0 = cc in omega arith)
+numbers-only (Malformed p) (Malformed q) e = let w : p ≡ q = cc in ap Malformed w
+numbers-only (Malformed p) NoRoom e = absurd (let z : _≡_ {A = ℕ} 17 16 = cc in omega arith)
 numbers-only NoRoom (Accepted g) e = absurd (let z : _≡_ {A = ℕ} 16 0 = cc in omega arith)
-numbers-only NoRoom Malformed e = absurd (let z : _≡_ {A = ℕ} 16 17 = cc in omega arith)
+numbers-only NoRoom (Malformed q) e = absurd (let z : _≡_ {A = ℕ} 16 17 = cc in omega arith)
 numbers-only NoRoom NoRoom e = refl
 
 -- the slip of some numbers is one
@@ -59,18 +59,22 @@ module _ (bs room : List ℕ) (r : SlipRead) (after : List ℕ) (reads : Reads b
       let short = lt-ltb (length room) (length pairs) l in
       (numbers-only r NoRoom (reads .numbers ∙ ap (numbersFor (length room)) e ∙ rw short), reads .places ∙ ap (roomFor room) e ∙ rw short)
 
-  -- bytes that are no slip are refused 17, and the room stays
-  pub none-malformed : ((h : Head) (pairs : List ℕ) → IsSlip bs h pairs → ⊥) → (r ≡ Malformed) × (after ≡ room)
+  -- bytes that are malformed are refused 17 with their place, and the room stays
+  pub reads-malformed : (p : ℕ) → slipIn bs ≡ malformed p → (r ≡ Malformed p) × (after ≡ room)
   unfolding slipReadNumbers numbersFor roomFor
+  reads-malformed p e = (numbers-only r (Malformed p) (reads .numbers ∙ ap (numbersFor (length room)) e), reads .places ∙ ap (roomFor room) e)
+
+  -- bytes that are no slip are refused 17, and the room stays
+  pub none-malformed : ((h : Head) (pairs : List ℕ) → IsSlip bs h pairs → ⊥) → (p : ℕ) × (r ≡ Malformed p) × (after ≡ room)
   none-malformed none = go (slipIn bs) refl
     where
-      go : (o : Outcome) → slipIn bs ≡ o → (r ≡ Malformed) × (after ≡ room)
+      go : (o : Outcome) → slipIn bs ≡ o → (p : ℕ) × (r ≡ Malformed p) × (after ≡ room)
       go (accepted h pairs) e = absurd (none h pairs (slip-only bs h pairs e))
-      go malformed e = (numbers-only r Malformed (reads .numbers ∙ ap (numbersFor (length room)) e), reads .places ∙ ap (roomFor room) e)
+      go (malformed p) e = let m = reads-malformed p e in (p, m .0, m .1)
 
   -- and only those are
-  pub malformed-none : r ≡ Malformed → (h : Head) (pairs : List ℕ) → IsSlip bs h pairs → ⊥
-  malformed-none e h pairs s = go (ltb (length room) (length pairs)) refl
+  pub malformed-none : (p : ℕ) → r ≡ Malformed p → (h : Head) (pairs : List ℕ) → IsSlip bs h pairs → ⊥
+  malformed-none p e h pairs s = go (ltb (length room) (length pairs)) refl
     where
       go : (f : Bool) → ltb (length room) (length pairs) ≡ f → ⊥
       go true f = let q = reads-no-room h pairs s (ltb-true (length room) (length pairs) f) .0 in let z : _≡_ {A = ℕ} 0 1 = cc in omega arith
@@ -92,7 +96,7 @@ module _ (bs room : List ℕ) (r : SlipRead) (after : List ℕ) (reads : Reads b
 
       go : (o : Outcome) → slipIn bs ≡ o → Only h
       go (accepted g pairs) f = test g pairs (slip-only bs g pairs f) (ltb (length room) (length pairs)) refl
-      go malformed f = absurd (let q = none-malformed (λ g pairs s. (let w = slip-read bs g pairs s in let z : _≡_ {A = ℕ} 0 1 = cc in omega arith)) .0 in let z : _≡_ {A = ℕ} 0 1 = cc in omega arith)
+      go (malformed p) f = absurd (let q = reads-malformed p f .0 in let z : _≡_ {A = ℕ} 0 1 = cc in omega arith)
 
 -- a slip that was put number by number into lent bytes reads back from them
 pub put-reads-back : (out₀ : List ℕ) (h : Head) (pairs : List ℕ) (at : ℕ) (out : List ℕ) → length (slipBytes h pairs) ≤ length out₀ → Put out₀ (headNumbers h pairs) at out → Rules (2 ^ 32) h pairs

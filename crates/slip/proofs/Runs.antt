@@ -4,31 +4,26 @@
 use mathlib.Core.Path.{_≡_, refl, ap, sym, subst, subst₂, _∙_}
 use mathlib.Core.Bool.{Bool, true, false, cond}
 use mathlib.Core.List.{List, [], _∷_, _++_, append-assoc}
-use Prim.Native.Nat.{ℕ, zero, suc, _+_, _-_, _<_, _≤_, _^_}
+use Prim.Native.Nat.{ℕ, zero, suc, _+_, _-_, _<_, _≤_}
 use native.Mathlib.Omega.{arith}
 use native.Mathlib.Numerals.{add-one}
 use native.Mathlib.Nat.{add-zero}
 use lib.ListN.{length, getD, drop, set, length-append}
-use lib.Seq.{sets, drop-at, drop-drop, getD-drop}
-use borrow.Author.Tests.{le-leb}
-use Rattle.leb128.specs.Numbers.{groupsIn, groups, writes, Below}
-use Rattle.leb128.specs.Reading.{limit, readAt, readOf}
-use Rattle.slip.specs.Steps.{allowed, NumberRun, all, stopped, prepend, ruled, run, checkedOf, valueOf, nextOf, valuesFrom}
+use lib.Seq.{sets, drop-drop, getD-drop}
+use Rattle.leb128.specs.Numbers.{groups, writes, Below}
+use Rattle.leb128.specs.Reading.{limit, readAt}
+use Rattle.slip.specs.Slip.{allowed}
+use Rattle.slip.specs.Steps.{NumberRun, all, stopped, prepend, ruled, run, checkedOf, valueOf, nextOf, valuesFrom}
 use Rattle.leb128.specs.declared.number.NumberRead.{NumberRead}
 use Rattle.leb128.specs.declared.number.NumberRead.the-variants.{Good, Broken, Short}
 use Rattle.slip.specs.declared.read.Checked.the-variants.{All, Stopped}
-use Rattle.leb128.proofs.Groups.{Written, limit-pos, groups-count, number-groups, number-written}
+use Rattle.leb128.proofs.Groups.{Written, limit-pos, groups-count, number-written}
 use Rattle.leb128.proofs.Readings.{read-good, read-written}
 
 -- numbers that a slip may have from the i-th on, after prev, each below the bound
 abbrev pub Allowed : ℕ → ℕ → ℕ → List ℕ → Type 0
 Allowed bound i prev [] = Unit {0}
 Allowed bound i prev (n ∷ ns) = (n < bound) × (allowed i prev n ≡ true) × Allowed bound (i + 1) n ns
-
--- what is written at a place is read there
-pub read-groups : (k top n : ℕ) (pre rest : List ℕ) (at : ℕ) → top ≤ 128 → n < limit k top → n < 2 ^ 64 → length pre ≡ at → readAt k top (pre ++ (groups n ++ rest)) at ≡ Good n (at + length (groups n))
-unfolding readAt readOf groups limit
-read-groups k top n pre rest at t l h e = rw (drop-at pre (groupsIn 9 n ++ rest) at e, number-groups k top 9 n rest t l (omega arith))
 
 -- one turn of a run, by what was read
 module _ (k top : ℕ) (bs : List ℕ) (c i prev at : ℕ) (r : NumberRead) (read : r ≡ readAt k top bs at) where
@@ -51,31 +46,6 @@ module _ (k top : ℕ) (bs : List ℕ) (c i prev at : ℕ) (r : NumberRead) (rea
   pub run-short : (p : ℕ) → r ≡ Short p → run k top bs (suc c) i prev at ≡ stopped p
   unfolding ruled
   run-short p q = run-by (Short p) q
-
--- numbers that are allowed and written are read back
-pub run-writes : (k top : ℕ) (ns : List ℕ) (i prev : ℕ) (pre rest : List ℕ) (at : ℕ) → top ≤ 128 → limit k top ≤ 2 ^ 64 → Allowed (limit k top) i prev ns → length pre ≡ at → run k top (pre ++ (writes ns ++ rest)) (length ns) i prev at ≡ all ns (at + length (writes ns))
-unfolding run writes prepend
-run-writes k top [] i prev pre rest at t w a e = rw add-zero
-run-writes k top (n ∷ ns) i prev pre rest at t w a e =
-    run-good k top bs (length ns) i prev at (Good n next) (sym here) n next refl (a .1) ∙ ap (prepend n) (there (run-writes k top ns (i + 1) n (pre ++ groups n) rest (at + length (groups n)) t w (a .2) (omega (arith, length-append pre (groups n))))) ∙ ap (all (n ∷ ns)) ends
-  where
-    bs : List ℕ
-    bs = pre ++ ((groups n ++ writes ns) ++ rest)
-
-    next : ℕ
-    next = at + length (groups n)
-
-    same : bs ≡ (pre ++ groups n) ++ (writes ns ++ rest)
-    same = simp append-assoc
-
-    here : readAt k top bs at ≡ Good n next
-    here = rw (append-assoc (groups n) (writes ns) rest) (read-groups k top n pre (writes ns ++ rest) at t (a .0) (omega arith) e)
-
-    there : run k top ((pre ++ groups n) ++ (writes ns ++ rest)) (length ns) (i + 1) n next ≡ all ns (next + length (writes ns)) → run k top bs (length ns) (i + 1) n next ≡ all ns (next + length (writes ns))
-    there ih = rw same ih
-
-    ends : next + length (writes ns) ≡ at + length (groups n ++ writes ns)
-    ends = omega (arith, length-append (groups n) (writes ns))
 
 -- what a run of all its numbers says: they are allowed, as many as asked, and written one after the other from the place to the end
 pub record Ran (k top : ℕ) (bs : List ℕ) (c i prev at : ℕ) (ns : List ℕ) (end : ℕ) : Type 0 where
@@ -132,15 +102,7 @@ run-ran k top bs (suc c) i prev at ns end p t w are e = go (readAt k top bs at) 
     go (Broken x) q e′ ih = absurd (let z : _≡_ {A = ℕ} 0 1 = cc in omega arith)
     go (Short x) q e′ ih = absurd (let z : _≡_ {A = ℕ} 0 1 = cc in omega arith)
 
--- after the head no rule is left
-pub pair-allowed : (i prev n : ℕ) → 6 ≤ i → allowed i prev n ≡ true
-unfolding allowed
-pair-allowed i prev n h = rw (le-leb 6 i h)
-
-pub pairs-allowed : (bound : ℕ) (ns : List ℕ) (i prev : ℕ) → 6 ≤ i → Below bound ns → Allowed bound i prev ns
-pairs-allowed bound [] i prev h b = tt
-pairs-allowed bound (n ∷ ns) i prev h b = (b .0, pair-allowed i prev n h, pairs-allowed bound ns (i + 1) n (omega arith) (b .1))
-
+-- numbers that are allowed are below the bound
 pub pairs-below : (bound : ℕ) (ns : List ℕ) (i prev : ℕ) → Allowed bound i prev ns → Below bound ns
 pairs-below bound [] i prev a = tt
 pairs-below bound (n ∷ ns) i prev a = (a .0, pairs-below bound ns (i + 1) n (a .2))

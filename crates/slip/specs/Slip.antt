@@ -1,11 +1,11 @@
--- Document 01, "The slip": what a slip is, and what reading one answers.
+-- Document 01, "The slip", and document 02, Ask 5: what a slip is, where bytes go wrong that are none, and what reading one answers.
 use mathlib.Core.Path.{_≡_}
-use mathlib.Core.Bool.{Bool, cond, _&&_}
+use mathlib.Core.Bool.{Bool, true, cond, _&&_}
 use mathlib.Core.List.{List, [], _∷_, _++_}
-use Prim.Native.Nat.{ℕ, _*_, _^_, _<_, _≤_}
+use Prim.Native.Nat.{ℕ, suc, _+_, _*_, _^_, _<_, _≤_}
 use lib.Dec.{ltb, leb, eqb}
-use lib.ListN.{length, drop}
-use Rattle.leb128.specs.Numbers.{writes, Below, cut, allWritten, values}
+use lib.ListN.{length, getD, drop}
+use Rattle.leb128.specs.Numbers.{writes, Below, value, cut, written, values, cutShort}
 use Rattle.slip.specs.declared.Head.{Head}
 use Rattle.slip.specs.declared.read.SlipRead.{SlipRead}
 use Rattle.slip.specs.declared.read.SlipRead.the-variants.{Accepted, Malformed, NoRoom}
@@ -18,30 +18,58 @@ headNumbers h pairs = 1 ∷ h .id ∷ h .scale ∷ h .a ∷ h .b ∷ h .pairs �
 unfoldable pub slipBytes : Head → List ℕ → List ℕ
 slipBytes h pairs = writes (headNumbers h pairs)
 
--- "the form is 1, ID and scale are not 0, a < b, there are 1 to 1,048,576 pairs, all present, and nothing follows": of the numbers that bytes hold
-unfoldable pub legal : ℕ → Head → List ℕ → Bool
-legal form h pairs =
-    eqb form 1 && (ltb 0 (h .id) && (ltb 0 (h .scale) && (ltb (h .a) (h .b) && (ltb 0 (h .pairs) && (leb (h .pairs) 1048576 && eqb (length pairs) (2 * h .pairs))))))
+-- ---- where bytes go wrong, number after number
 
--- what bytes are: a slip, by its numbers, or none
+-- "the form is 1, ID and scale are not 0, a < b, there are 1 to 1,048,576 pairs": the rule of the number n that i numbers stand before, the form
+-- among them, and prev right before. "b at or below a is b's fault". A number of a pair, and a, may be any
+unfoldable pub allowed : ℕ → ℕ → ℕ → Bool
+allowed i prev n =
+    cond (leb 6 i) true
+    (cond (ltb i 3) (ltb 0 n)
+    (cond (eqb i 4) (ltb prev n)
+    (cond (eqb i 5) (ltb 0 n && leb n 1048576) true)))
+
+unfoldable pub keeps : ℕ → ℕ → ℕ → Bool
+keeps i prev n = cond (eqb i 0) (eqb n 1) (allowed i prev n)
+
+-- how many numbers there are in all, once the number n is read that i numbers stand before: "number of pairs, pairs", each pair two numbers
+unfoldable pub wanted : ℕ → ℕ → ℕ → ℕ
+wanted i want n = cond (eqb i 5) (6 + 2 * n) want
+
+pub data Fault : Type 0 where
+  none : Fault
+  at : ℕ → Fault
+
+-- the first fault of the pieces from a place on, at most k + 1 bytes and the bound being a number's limits: i numbers stand before them, prev is the
+-- last of these, and want are wanted in all
+unfoldable pub faultFrom : ℕ → ℕ → ℕ → ℕ → ℕ → ℕ → List (List ℕ) → Fault
+-- "the slip's length if it ends early"
+faultFrom k bound i prev want place [] = cond (eqb i want) none (at place)
+faultFrom k bound i prev want place (p ∷ ps) =
+    -- "the first surplus byte"
+    cond (eqb i want) (at place)
+    -- the slip ends within a number: its length
+    (cond (cutShort k p) (at (place + length p))
+    (cond (written bound p && keeps i prev (value p)) (faultFrom k bound (suc i) (value p) (wanted i want (value p)) (place + length p) ps)
+    -- "the first byte of the first number that breaks a rule": one that "isn't in its fewest bytes, is 2^32 or more, has the top bit set on its
+    -- fifth byte or .. breaks 01's rule for it"
+    (at place)))
+
+-- what bytes are: a slip, by its numbers, or none, by the place where it goes wrong
 pub data Outcome : Type 0 where
   accepted : Head → List ℕ → Outcome
-  malformed : Outcome
+  malformed : ℕ → Outcome
 
-unfoldable pub slipOf : List ℕ → Outcome
-slipOf [] = malformed
-slipOf (form ∷ []) = malformed
-slipOf (form ∷ id ∷ []) = malformed
-slipOf (form ∷ id ∷ scale ∷ []) = malformed
-slipOf (form ∷ id ∷ scale ∷ a ∷ []) = malformed
-slipOf (form ∷ id ∷ scale ∷ a ∷ b ∷ []) = malformed
-slipOf (form ∷ id ∷ scale ∷ a ∷ b ∷ count ∷ pairs) =
-    let h : Head = record { id = id; scale = scale; a = a; b = b; pairs = count } in
-    cond (legal form h pairs) (accepted h pairs) malformed
+abbrev pub headOf : List ℕ → Head
+headOf ns = record { id = getD ns 1 0; scale = getD ns 2 0; a = getD ns 3 0; b = getD ns 4 0; pairs = getD ns 5 0 }
 
--- "Accepted exactly if each number is so written" and those rules hold
+unfoldable pub outcomeOf : Fault → List ℕ → Outcome
+outcomeOf none ns = accepted (headOf ns) (drop 6 ns)
+outcomeOf (at p) ns = malformed p
+
+-- "Accepted exactly if each number is so written" and the rules hold: if the pieces have no fault
 unfoldable pub slipIn : List ℕ → Outcome
-slipIn bs = cond (allWritten (2 ^ 32) (cut bs)) (slipOf (values (cut bs))) malformed
+slipIn bs = outcomeOf (faultFrom 4 (2 ^ 32) 0 0 6 0 (cut bs)) (values (cut bs))
 
 -- ---- the same as a sentence: bytes are the writing of numbers that keep the rules
 
@@ -61,25 +89,26 @@ pub record IsSlip (bs : List ℕ) (h : Head) (pairs : List ℕ) : Type 0 where
 
 -- ---- what reading a slip answers
 
--- the numbers returned with a refusal: its own, and zeros for ID, scale, a, b and the number of pairs
-abbrev pub refused : ℕ → List ℕ
-refused number = number ∷ 0 ∷ 0 ∷ 0 ∷ 0 ∷ 0 ∷ []
+-- the numbers returned with a refusal: its own, zeros for ID, scale, a, b and the number of pairs, and a place, which is 0 but with 17: "01's line
+-- that a refusal gives only zeros, and demand 1's words on it, are amended for 17 alone"
+abbrev pub refused : ℕ → ℕ → List ℕ
+refused number place = number ∷ 0 ∷ 0 ∷ 0 ∷ 0 ∷ 0 ∷ place ∷ []
 
--- document 01's number and values for each case of the answer; the number is 0 where nothing is refused
+-- the papers' number and values for each case of the answer; the number is 0 where nothing is refused, and then the place is 0 too
 unfoldable pub slipReadNumbers : SlipRead → List ℕ
-slipReadNumbers (Accepted h) = 0 ∷ h .id ∷ h .scale ∷ h .a ∷ h .b ∷ h .pairs ∷ []
-slipReadNumbers Malformed = refused 17
-slipReadNumbers NoRoom = refused 16
+slipReadNumbers (Accepted h) = 0 ∷ h .id ∷ h .scale ∷ h .a ∷ h .b ∷ h .pairs ∷ 0 ∷ []
+slipReadNumbers (Malformed place) = refused 17 place
+slipReadNumbers NoRoom = refused 16 0
 
 -- "in slip reading 17, then 16": what is returned of bytes, given so many places of room
 unfoldable pub numbersFor : ℕ → Outcome → List ℕ
-numbersFor room (accepted h pairs) = cond (ltb room (length pairs)) (refused 16) (0 ∷ h .id ∷ h .scale ∷ h .a ∷ h .b ∷ h .pairs ∷ [])
-numbersFor room malformed = refused 17
+numbersFor room (accepted h pairs) = cond (ltb room (length pairs)) (refused 16 0) (0 ∷ h .id ∷ h .scale ∷ h .a ∷ h .b ∷ h .pairs ∷ 0 ∷ [])
+numbersFor room (malformed place) = refused 17 place
 
 -- "An accepted answer fills the first places and leaves the rest"; with a refusal "lent buffers keep their contents"
 unfoldable pub roomFor : List ℕ → Outcome → List ℕ
 roomFor room (accepted h pairs) = cond (ltb (length room) (length pairs)) room (pairs ++ drop (length pairs) room)
-roomFor room malformed = room
+roomFor room (malformed place) = room
 
 -- the promise of reading bytes into a room: the answer r, and the room after it
 pub record Reads (bs room : List ℕ) (r : SlipRead) (after : List ℕ) : Type 0 where

@@ -1,25 +1,18 @@
 -- How the code steps through a slip, number by number. Nobody has to believe these definitions: they are what the private functions of the crate
 -- promise one another, and `proofs/Found.antt` shows that they come to what `specs/Slip.antt` says.
-use mathlib.Core.Bool.{Bool, true, cond, _&&_}
+use mathlib.Core.Bool.{Bool, cond}
 use mathlib.Core.List.{List, [], _∷_}
 use Prim.Native.Nat.{ℕ, zero, suc, _+_, _*_}
-use lib.Dec.{ltb, leb, eqb}
+use lib.Dec.{eqb}
 use lib.ListN.{length, getD}
 use Rattle.leb128.specs.Reading.{readAt}
 use Rattle.leb128.specs.declared.number.NumberRead.{NumberRead}
 use Rattle.leb128.specs.declared.number.NumberRead.the-variants.{Good, Broken, Short}
+use Rattle.slip.specs.Slip.{allowed}
 use Rattle.slip.specs.declared.read.Checked.{Checked}
 use Rattle.slip.specs.declared.read.Checked.the-variants.{All, Stopped}
 use Rattle.slip.specs.declared.read.SlipScan.{SlipScan}
 use Rattle.slip.specs.declared.read.SlipScan.the-variants.{Slip, Malformed}
-
--- the rule of the number that i numbers stand before, the form among them, after the number prev
-unfoldable pub allowed : ℕ → ℕ → ℕ → Bool
-allowed i prev n =
-    cond (leb 6 i) true
-    (cond (ltb i 3) (ltb 0 n)
-    (cond (eqb i 4) (ltb prev n)
-    (cond (eqb i 5) (ltb 0 n && leb n 1048576) true)))
 
 -- a run of numbers: all of them and the place past them, or the place of the first fault
 pub data NumberRun : Type 0 where

@@ -8,8 +8,8 @@ ghost use mathlib.Core.Path.{_≡_};
 ghost use mathlib.Core.List.{_++_};
 ghost use Prim.Native.Nat.{_≤_, _<_};
 ghost use lib.ListN.{length, drop};
-ghost use Rattle.slip.specs.Slip.{Reads};
-ghost use Rattle.slip.specs.Steps.{allowed, run, checkedOf, valueOf, nextOf, valuesFrom, restIn, scanIn};
+ghost use Rattle.slip.specs.Slip.{allowed, Reads};
+ghost use Rattle.slip.specs.Steps.{run, checkedOf, valueOf, nextOf, valuesFrom, restIn, scanIn};
 
 // Whether the number that i numbers stand before, the form among them, may be n after the number prev.
 fn rule_allows(i: usize, prev: u64, n: u64) -> bool
@@ -177,10 +177,10 @@ fn find_slip(bytes: &[u8]) -> SlipScan
     }
 }
 
-// The answer of `read_slip`: the slip's numbers; or refusal 17, the slip is malformed; or 16, the room is shorter than its pairs.
+// The answer of `read_slip`: the slip's numbers; or refusal 17, the slip is malformed, with the place where it goes wrong; or 16, the room is shorter than its pairs.
 pub enum SlipRead {
     Accepted(Head),
-    Malformed,
+    Malformed(usize),
     NoRoom,
 }
 
@@ -189,7 +189,7 @@ pub fn read_slip(bytes: &[u8], room: &mut [u32]) -> SlipRead
     ensures { λ r. ⌜ Reads (now (bytes .entry)) (now (room .entry)) r (now (room .exit)) ⌝ }
 {
     match find_slip(bytes) {
-        SlipScan::Malformed(_) => SlipRead::Malformed,
+        SlipScan::Malformed(place) => SlipRead::Malformed(place),
         SlipScan::Slip(head, at) => {
             let n = 2 * (head.pairs as usize);
             if room.len() < n {

@@ -2,9 +2,9 @@
 -- Assumes nothing.
 use borrow.Author.Needs.{needs}
 use mathlib.Core.Path.{refl, ap, sym, _∙_}
-use Rattle.slip.specs.Slip.{slipReadNumbers, slipIn}
-use Rattle.capi.proofs.Answered.{too-few, fills}
-use Rattle.capi.proofs.Judged.{read-judged, read-room, head-length}
+use Rattle.slip.specs.Slip.{slipReadNumbers}
+use Rattle.capi.proofs.Answered.{too-few-first, fills-first}
+use Rattle.capi.proofs.Judged.{read-first, read-six, read-room}
 use Rattle.capi.proofs.slips.chaldoref_read_slip.Statement.{statement}
 use Rattle.capi.proofs.slips.chaldoref_read_slip.Tie as tie
 
@@ -15,8 +15,7 @@ or-short-requires : tie.Need-or-short-requires
 or-short-requires c κs = search needs
 
 returns : tie.Need-returns
-returns c =
-    too-few _ _ _ _ _ _ _ _ (read-judged _ _) refl (rw (head-length _) (c .before .before .if1 .taken)) (rw (← c .before .slip-refusal .ensures) (c .or-short .ensures))
+returns c = too-few-first _ _ _ _ _ _ _ _ (read-first _ _) (read-six _ _) refl (c .before .before .if1 .taken) (rw (← c .before .slip-refusal .ensures) (c .or-short .ensures))
 
 read-slip-requires : tie.Need-read-slip-requires
 read-slip-requires c κs = search needs
@@ -45,8 +44,8 @@ slice-aggregate-hand c = search needs
 hand-requires : tie.Need-hand-requires
 hand-requires c κs = search needs
 
-enum-told : tie.Need-enum-told
-enum-told c = search needs
+enum-known-place : tie.Need-enum-known-place
+enum-known-place c = search needs
 
 slice-aggregate-hand-2 : tie.Need-slice-aggregate-hand-2
 slice-aggregate-hand-2 c = search needs
@@ -54,8 +53,8 @@ slice-aggregate-hand-2 c = search needs
 hand-requires-2 : tie.Need-hand-requires-2
 hand-requires-2 c κs = search needs
 
-enum-told-2 : tie.Need-enum-told-2
-enum-told-2 c = search needs
+enum-told : tie.Need-enum-told
+enum-told c = search needs
 
 slice-aggregate-hand-3 : tie.Need-slice-aggregate-hand-3
 slice-aggregate-hand-3 c = search needs
@@ -73,7 +72,7 @@ returns-2 : tie.Need-returns-2
 unfolding slipReadNumbers
 returns-2 c =
     let q = c .before .before .before .before .before .before .before .before .before .before .before .before .before .before .before .read-slip .ensures in
-    fills _ _ _ _ _ _ _ _ _ _ _ (read-judged _ _) (sym (q .numbers) ∙ ap slipReadNumbers (c .before .before .before .before .before .before .before .before .before .before .before .h .given .1))
+    fills-first _ _ _ _ _ _ _ _ _ _ (read-first _ _) (sym (q .numbers) ∙ ap slipReadNumbers (c .before .before .before .before .before .before .before .before .before .before .before .h .given .1))
     (c .before .before .before .before .before .before .before .before .before .before .before .before .before .before .before .before .before .if1 .left)
     (c .before .before .hand .ensures)
     (q .places ∙ read-room _ _)
@@ -87,9 +86,9 @@ same-length-4 c = search needs
 returns-3 : tie.Need-returns-3
 unfolding slipReadNumbers
 returns-3 c =
-    let q = c .before .before .before .before .before .before .before .before .before .read-slip .ensures in
-    fills _ _ _ _ _ _ _ _ _ _ _ (read-judged _ _) (sym (q .numbers) ∙ ap slipReadNumbers (c .before .before .before .before .before .enum-told .given .1))
-    (c .before .before .before .before .before .before .before .before .before .before .before .if1 .left)
+    let q = c .before .before .before .before .before .before .before .before .before .before .read-slip .ensures in
+    fills-first _ _ _ _ _ _ _ _ _ _ (read-first _ _) (sym (q .numbers) ∙ ap slipReadNumbers (c .before .before .before .before .before .before .place .given .1))
+    (c .before .before .before .before .before .before .before .before .before .before .before .before .if1 .left)
     (c .before .before .hand2 .ensures)
     (q .places ∙ read-room _ _)
 
@@ -103,7 +102,7 @@ returns-4 : tie.Need-returns-4
 unfolding slipReadNumbers
 returns-4 c =
     let q = c .before .before .before .before .before .before .before .before .before .read-slip .ensures in
-    fills _ _ _ _ _ _ _ _ _ _ _ (read-judged _ _) (sym (q .numbers) ∙ ap slipReadNumbers (c .before .before .before .before .before .enum-told2 .given .1))
+    fills-first _ _ _ _ _ _ _ _ _ _ (read-first _ _) (sym (q .numbers) ∙ ap slipReadNumbers (c .before .before .before .before .before .enum-told .given .1))
     (c .before .before .before .before .before .before .before .before .before .before .before .if1 .left)
     (c .before .before .hand3 .ensures)
     (q .places ∙ read-room _ _)
@@ -124,10 +123,10 @@ chaldoref-read-slip-spec =
     cast-t19
     slice-aggregate-hand
     hand-requires
-    enum-told
+    enum-known-place
     slice-aggregate-hand-2
     hand-requires-2
-    enum-told-2
+    enum-told
     slice-aggregate-hand-3
     hand-requires-3
     same-length

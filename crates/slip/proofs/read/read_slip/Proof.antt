@@ -10,8 +10,8 @@ use Rattle.slip.proofs.read.read_slip.Tie as tie
 find-slip-requires : tie.Need-find-slip-requires
 find-slip-requires c κs = search needs
 
-enum-told : tie.Need-enum-told
-enum-told c = search needs
+enum-known-place : tie.Need-enum-known-place
+enum-known-place c = search needs
 
 enum-known-head : tie.Need-enum-known-head
 enum-known-head c = search needs
@@ -34,9 +34,9 @@ fill-numbers-requires c κs = search needs
 
 returns-2 : tie.Need-returns-2
 returns-2 c =
-    let f = c .before .before in
+    let f = c .before .before .before in
     let s = f .before .before in
-    reads-malformed _ (now (s .before .args .room)) (found-malformed _ (λ i. s .shared-slice-known .given i .fits) _ (f .find-slip .ensures) _ (c .enum-told .given .1))
+    reads-malformed _ (now (s .before .args .room)) _ (found-malformed _ (λ i. s .shared-slice-known .given i .fits) _ (f .find-slip .ensures) _ (c .before .place .given .1))
 
 same-length : tie.Need-same-length
 same-length c = search needs
@@ -55,7 +55,7 @@ read-slip-spec =
     tie.close
     (tie.spec
     find-slip-requires
-    enum-told
+    enum-known-place
     enum-known-head
     cast-n
     mul-n

@@ -3,7 +3,7 @@
 use Prim.Native.Nat.{_≤_, _<_}
 use native.Mathlib.Omega.{arith}
 use borrow.Author.Tests.{eq-eqb, ne-eqb, lt-ltb, le-ltb, le-leb, lt-leb}
-use Rattle.slip.specs.Steps.{allowed}
+use Rattle.slip.specs.Slip.{allowed}
 use Rattle.slip.proofs.read.rule_allows.Statement.{statement}
 use Rattle.slip.proofs.read.rule_allows.Tie as tie
 
