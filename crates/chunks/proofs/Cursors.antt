@@ -10,8 +10,8 @@ use lib.ListN.{length, drop, getD, replicate, drop-of-length-le}
 use lib.Seq.{drop-drop, getD-drop}
 use borrow.Author.Tests.{eq-eqb, ne-eqb, lt-ltb, le-ltb}
 use Rattle.bigendian.specs.BigEndian.{u32At}
+use Rattle.lists.proofs.Laws.{length-run, drop-in, replicate-cons}
 use Rattle.chunks.specs.Chunks.{Deal, dealsIn, deals, firstOf, dealt, perChunk, descriptionIds}
-use Rattle.lists.proofs.Laws.{length-run}
 use Rattle.chunks.specs.Cursors.{ahead, idsAhead, Valid, Stands, startCursor, loaded, readiedIn, readied, past, cursorIn, cursorAt}
 use Rattle.chunks.specs.declared.ChunkCursor.{ChunkCursor}
 use Rattle.chunks.proofs.Turns.{deals-in, deals-none, deals-next, samples-in, ids-in}
@@ -106,11 +106,6 @@ module _ (s : List ℕ) (chunks : ℕ) where
 
 -- ---- to pass chunks of the run
 
-drop-in : (v : ℕ) (r : List ℕ) (n k : ℕ) → k ≤ n → drop k (replicate n v ++ r) ≡ replicate (n - k) v ++ r
-drop-in v r n zero h = let e : n ≡ n - 0 = omega arith in ap (λ (m : ℕ). replicate m v ++ r) e
-drop-in v r zero (suc k) h = absurd (omega arith)
-drop-in v r (suc n) (suc k) h = let e : n - k ≡ suc n - suc k = omega arith in drop-in v r n k (omega arith) ∙ ap (λ (m : ℕ). replicate m v ++ r) e
-
 module _ (s : List ℕ) (chunks : ℕ) (c : ChunkCursor) (k : ℕ) (h : k ≤ c .remaining) where
   pub past-samples : ahead s chunks (past k c) ≡ drop k (ahead s chunks c)
   unfolding ahead
@@ -132,10 +127,6 @@ unfolding ahead
 ahead-run s chunks c = let z : c .remaining - c .remaining ≡ 0 = omega arith in rw z
 
 -- ---- the chunk at which a cursor stands
-
-replicate-cons : (n v : ℕ) (r : List ℕ) → 0 < n → replicate n v ++ r ≡ v ∷ (replicate (n - 1) v ++ r)
-replicate-cons zero v r h = absurd (omega arith)
-replicate-cons (suc n) v r h = let e : n ≡ suc n - 1 = omega arith in ap (λ (k : ℕ). v ∷ (replicate k v ++ r)) e
 
 module _ (s : List ℕ) (chunks : ℕ) (c : ChunkCursor) (h : 0 < c .remaining) where
   pub ahead-cons : ahead s chunks c ≡ c .per ∷ ahead s chunks (past 1 c)

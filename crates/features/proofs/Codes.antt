@@ -1,15 +1,21 @@
 -- The decision over the codes: each code's feature in a track of the right subtype and of another, and that there is no other code.
 -- Assumes nothing.
 use Prim.Native.Nat.{ℕ}
-use mathlib.Core.Path.{_≡_, sym, _∙_}
+use mathlib.Core.Path.{_≡_, refl, sym, _∙_}
+use mathlib.Core.Bool.{Bool, true, false, cond}
 use mathlib.Core.List.{List}
+use lib.Dec.{eqb}
 use borrow.Author.Tests.{eq-eqb, ne-eqb}
 use Rattle.atoms.specs.Kinds.{vide}
 use Rattle.structure.specs.Track.{subtypeOf}
 use Rattle.track.specs.Track.{Track, trackOf}
-use Rattle.features.specs.declared.rates.Feature.{Feature}
-use Rattle.features.specs.declared.rates.Feature.the-variants.{NotComputed}
-use Rattle.features.specs.Features.{avvb, avab, tvsz, vfps, soun, average, picture, frames, onlyIn, featureOf}
+use Rattle.rates.specs.declared.Feature.{Feature}
+use Rattle.rates.specs.declared.Feature.the-variants.{NotComputed}
+use Rattle.peaks.specs.Peaks.{peakOf, peakIn, rateIn}
+use Rattle.peaks.specs.declared.Peak.{Peak}
+use Rattle.peaks.specs.declared.Peak.the-variants as peaks
+use Rattle.peaks.proofs.Placing.{peak-rate}
+use Rattle.features.specs.Features.{avvb, avab, tvsz, vfps, mvbr, mabr, soun, average, picture, frames, peak, onlyIn, featureOf, peakOnlyIn, peakFor}
 
 module _ (t : List ℕ) (wanted subtype : ℕ) (f : Feature) (s : subtype ≡ subtypeOf t) where
   pub only-yes : subtype ≡ wanted → onlyIn wanted (trackOf t) f ≡ f
@@ -37,6 +43,49 @@ module _ (t : Track) (code : ℕ) where
   unfolding featureOf
   code-vfps e = rw e
 
-  pub code-other : (code ≡ avvb → ⊥) → (code ≡ avab → ⊥) → (code ≡ tvsz → ⊥) → (code ≡ vfps → ⊥) → featureOf t code ≡ NotComputed
+  -- the rate of a peak of tracks of one subtype
+  rate-only : (subtype : ℕ) → rateIn (peakOnlyIn subtype t) ≡ onlyIn subtype t (peak t)
+  unfolding peakOnlyIn onlyIn peak
+  rate-only subtype = by (eqb (t .subtype) subtype)
+    where
+      by : (b : Bool) → rateIn (cond b (peakIn (t .scale) (t .durations) (t .sizes)) peaks.NotComputed) ≡ cond b (peakOf (t .scale) (t .durations) (t .sizes)) NotComputed
+      by true = peak-rate (t .scale) (t .durations) (t .sizes)
+      by false = refl
+
+  pub code-mvbr : code ≡ mvbr → featureOf t code ≡ rateIn (peakFor t code)
+  unfolding featureOf peakFor
+  code-mvbr e = rw e (sym (rate-only vide))
+
+  pub code-mabr : code ≡ mabr → featureOf t code ≡ rateIn (peakFor t code)
+  unfolding featureOf peakFor
+  code-mabr e = rw e (sym (rate-only soun))
+
+  pub code-other : (code ≡ avvb → ⊥) → (code ≡ avab → ⊥) → (code ≡ tvsz → ⊥) → (code ≡ vfps → ⊥) → (code ≡ mvbr → ⊥) → (code ≡ mabr → ⊥)
+      → featureOf t code ≡ NotComputed
   unfolding featureOf
-  code-other a b c d = rw (ne-eqb code avvb a, ne-eqb code avab b, ne-eqb code tvsz c, ne-eqb code vfps d)
+  code-other a b c d e f =
+      rw (ne-eqb code avvb a, ne-eqb code avab b, ne-eqb code tvsz c, ne-eqb code vfps d, ne-eqb code mvbr e, ne-eqb code mabr f)
+
+  -- ---- the peak, by its code
+
+  pub peak-other : (code ≡ mvbr → ⊥) → (code ≡ mabr → ⊥) → peakFor t code ≡ peaks.NotComputed
+  unfolding peakFor
+  peak-other e f = rw (ne-eqb code mvbr e, ne-eqb code mabr f)
+
+-- of a track's bytes, as the code has its subtype
+module _ (t : List ℕ) (code subtype : ℕ) (s : subtype ≡ subtypeOf t) where
+  pub pictures-peak : code ≡ mvbr → subtype ≡ vide → (p : Peak) → p ≡ peakIn (trackOf t .scale) (trackOf t .durations) (trackOf t .sizes) → p ≡ peakFor (trackOf t) code
+  unfolding peakFor peakOnlyIn trackOf
+  pictures-peak c e p q = rw (c, eq-eqb (subtypeOf t) vide (sym s ∙ e)) q
+
+  pub no-pictures-peak : code ≡ mvbr → (subtype ≡ vide → ⊥) → peaks.NotComputed ≡ peakFor (trackOf t) code
+  unfolding peakFor peakOnlyIn trackOf
+  no-pictures-peak c e = rw (c, ne-eqb (subtypeOf t) vide (λ z. e (s ∙ z)))
+
+  pub sound-peak : code ≡ mabr → subtype ≡ soun → (p : Peak) → p ≡ peakIn (trackOf t .scale) (trackOf t .durations) (trackOf t .sizes) → p ≡ peakFor (trackOf t) code
+  unfolding peakFor peakOnlyIn trackOf
+  sound-peak c e p q = rw (c, eq-eqb (subtypeOf t) soun (sym s ∙ e)) q
+
+  pub no-sound-peak : code ≡ mabr → (subtype ≡ soun → ⊥) → peaks.NotComputed ≡ peakFor (trackOf t) code
+  unfolding peakFor peakOnlyIn trackOf
+  no-sound-peak c e = rw (c, ne-eqb (subtypeOf t) soun (λ z. e (s ∙ z)))

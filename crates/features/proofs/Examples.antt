@@ -1,6 +1,6 @@
 -- The paper's numbers, each computed from the definitions.
 -- Assumes nothing.
-use Prim.Native.Nat.{ℕ, _*_}
+use Prim.Native.Nat.{ℕ}
 use mathlib.Core.Path.{_≡_, refl}
 use mathlib.Core.List.{List, [], _∷_, _++_}
 use lib.ListN.{replicate}
@@ -9,9 +9,10 @@ use Rattle.atoms.specs.Kinds.{vide}
 use Rattle.lists.specs.Lists.{sum}
 use Rattle.descriptions.specs.Descriptions.{greatest}
 use Rattle.track.specs.Track.{Track}
-use Rattle.features.specs.declared.rates.Feature.the-variants.{Value, NotComputed}
-use Rattle.features.specs.Rates.{roundUp, valueOf, rateOf}
-use Rattle.features.specs.Features.{avvb, avab, tvsz, vfps, average, picture, frames, onlyIn, featureOf}
+use Rattle.rates.specs.declared.Feature.the-variants.{Value, NotComputed}
+use Rattle.rates.specs.Rates.{roundUp, valueOf, rateOf}
+use Rattle.peaks.specs.Peaks.{peakOf}
+use Rattle.features.specs.Features.{avvb, avab, tvsz, vfps, mvbr, mabr, average, picture, frames, peak, onlyIn, featureOf}
 
 -- the descriptions of pictures of 320 by 240, and of 7 by 65535
 abbrev usual : List ℕ
@@ -58,6 +59,15 @@ tvsz-of-w : featureOf w tvsz ≡ Value 0x014000F0
 unfolding featureOf onlyIn picture greatest valueOf beAt
 tvsz-of-w = refl
 
+-- W lasts less than a second, so that its peak is its average
+mvbr-of-w : featureOf w mvbr ≡ Value 8800
+unfolding featureOf onlyIn peak peakOf rateOf valueOf roundUp
+mvbr-of-w = refl
+
+mabr-of-w : featureOf w mabr ≡ NotComputed
+unfolding featureOf onlyIn
+mabr-of-w = refl
+
 -- the greatest width and the greatest height are of two descriptions
 tvsz-of-two : featureOf (track 600 [] [] (usual ∷ tall ∷ [])) tvsz ≡ Value 0x0140FFFF
 unfolding featureOf onlyIn picture greatest valueOf beAt
@@ -84,29 +94,3 @@ tvsz-none = refl
 another-code : featureOf w 0x41565642 ≡ NotComputed
 unfolding featureOf
 another-code = refl
-
--- a divisor of 0; a numerator of 2^64 whose quotient is small; the greatest value, and one more
-divisor-none : rateOf 1056000 0 ≡ NotComputed
-unfolding rateOf
-divisor-none = refl
-
-numerator-over : rateOf (0x100000000 * 0x100000000) 0x100000000000 ≡ NotComputed
-unfolding rateOf
-numerator-over = refl
-
-value-greatest : rateOf 4294967295 1 ≡ Value 4294967295
-unfolding rateOf valueOf roundUp
-value-greatest = refl
-
-value-over : rateOf 4294967296 1 ≡ NotComputed
-unfolding rateOf valueOf roundUp
-value-over = refl
-
--- an exact quotient, and an inexact one
-exact : roundUp 12 4 ≡ 3
-unfolding roundUp
-exact = refl
-
-inexact : roundUp 13 4 ≡ 4
-unfolding roundUp
-inexact = refl

@@ -4,7 +4,6 @@ use Prim.Native.Nat.{ℕ, _+_, _*_, _<_}
 use mathlib.Core.Path.{_≡_, refl, sym, ap, _∙_}
 use mathlib.Core.List.{List}
 use native.Mathlib.Omega.{arith}
-use native.Mathlib.Nat.{mul-assoc, mul-comm}
 use lib.ListN.{length}
 use borrow.Author.Tests.{eq-eqb, ne-eqb}
 use Rattle.atoms.specs.Kinds.{stts, stsz, stsd, vide}
@@ -17,19 +16,18 @@ use Rattle.structure.specs.Track.{scaleOf, subtypeOf, tableOf}
 use Rattle.structure.proofs.Lengths.{table-short}
 use Rattle.track.specs.Track.{trackOf, leastSize}
 use Rattle.track.specs.Refusals.{totalIn}
-use Rattle.features.specs.declared.rates.Feature.{Feature}
-use Rattle.features.specs.declared.rates.Feature.the-variants.{Value, NotComputed}
-use Rattle.features.specs.Rates.{valueOf, rateOf}
-use Rattle.features.specs.Features.{average, picture, frames}
-use Rattle.features.proofs.Products.{value-small}
+use Rattle.rates.specs.declared.Feature.{Feature}
+use Rattle.rates.specs.declared.Feature.the-variants.{Value, NotComputed}
+use Rattle.rates.specs.Rates.{valueOf, rateOf}
+use Rattle.peaks.specs.Peaks.{peakIn, Timed}
+use Rattle.peaks.specs.declared.Peak.{Peak}
+use Rattle.features.specs.Features.{average, picture, frames, Computable}
+use Rattle.rates.proofs.Products.{value-small}
+use Rattle.rates.proofs.Orders.{eightfold}
 
 -- a table of a track so short that its sizes can be added
 pub fits : (k : ℕ) (t s : List ℕ) → s ≡ tableOf k t → length t < 4294967296 → length s < 4294967296
 fits k t s e h = rw e (omega (arith, table-short k t))
-
--- b × (8 × c) = 8 × b × c
-eightfold : (b c : ℕ) → b * (8 * c) ≡ 8 * b * c
-eightfold b c = sym (mul-assoc b 8 c) ∙ ap (λ (x : ℕ). x * c) (mul-comm b 8)
 
 pub average-is : (t s : List ℕ) (bytes scale total : ℕ) (r : Feature) → s ≡ tableOf stsz t → bytes ≡ sum (sizes s) → scale ≡ scaleOf t → total ≡ totalIn t
     → r ≡ rateOf (bytes * (8 * scale)) total → r ≡ average (trackOf t)
@@ -41,6 +39,16 @@ pub frames-are : (t s : List ℕ) (scale least : ℕ) (r : Feature) → s ≡ ta
     → r ≡ rateOf (65536 * scale) least → r ≡ frames (trackOf t)
 unfolding frames trackOf
 frames-are t s scale least r p b c e = e ∙ rw (b, p, c) refl
+
+-- the time scale and the tables of a track, as the code has them
+module _ (t d z : List ℕ) (scale : ℕ) where
+  pub peak-timed : Computable t → d ≡ tableOf stts t → z ≡ tableOf stsz t → scale ≡ scaleOf t → Timed scale (perSample d) (sizes z)
+  peak-timed h a b c = rw (a, b, c) (h .timed)
+
+  pub peak-is : (p : Peak) → d ≡ tableOf stts t → z ≡ tableOf stsz t → scale ≡ scaleOf t → p ≡ peakIn scale (perSample d) (sizes z)
+      → p ≡ peakIn (trackOf t .scale) (trackOf t .durations) (trackOf t .sizes)
+  unfolding trackOf
+  peak-is p a b c e = e ∙ rw (a, b, c) refl
 
 -- a track of pictures, its descriptions of at least 36 bytes each
 module _ (t s : List ℕ) (p : s ≡ tableOf stsd t) (v : subtypeOf t ≡ vide) (n : ℕ) (e : n ≡ length (descriptions 36 s)) where

@@ -1,9 +1,9 @@
 // Features of a track: rates, rounded up, and the greatest picture.
-pub mod rates;
-
 use atoms::kinds;
 use descriptions::description_count;
 use descriptions::greatest_size;
+use peaks::Peak;
+use peaks::peak_of;
 use rates::Feature;
 use rates::rate;
 use runs::least_duration;
@@ -19,7 +19,8 @@ ghost use Rattle.atoms.specs.Kinds.{vide};
 ghost use Rattle.structure.specs.Track.{subtypeOf};
 ghost use Rattle.track.specs.Track.{trackOf};
 ghost use Rattle.track.specs.Refusals.{totalIn};
-ghost use Rattle.features.specs.Features.{average, picture, frames, featureOf};
+ghost use Rattle.peaks.specs.Peaks.{peakIn, rateIn};
+ghost use Rattle.features.specs.Features.{average, picture, frames, featureOf, peakFor, Computable};
 
 // The codes of the features, and the subtype of sound.
 pub const AVVB: u32 = 0x61767662;
@@ -30,7 +31,11 @@ pub const TVSZ: u32 = 0x7476737a;
 
 pub const VFPS: u32 = 0x76667073;
 
-const SOUN: u32 = 0x736f756e;
+pub const MVBR: u32 = 0x6d766272;
+
+pub const MABR: u32 = 0x6d616272;
+
+pub const SOUN: u32 = 0x736f756e;
 
 // The average rate of the media, in bits a second.
 fn average_rate(trak: &[u8]) -> Feature
@@ -63,9 +68,59 @@ fn frame_rate(trak: &[u8]) -> Feature
     rate(65536, media_scale(trak) as u64, least as u64)
 }
 
+// The highest rate over a second, and where it is.
+fn peak_in(trak: &[u8]) -> Peak
+    requires { ⌜ Computable (now trak) ⌝ }
+    ensures { λ r. ⌜ r ≡ peakIn (trackOf (now (trak .entry)) .scale) (trackOf (now (trak .entry)) .durations) (trackOf (now (trak .entry)) .sizes) ⌝ }
+{
+    peak_of(
+        table(trak, kinds::STTS),
+        table(trak, kinds::STSZ),
+        media_scale(trak),
+    )
+}
+
+// The peak of a track, by the code of its feature.
+pub fn peak_for(trak: &[u8], code: u32) -> Peak
+    requires { ⌜ Computable (now trak) ⌝ }
+    ensures { λ r. ⌜ r ≡ peakFor (trackOf (now (trak .entry))) code ⌝ }
+{
+    let kind = subtype(trak);
+    match code {
+        MVBR => {
+            if kind == kinds::VIDE {
+                return peak_in(trak);
+            }
+            Peak::NotComputed
+        }
+        MABR => {
+            if kind == SOUN {
+                return peak_in(trak);
+            }
+            Peak::NotComputed
+        }
+        _ => Peak::NotComputed,
+    }
+}
+
+// Its rate alone.
+fn peak_rate(trak: &[u8], code: u32) -> Feature
+    requires { ⌜ Computable (now trak) ⌝ }
+    ensures { λ r. ⌜ r ≡ rateIn (peakFor (trackOf (now (trak .entry))) code) ⌝ }
+{
+    match peak_for(trak, code) {
+        Peak::Highest {
+            rate,
+            first: _,
+            count: _,
+        } => Feature::Value(rate),
+        Peak::NotComputed => Feature::NotComputed,
+    }
+}
+
 // A feature of a track, by its code.
 pub fn feature_of(trak: &[u8], code: u32) -> Feature
-    requires { ⌜ (length (now trak) < 2 ^ 32) × (totalIn (now trak) < 4294967296) ⌝ }
+    requires { ⌜ Computable (now trak) ⌝ }
     ensures { λ r. ⌜ r ≡ featureOf (trackOf (now (trak .entry))) code ⌝ }
 {
     let kind = subtype(trak);
@@ -94,6 +149,8 @@ pub fn feature_of(trak: &[u8], code: u32) -> Feature
             }
             Feature::NotComputed
         }
+        MVBR => peak_rate(trak, code),
+        MABR => peak_rate(trak, code),
         _ => Feature::NotComputed,
     }
 }

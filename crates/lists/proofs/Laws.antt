@@ -201,6 +201,17 @@ adding-past m ds n v r total h a = record {
   bounded = omega (arith, ap (λ (k : ℕ). k * m) (length-run v r n) ∙ add-mul n (length r) m, mul-le-mul-left n h);
 }
 
+-- ---- a run cut after some of its numbers
+
+pub drop-in : (v : ℕ) (r : List ℕ) (n k : ℕ) → k ≤ n → drop k (replicate n v ++ r) ≡ replicate (n - k) v ++ r
+drop-in v r n zero h = let e : n ≡ n - 0 = omega arith in ap (λ (m : ℕ). replicate m v ++ r) e
+drop-in v r zero (suc k) h = absurd (omega arith)
+drop-in v r (suc n) (suc k) h = let e : n - k ≡ suc n - suc k = omega arith in drop-in v r n k (omega arith) ∙ ap (λ (m : ℕ). replicate m v ++ r) e
+
+pub replicate-cons : (n v : ℕ) (r : List ℕ) → 0 < n → replicate n v ++ r ≡ v ∷ (replicate (n - 1) v ++ r)
+replicate-cons zero v r h = absurd (omega arith)
+replicate-cons (suc n) v r h = let e : n ≡ suc n - 1 = omega arith in ap (λ (k : ℕ). v ∷ (replicate k v ++ r)) e
+
 -- ---- parts of a run, added
 
 pub replicate-drop : (n v i : ℕ) → i ≤ n → drop i (replicate n v) ≡ replicate (n - i) v

@@ -23,6 +23,34 @@ before-le ds zero = omega arith
 before-le [] (suc i) = omega arith
 before-le (d ∷ ds) (suc i) = omega (arith, before-le ds i)
 
+pub before-mono : (ds : List ℕ) (i j : ℕ) → i ≤ j → before ds i ≤ before ds j
+before-mono ds zero j h = omega arith
+before-mono ds (suc i) zero h = absurd (omega arith)
+before-mono [] (suc i) (suc j) h = omega arith
+before-mono (d ∷ ds) (suc i) (suc j) h = omega (arith, before-mono ds i j (omega arith))
+
+-- from the end on, all are before
+pub before-all : (ds : List ℕ) (i : ℕ) → length ds ≤ i → before ds i ≡ sum ds
+before-all [] zero h = refl
+before-all [] (suc i) h = refl
+before-all (d ∷ ds) zero h = absurd (omega arith)
+before-all (d ∷ ds) (suc i) h = omega (arith, before-all ds i (omega arith))
+
+before-nil : (i : ℕ) → before [] i ≡ 0
+before-nil zero = refl
+before-nil (suc i) = refl
+
+-- what is before an index, and from there on
+pub before-drop : (ds : List ℕ) (i n : ℕ) → before ds i + before (drop i ds) n ≡ before ds (i + n)
+before-drop ds zero n = let e : n ≡ 0 + n = omega arith in omega (arith, ap (before ds) e)
+before-drop [] (suc i) n = omega (arith, before-nil n, before-nil (suc i + n))
+before-drop (d ∷ ds) (suc i) n = let e : suc i + n ≡ suc (i + n) = omega arith in omega (arith, before-drop ds i n, ap (before (d ∷ ds)) e)
+
+pub sum-drop : (ds : List ℕ) (i : ℕ) → before ds i + sum (drop i ds) ≡ sum ds
+sum-drop ds zero = omega arith
+sum-drop [] (suc i) = refl
+sum-drop (d ∷ ds) (suc i) = omega (arith, sum-drop ds i)
+
 pub past-end : (ds : List ℕ) (i : ℕ) → length ds ≤ i → getD ds i 0 ≡ 0
 past-end [] i h = refl
 past-end (d ∷ ds) zero h = absurd (omega arith)

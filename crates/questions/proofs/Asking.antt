@@ -1,21 +1,28 @@
 -- The track that is asked: where neither the file nor the ID is refused it is an accepted track of the file, and no longer than the file.
 -- Assumes nothing.
 use Prim.Native.Nat.{ℕ, suc, _≤_, _<_, _^_}
-use mathlib.Core.Path.{_≡_, refl, sym, _∙_}
+use mathlib.Core.Path.{_≡_, refl, sym, ap, _∙_}
 use mathlib.Core.List.{List, [], _∷_, map}
 use mathlib.Core.Bool.{Bool, true, false, cond}
 use native.Mathlib.Omega.{arith}
+use native.Mathlib.Decide.{ℕ-discrete}
 use borrow.Author.Tests.{eq-eqb, ne-eqb}
-use lib.ListN.{length}
+use lib.ListN.{length, drop, length-drop, length-replicate}
 use lib.Dec.{eqb}
 use Rattle.lists.proofs.Booleans.{cond-zero}
-use Rattle.words.specs.Words.{listed}
-use Rattle.structure.specs.Track.{idOf, tableOf}
+use Rattle.bigendian.specs.BigEndian.{u32At}
+use Rattle.atoms.specs.Kinds.{stsz}
+use Rattle.words.specs.Words.{listed, sizes}
+use Rattle.words.proofs.Turns.{length-words, sizes-listed, sizes-common}
+use Rattle.structure.specs.Track.{idOf, tableOf, samplesOf}
 use Rattle.structure.specs.Movie.{moovOf, movieScale, tracksOf}
 use Rattle.structure.specs.Rows.{orElse}
 use Rattle.structure.proofs.Callers.{Each, track-at, none-else}
+use Rattle.structure.proofs.Shaped.{Shaped}
 use Rattle.structure.proofs.Lengths.{table-short, track-short}
 use Rattle.track.specs.Refusals.{totalIn}
+use Rattle.track.proofs.Agreed.{agreed-tables}
+use Rattle.features.specs.Features.{Computable}
 use Rattle.movie.specs.Refusals.{fileRefusal}
 use Rattle.movie.specs.Tracks.{withId, hasTrack, trackWith}
 use Rattle.movie.proofs.Accepted.{Accepted, AcceptedFile, accepted}
@@ -63,6 +70,15 @@ asked s id e =
 
 -- ---- the same, from what the code has
 
+-- as many sizes as the table counts
+pub sizes-count : (t : List ℕ) → Shaped t → length (sizes (tableOf stsz t)) ≡ samplesOf t
+sizes-count t h =
+    let z = tableOf stsz t in
+    elim (ℕ-discrete (u32At z 12) 0) [
+      | yes e ↦ omega (arith, ap length (sizes-listed z refl e), length-words (drop 20 z), length-drop 20 z, h .stsz-size e)
+      | no e ↦ ap length (sizes-common z refl e) ∙ length-replicate (u32At z 16) (u32At z 12)
+    ]
+
 module _ (s t : List ℕ) (id r : ℕ) (e : r ≡ askRefusal s id) (z : r ≡ 0) (d : t ≡ trackAsked s id) where
   pub asked-track : Accepted (movieScale (moovOf s)) (length s) t
   asked-track = rw d (asked s id (sym e ∙ z) .track)
@@ -72,6 +88,22 @@ module _ (s t : List ℕ) (id r : ℕ) (e : r ≡ askRefusal s id) (z : r ≡ 0)
 
   pub asked-total : totalIn t < 4294967296
   asked-total = omega (arith, asked-track .total-fits)
+
+  -- its features can be computed
+  pub asked-computable : Computable t
+  unfolding totalIn
+  asked-computable =
+      let a = asked-track in
+      let g = agreed-tables t (a .agree) in
+      record {
+        short = asked-short;
+        timed = record {
+          some-scale = omega (arith, a .some-scale);
+          total-fits = asked-total;
+          few = omega (arith, g .counted, a .shape .few-samples);
+          agree = sizes-count t (a .shape) ∙ sym (g .counted);
+        };
+      }
 
 -- a table of it
 pub table-fits : (k : ℕ) (t x : List ℕ) → x ≡ tableOf k t → length t < 2 ^ 32 → length x < 2 ^ 32

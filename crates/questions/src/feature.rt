@@ -1,10 +1,12 @@
-// A feature of a track, by its code.
+// A feature of a track, by its code, and where its peak is.
 use super::ask_refusal;
 use super::track_asked;
 use features::feature_of;
-use features::rates::Feature;
+use features::peak_for;
+use peaks::Peak;
+use rates::Feature;
 ghost use mathlib.Core.Path.{_≡_};
-ghost use Rattle.questions.specs.Feature.{toValue, Computes};
+ghost use Rattle.questions.specs.Feature.{toValue, Computes, toRun, Locates};
 
 // The answer of `feature_by_code`: the feature's value; or the number of a refusal.
 pub enum FeatureAnswer {
@@ -30,4 +32,35 @@ pub fn feature_by_code(file: &[u8], id: u32, code: u32) -> FeatureAnswer
         return FeatureAnswer::Refused(refused);
     }
     to_value(feature_of(track_asked(file, id), code))
+}
+
+// The answer of `peak_by_code`: the number of the first sample of the run with the highest rate, from 1, and how many samples that run has; or the number
+// of a refusal.
+pub enum PeakAnswer {
+    Run(u32, u32),
+    Refused(u32),
+}
+
+fn to_run(p: Peak) -> PeakAnswer
+    ensures { λ r. ⌜ r ≡ toRun p ⌝ }
+{
+    match p {
+        Peak::Highest {
+            rate: _,
+            first,
+            count,
+        } => PeakAnswer::Run(first, count),
+        Peak::NotComputed => PeakAnswer::Refused(18),
+    }
+}
+
+// Where a track's highest rate over a second is, by the feature's code.
+pub fn peak_by_code(file: &[u8], id: u32, code: u32) -> PeakAnswer
+    ensures { λ r. ⌜ Locates (now (file .entry)) id code r ⌝ }
+{
+    let refused = ask_refusal(file, id);
+    if refused != 0 {
+        return PeakAnswer::Refused(refused);
+    }
+    to_run(peak_for(track_asked(file, id), code))
 }

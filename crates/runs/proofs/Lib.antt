@@ -1,3 +1,4 @@
+pub mod Cursors
 pub mod Leasts
 pub mod Sentences
 pub mod Sums

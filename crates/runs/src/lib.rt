@@ -1,4 +1,6 @@
 // Tables of runs, stts and ctts, read as they stand in the file: one pass each, never expanded. A sample is named by its index from 0.
+pub mod cursor;
+
 use bigendian::after;
 use bigendian::i32_at;
 use bigendian::u32_at;

@@ -2,7 +2,8 @@
 -- Assumes nothing.
 use borrow.Author.Needs.{needs}
 use mathlib.Core.Path.{sym, _∙_}
-use Rattle.features.proofs.Codes.{only-yes, only-no, code-avvb, code-avab, code-tvsz, code-vfps, code-other}
+use Rattle.track.specs.Refusals.{totalIn}
+use Rattle.features.proofs.Codes.{only-yes, only-no, code-avvb, code-avab, code-tvsz, code-vfps, code-mvbr, code-mabr, code-other}
 use Rattle.features.proofs.feature_of.Statement.{statement}
 use Rattle.features.proofs.feature_of.Tie as tie
 
@@ -10,6 +11,7 @@ subtype-requires : tie.Need-subtype-requires
 subtype-requires c κs = search needs
 
 average-rate-requires : tie.Need-average-rate-requires
+unfolding totalIn
 average-rate-requires c κs = search needs
 
 returns : tie.Need-returns
@@ -18,6 +20,7 @@ returns c =
     c .average-rate .ensures ∙ sym (code-avvb _ _ (m .match .keys1) ∙ only-yes _ _ _ _ (m .before .subtype .ensures) (c .before .if1 .taken))
 
 average-rate-requires-2 : tie.Need-average-rate-requires-2
+unfolding totalIn
 average-rate-requires-2 c κs = search needs
 
 returns-2 : tie.Need-returns-2
@@ -41,6 +44,12 @@ returns-4 c =
     let m = c .before .before in
     c .frame-rate .ensures ∙ sym (code-vfps _ _ (m .match .keys4) ∙ only-yes _ _ _ _ (m .before .subtype .ensures) (c .before .if4 .taken))
 
+peak-rate-requires : tie.Need-peak-rate-requires
+peak-rate-requires c κs = search needs
+
+peak-rate-requires-2 : tie.Need-peak-rate-requires-2
+peak-rate-requires-2 c κs = search needs
+
 returns-5 : tie.Need-returns-5
 returns-5 c = let m = c .before in sym (code-avvb _ _ (m .match .keys1) ∙ only-no _ _ _ _ (m .before .subtype .ensures) (c .if1 .left))
 
@@ -54,7 +63,13 @@ returns-8 : tie.Need-returns-8
 returns-8 c = let m = c .before in sym (code-vfps _ _ (m .match .keys4) ∙ only-no _ _ _ _ (m .before .subtype .ensures) (c .if4 .left))
 
 returns-9 : tie.Need-returns-9
-returns-9 c = let r = c .match .rest in sym (code-other _ _ (r .0 .0 .0 .1) (r .0 .0 .1) (r .0 .1) (r .1))
+returns-9 c = c .peak-rate .ensures ∙ sym (code-mvbr _ _ (c .before .match .keys5))
+
+returns-10 : tie.Need-returns-10
+returns-10 c = c .peak-rate2 .ensures ∙ sym (code-mabr _ _ (c .before .match .keys6))
+
+returns-11 : tie.Need-returns-11
+returns-11 c = let r = c .match .rest in sym (code-other _ _ (r .0 .0 .0 .0 .0 .1) (r .0 .0 .0 .0 .1) (r .0 .0 .0 .1) (r .0 .0 .1) (r .0 .1) (r .1))
 
 pub feature-of-spec : {M : Type 1} → statement M
 feature-of-spec =
@@ -69,8 +84,12 @@ feature-of-spec =
     returns-3
     frame-rate-requires
     returns-4
+    peak-rate-requires
+    peak-rate-requires-2
     returns-5
     returns-6
     returns-7
     returns-8
-    returns-9)
+    returns-9
+    returns-10
+    returns-11)

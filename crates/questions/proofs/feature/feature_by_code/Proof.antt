@@ -1,7 +1,7 @@
 -- `questions::feature::feature_by_code` meets its contract: the feature is computed where the track is accepted.
 -- Assumes nothing.
 use borrow.Author.Needs.{needs}
-use Rattle.questions.proofs.Asking.{asked-short, asked-total}
+use Rattle.questions.proofs.Asking.{asked-computable}
 use Rattle.questions.proofs.Computing.{not-computed, computed}
 use Rattle.questions.proofs.feature.feature_by_code.Statement.{statement}
 use Rattle.questions.proofs.feature.feature_by_code.Tie as tie
@@ -16,7 +16,7 @@ track-asked-requires : tie.Need-track-asked-requires
 track-asked-requires c κs = search needs
 
 feature-of-requires : tie.Need-feature-of-requires
-feature-of-requires c κs = let k = c in (asked-short _ _ _ _ (k .before .before .ask-refusal .ensures) (k .before .if1 .left) (k .track-asked .ensures), asked-total _ _ _ _ (k .before .before .ask-refusal .ensures) (k .before .if1 .left) (k .track-asked .ensures))
+feature-of-requires c κs = let i = c .before in asked-computable _ _ _ _ (i .before .ask-refusal .ensures) (i .if1 .left) (c .track-asked .ensures)
 
 to-value-requires : tie.Need-to-value-requires
 to-value-requires c κs = search needs

@@ -1,0 +1,32 @@
+-- `features::peak_in` meets its contract: its calls return the parts that the definition is made of.
+-- Assumes nothing.
+use borrow.Author.Needs.{needs}
+use Rattle.features.proofs.Fields.{peak-timed, peak-is}
+use Rattle.features.proofs.peak_in.Statement.{statement}
+use Rattle.features.proofs.peak_in.Tie as tie
+
+table-requires : tie.Need-table-requires
+table-requires c κs = search needs
+
+table-requires-2 : tie.Need-table-requires-2
+table-requires-2 c κs = search needs
+
+media-scale-requires : tie.Need-media-scale-requires
+media-scale-requires c κs = search needs
+
+peak-of-requires : tie.Need-peak-of-requires
+peak-of-requires c κs =
+    let z = c .before in
+    let t = z .before in
+    peak-timed _ _ _ _ (t .before .before .pre) (t .table .ensures) (z .table2 .ensures) (c .media-scale .ensures)
+
+returns : tie.Need-returns
+returns c =
+    let m = c .before in
+    let z = m .before in
+    peak-is _ _ _ _ _ (z .before .table .ensures) (z .table2 .ensures) (m .media-scale .ensures) (c .peak-of .ensures)
+
+pub peak-in-spec : {M : Type 1} → statement M
+peak-in-spec =
+    tie.close
+    (tie.spec table-requires table-requires-2 media-scale-requires peak-of-requires returns)

@@ -1,0 +1,42 @@
+-- Peaks of small tracks, each computed from the definitions.
+-- Assumes nothing.
+use Prim.Native.Nat.{ℕ}
+use mathlib.Core.Path.{_≡_, refl}
+use mathlib.Core.List.{[], _∷_}
+use Rattle.rates.specs.Rates.{roundUp, valueOf, rateOf}
+use Rattle.peaks.specs.Peaks.{peakOf, peakIn}
+use Rattle.peaks.specs.declared.Peak.the-variants.{Highest, NotComputed}
+
+-- film W lasts less than a second: the whole track, as its average
+of-w : peakIn 600 (24 ∷ 24 ∷ 24 ∷ 48 ∷ []) (100 ∷ 50 ∷ 0 ∷ 70 ∷ []) ≡ Highest 8800 1 4
+unfolding peakIn peakOf rateOf valueOf roundUp
+of-w = refl
+
+-- a total of just the scale is one run
+at-scale : peakIn 120 (24 ∷ 24 ∷ 24 ∷ 48 ∷ []) (100 ∷ 50 ∷ 0 ∷ 70 ∷ []) ≡ Highest 1760 1 4
+unfolding peakIn peakOf rateOf valueOf roundUp
+at-scale = refl
+
+-- the runs of samples 1 to 3 last 2, 2 and 3: 8 × 3, 8 × 9 and 8 × 8 × 2 / 3 bits a second. Sample 4's never gets there
+burst : peakIn 2 (1 ∷ 1 ∷ 1 ∷ 2 ∷ []) (1 ∷ 2 ∷ 7 ∷ 1 ∷ []) ≡ Highest 72 2 2
+unfolding peakIn peakOf rateOf valueOf roundUp
+burst = refl
+
+-- of equal rates the first; a run may start with a sample of no duration, and its bytes count
+first-of-equals : peakIn 2 (2 ∷ 0 ∷ 2 ∷ 2 ∷ []) (5 ∷ 1 ∷ 5 ∷ 6 ∷ []) ≡ Highest 48 2 2
+unfolding peakIn peakOf rateOf valueOf roundUp
+first-of-equals = refl
+
+-- no samples, and none that lasts
+no-samples : peakIn 600 [] [] ≡ NotComputed
+unfolding peakIn peakOf rateOf
+no-samples = refl
+
+no-duration : peakIn 600 (0 ∷ 0 ∷ []) (9 ∷ 9 ∷ []) ≡ NotComputed
+unfolding peakIn peakOf rateOf
+no-duration = refl
+
+-- one run over 4,294,967,295 bits a second, and the feature can't be computed
+one-over : peakIn 1 (1 ∷ 1 ∷ []) (1 ∷ 536870912 ∷ []) ≡ NotComputed
+unfolding peakIn peakOf rateOf valueOf roundUp
+one-over = refl

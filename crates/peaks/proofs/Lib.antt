@@ -1,0 +1,8 @@
+pub mod Sentences
+pub mod Bests
+pub mod Sliding
+pub mod Overs
+pub mod Passing
+pub mod Skipping
+pub mod Placing
+mod Examples

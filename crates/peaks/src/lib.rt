@@ -1,0 +1,325 @@
+// The highest rate over a second: one pass over stts and stsz with two positions, the ends of a window, that only move forward. The tables are read
+// as they stand in the file and never expanded.
+use bigendian::after;
+use bigendian::u32_at;
+use rates::Feature;
+use rates::rate;
+use runs::cursor::RunCursor;
+use runs::cursor::run_pass;
+use runs::cursor::run_ready;
+use runs::cursor::run_start;
+use words::size_of;
+ghost use mathlib.Core.Path.{_≡_};
+ghost use mathlib.Core.Bool.{true};
+ghost use Prim.Native.Nat.{_+_, _-_, _*_, _≤_, _<_};
+ghost use Rattle.runs.specs.Runs.{perSample};
+ghost use lib.ListN.{length};
+ghost use Rattle.words.specs.Words.{wordsIn, sizes};
+ghost use Rattle.peaks.specs.Peaks.{peakIn, Timed};
+ghost use Rattle.peaks.specs.Windows.{startWindow, grownBy, Slides, Reaches, ratedRun, IsRated, Raises, toPeak};
+ghost use Rattle.peaks.specs.Slides.{Stays, SlidOver, MaySlide, Slid, Levels, slidBy, Absorbs, Skips};
+
+// The samples from index `first` up to, not including, `stop`: how long they last, their bytes, and a cursor of stts at each end.
+pub struct Window {
+    pub tail: RunCursor,
+    pub head: RunCursor,
+    pub first: u32,
+    pub stop: u32,
+    pub span: u64,
+    pub bytes: u64,
+}
+
+// A run with its rate: the number of its first sample, from 1, how many it has, their bytes, and how long they last.
+pub struct RatedRun {
+    pub rate: u32,
+    pub first: u32,
+    pub count: u32,
+    pub bytes: u64,
+    pub span: u64,
+}
+
+// The best run so far, or that the rate of one cannot be computed.
+pub enum Best {
+    Run(RatedRun),
+    NotComputed,
+}
+
+// The highest rate, the number of the first sample whose run has it, from 1, and how many samples that run has; or that it cannot be computed.
+pub enum Peak {
+    Highest { rate: u32, first: u32, count: u32 },
+    NotComputed,
+}
+
+// The window before the first sample.
+fn start_window(stts: &[u8]) -> Window
+    ensures { λ r. ⌜ r ≡ startWindow (now (stts .entry)) ⌝ }
+{
+    let c = run_ready(stts, run_start());
+    Window {
+        tail: c,
+        head: c,
+        first: 0,
+        stop: 0,
+        span: 0,
+        bytes: 0,
+    }
+}
+
+// One sample more at the head.
+fn grown(stts: &[u8], w: Window, size: u32) -> Window
+    requires { ⌜ (w .stop < 4294967295) × (w .span < 4294967296) × (w .bytes < 4611686018427387904) ⌝ }
+    ensures { λ r. ⌜ r ≡ grownBy (now (stts .entry)) size w ⌝ }
+{
+    let tail = w.tail;
+    let head = w.head;
+    Window {
+        tail,
+        head: run_ready(stts, run_pass(head, 1)),
+        first: w.first,
+        stop: w.stop + 1,
+        span: w.span + head.each as u64,
+        bytes: w.bytes + size as u64,
+    }
+}
+
+// Samples are taken in at the head until they last a second, while there are any.
+fn extended(stts: &[u8], stsz: &[u8], w: Window, scale: u32) -> Window
+    requires { ⌜ Slides scale (now stts) (now stsz) w × Timed scale (perSample (now stts)) (sizes (now stsz)) ⌝ }
+    ensures { λ r. ⌜ Reaches scale (now (stts .entry)) (now (stsz .entry)) (w .first) r ⌝ }
+{
+    let mut r = w;
+    while r.span < scale as u64 {
+        let head = r.head;
+        if head.count == 0 {
+            return r;
+        }
+        r = grown(stts, r, size_of(stsz, r.stop));
+    }
+    r
+}
+
+// The window of the next sample: one sample less at the tail, and as many more at the head as make up a second.
+fn next_window(stts: &[u8], stsz: &[u8], w: Window, scale: u32) -> Window
+    requires { ⌜ Slides scale (now stts) (now stsz) w × Timed scale (perSample (now stts)) (sizes (now stsz)) × (scale ≤ w .span) ⌝ }
+    ensures { λ r. ⌜ Reaches scale (now (stts .entry)) (now (stsz .entry)) (w .first + 1) r ⌝ }
+{
+    let tail = w.tail;
+    let head = w.head;
+    let first = w.first;
+    let rest = Window {
+        tail: run_ready(stts, run_pass(tail, 1)),
+        head,
+        first: first + 1,
+        stop: w.stop,
+        span: w.span - tail.each as u64,
+        bytes: w.bytes - size_of(stsz, first) as u64,
+    };
+    extended(stts, stsz, rest, scale)
+}
+
+// A window's run with its rate.
+fn rated(w: Window, scale: u32) -> Best
+    requires { ⌜ (w .first ≤ w .stop) × (w .stop ≤ 1048576) × (w .span < 4294967296) ⌝ }
+    ensures { λ r. ⌜ (r ≡ ratedRun scale (w .first) (w .stop - w .first) (w .bytes) (w .span)) × IsRated scale r ⌝ }
+{
+    let first = w.first;
+    let bytes = w.bytes;
+    let span = w.span;
+    match rate(bytes, 8 * (scale as u64), span) {
+        Feature::Value(v) => Best::Run(RatedRun {
+            rate: v,
+            first: first + 1,
+            count: w.stop - first,
+            bytes,
+            span,
+        }),
+        Feature::NotComputed => Best::NotComputed,
+    }
+}
+
+// Whether so many bytes in so long are, by cross-multiplication, no more a second than another run's. Where that is not told in 64 bits, the answer is no.
+fn is_no_higher(bytes: u64, span: u64, other: RatedRun) -> bool
+    requires { ⌜ (span < 4294967296) × (other .span < 4294967296) ⌝ }
+    ensures { λ r. ⌜ (r ≡ true → bytes * other .span ≤ other .bytes * span) ⌝ }
+{
+    if 4294967295 < bytes {
+        return false;
+    }
+    if 4294967295 < other.bytes {
+        return false;
+    }
+    bytes * other.span <= other.bytes * span
+}
+
+// The better of the best run so far and a window's. Only a run that may be higher has its rate computed.
+fn raised(best: Best, w: Window, scale: u32) -> Best
+    requires { ⌜ IsRated scale best × (w .first ≤ w .stop) × (w .stop ≤ 1048576) × (0 < w .span) × (w .span < 4294967296) ⌝ }
+    ensures { λ r. ⌜ Raises scale best w r ⌝ }
+{
+    let Best::Run(b) = best else {
+        return Best::NotComputed;
+    };
+    if is_no_higher(w.bytes, w.span, b) {
+        return Best::Run(b);
+    }
+    let Best::Run(r) = rated(w, scale) else {
+        return Best::NotComputed;
+    };
+    if b.rate < r.rate {
+        return Best::Run(r);
+    }
+    Best::Run(b)
+}
+
+// How far a window slides, and its bytes there.
+pub struct Slide {
+    pub moved: u32,
+    pub bytes: u64,
+}
+
+// Over listed sizes, those at the window's tail and those at its head: while its bytes are no more than `most`.
+fn slide_listed(tails: &[u8], heads: &[u8], bytes: u64, most: u64) -> Slide
+    requires { ⌜ Stays (wordsIn (now tails)) (wordsIn (now heads)) bytes most × (length (now heads) ≤ length (now tails)) ⌝ }
+    ensures { λ r. ⌜ SlidOver (wordsIn (now (tails .entry))) (wordsIn (now (heads .entry))) bytes most r ⌝ }
+{
+    let mut t = tails;
+    let mut h = heads;
+    let mut moved: u32 = 0;
+    let mut total = bytes;
+    while 4 <= h.len() {
+        let next = total + u32_at(h, 0) as u64 - u32_at(t, 0) as u64;
+        if most < next {
+            return Slide {
+                moved,
+                bytes: total,
+            };
+        }
+        total = next;
+        moved += 1;
+        t = &t[4..];
+        h = &h[4..];
+    }
+    Slide {
+        moved,
+        bytes: total,
+    }
+}
+
+// A window from index `first` up to `stop`, over as many samples as `steps`. With a common size its bytes stay the same.
+fn slide_over(stsz: &[u8], first: u32, stop: u32, steps: u32, bytes: u64, most: u64) -> Slide
+    requires { ⌜ MaySlide (sizes (now stsz)) first stop steps bytes most ⌝ }
+    ensures { λ r. ⌜ Slid (sizes (now (stsz .entry))) first stop steps bytes most r ⌝ }
+{
+    if u32_at(stsz, 12) != 0 {
+        return Slide {
+            moved: steps,
+            bytes,
+        };
+    }
+    let part = after(stsz, 20);
+    let heads = after(part, (stop as usize) * 4);
+    let end = (steps as usize) * 4;
+    slide_listed(
+        after(part, (first as usize) * 4),
+        &heads[..end],
+        bytes,
+        most,
+    )
+}
+
+// The most bytes in so long that are no more a second than a run's; 0 where that is not told in 64 bits.
+fn most_bytes(best: RatedRun, span: u64) -> u64
+    requires { ⌜ (0 < best .span) × (span < 4294967296) ⌝ }
+    ensures { λ r. ⌜ r * best .span ≤ best .bytes * span ⌝ }
+{
+    if 4294967295 < best.bytes {
+        return 0;
+    }
+    best.bytes * span / best.span
+}
+
+// How many samples of one duration lie ahead of both ends of a window; 0 where the next sample's run is not just one sample further on.
+fn level_steps(w: Window, scale: u32) -> u32
+    ensures { λ r. ⌜ Levels scale w r ⌝ }
+{
+    let tail = w.tail;
+    let head = w.head;
+    if tail.each != head.each {
+        return 0;
+    }
+    if scale as u64 + tail.each as u64 <= w.span {
+        return 0;
+    }
+    if tail.count < head.count {
+        return tail.count;
+    }
+    head.count
+}
+
+// The window slid on.
+fn moved_by(stts: &[u8], w: Window, s: Slide) -> Window
+    requires { ⌜ (w .stop + s .moved < 4294967296) × (w .first ≤ w .stop) ⌝ }
+    ensures { λ r. ⌜ r ≡ slidBy (now (stts .entry)) s w ⌝ }
+{
+    let tail = w.tail;
+    let head = w.head;
+    let moved = s.moved;
+    Window {
+        tail: run_ready(stts, run_pass(tail, moved)),
+        head: run_ready(stts, run_pass(head, moved)),
+        first: w.first + moved,
+        stop: w.stop + moved,
+        span: w.span,
+        bytes: s.bytes,
+    }
+}
+
+// The window slid on, in long runs of one duration, while it is no higher than the best run.
+fn slid(stts: &[u8], stsz: &[u8], w: Window, best: Best, scale: u32) -> Window
+    requires { ⌜ Slides scale (now stts) (now stsz) w × Timed scale (perSample (now stts)) (sizes (now stsz)) × (scale ≤ w .span) × IsRated scale best × Absorbs scale best w ⌝ }
+    ensures { λ r. ⌜ Skips scale (now (stts .entry)) (now (stsz .entry)) best w r ⌝ }
+{
+    let Best::Run(b) = best else {
+        return w;
+    };
+    let steps = level_steps(w, scale);
+    if steps < 8 {
+        return w;
+    }
+    let most = most_bytes(b, w.span);
+    if most < w.bytes {
+        return w;
+    }
+    moved_by(
+        stts,
+        w,
+        slide_over(stsz, w.first, w.stop, steps, w.bytes, most),
+    )
+}
+
+fn to_peak(best: Best) -> Peak
+    ensures { λ r. ⌜ r ≡ toPeak best ⌝ }
+{
+    match best {
+        Best::Run(b) => Peak::Highest {
+            rate: b.rate,
+            first: b.first,
+            count: b.count,
+        },
+        Best::NotComputed => Peak::NotComputed,
+    }
+}
+
+// The peak of a track, by its tables and its time scale. Where no run lasts a second, the first window has the whole track.
+pub fn peak_of(stts: &[u8], stsz: &[u8], scale: u32) -> Peak
+    requires { ⌜ Timed scale (perSample (now stts)) (sizes (now stsz)) ⌝ }
+    ensures { λ r. ⌜ r ≡ peakIn scale (perSample (now (stts .entry))) (sizes (now (stsz .entry))) ⌝ }
+{
+    let mut w = extended(stts, stsz, start_window(stts), scale);
+    let mut best = rated(w, scale);
+    while scale as u64 <= w.span {
+        best = raised(best, w, scale);
+        w = next_window(stts, stsz, slid(stts, stsz, w, best, scale), scale);
+    }
+    to_peak(best)
+}

@@ -1,0 +1,4 @@
+pub mod Quotients
+pub mod Products
+pub mod Orders
+mod Examples
