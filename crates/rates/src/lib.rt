@@ -3,16 +3,18 @@ ghost use mathlib.Core.Path.{_≡_};
 ghost use Prim.Native.Nat.{_*_, _<_};
 ghost use Rattle.rates.specs.Rates.{Least, productOf, rateOf};
 
-// The least number that, times the divisor, reaches the numerator.
+// A quotient rounded up: the least number that, times the divisor, reaches the numerator. So 29.97 frames a second, which are 65536 × 30000 / 1001 in
+// units of 1 / 65536, are 1,964,115 and a remainder of 885: one more is 1,964,116, or 0x001DF854.
 fn ceiling(n: u64, d: u64) -> u64
     requires { ⌜ 0 < d ⌝ }
     ensures { λ r. ⌜ Least n d r ⌝ }
 {
-    let q = n / d;
-    if n % d == 0 {
-        return q;
+    let quotient = n / d;
+    let remainder = n % d;
+    if remainder == 0 {
+        return quotient;
     }
-    q + 1
+    quotient + 1
 }
 
 // A product, or that it would be 2^64 or more.

@@ -6,11 +6,11 @@ use Rattle.rates.proofs.Quotients.{least-exact, least-more, up-fits}
 use Rattle.rates.proofs.ceiling.Statement.{statement}
 use Rattle.rates.proofs.ceiling.Tie as tie
 
-div-q : tie.Need-div-q
-div-q c = search needs
+div-quotient : tie.Need-div-quotient
+div-quotient c = search needs
 
-rem-if1 : tie.Need-rem-if1
-rem-if1 c = search needs
+rem-remainder : tie.Need-rem-remainder
+rem-remainder c = search needs
 
 returns : tie.Need-returns
 returns c = least-exact _ _ (c .before .pre) (c .if1 .taken)
@@ -22,4 +22,4 @@ returns-2 : tie.Need-returns-2
 returns-2 c = least-more _ _ (c .before .pre) (c .if1 .left)
 
 pub ceiling-spec : {M : Type 1} → statement M
-ceiling-spec = tie.close (tie.spec div-q rem-if1 returns add-result returns-2)
+ceiling-spec = tie.close (tie.spec div-quotient rem-remainder returns add-result returns-2)
