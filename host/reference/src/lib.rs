@@ -1,4 +1,4 @@
-//! The paper's definitions a second time, written from document 01 alone and in the most literal way.
+//! The paper's definitions a second time, written from documents 01 and 02 alone and in the most literal way.
 pub mod film;
 pub mod hoses;
 pub mod made;

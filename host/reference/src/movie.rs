@@ -1,16 +1,18 @@
-//! The movie, from document 01: the atom tree, the refusals of a file, the sample tables, the questions and the features.
+//! The movie, from document 01: the atom tree, the refusals of a file, the sample tables, the questions and the features; from document 02 the
+//! highest rate over a second.
 //!
 //! Nothing here is quick or clever. The tree is built whole, each refusal is a function of its own, and the tables
 //! are written out sample by sample before a question is asked. Sums are taken in 64 and 128 bits, where nothing wraps.
 pub mod atoms;
 pub mod features;
+pub mod peaks;
 pub mod questions;
 pub mod refusals;
 pub mod tables;
 
 pub use questions::{
-    feature, listing, media_time, sample, sample_at, sample_bytes, stored_profile, stretch, track_list, write_slip,
-    MediaTime,
+    feature, listing, media_time, peak, sample, sample_at, sample_bytes, stored_profile, stretch, track_list,
+    write_slip, MediaTime,
 };
 pub use refusals::refusal;
 pub use tables::Sample;

@@ -1,4 +1,5 @@
 //! "Features, decided by four-character code".
+use super::peaks::{peak, Peak};
 use super::tables::{code, Track};
 
 fn least_duration(track: &Track) -> Option<u64> {
@@ -6,7 +7,7 @@ fn least_duration(track: &Track) -> Option<u64> {
 }
 
 /// "a divisor that is 0 or absent, a numerator of 2^64 or more, or a result over 4,294,967,295"; "Quotients are rounded up."
-fn quotient(numerator: u128, divisor: Option<u64>) -> Option<u32> {
+pub fn quotient(numerator: u128, divisor: Option<u64>) -> Option<u32> {
     let divisor = u128::from(divisor?);
     if divisor == 0 || numerator >= 1 << 64 {
         return None;
@@ -36,15 +37,31 @@ fn frame_rate(track: &Track) -> Option<u32> {
     quotient(65536 * u128::from(track.tables.scale), least_duration(track))
 }
 
+fn is_video(track: &Track) -> bool {
+    track.tables.subtype == code(b"vide")
+}
+
+fn is_sound(track: &Track) -> bool {
+    track.tables.subtype == code(b"soun")
+}
+
+/// The run that gives the feature of that code its value: "'mvbr' (vide) and 'mabr' (soun)". Nothing for another code, and where it is refused 18.
+pub fn peak_of(track: &Track, feature: u32) -> Option<Peak> {
+    match &feature.to_be_bytes() {
+        b"mvbr" if is_video(track) => peak(track),
+        b"mabr" if is_sound(track) => peak(track),
+        _ => None,
+    }
+}
+
 /// The feature of that code, or nothing where it is refused 18. "another code, the wrong subtype"
 pub fn computed(track: &Track, feature: u32) -> Option<u32> {
-    let is_video = track.tables.subtype == code(b"vide");
-    let is_sound = track.tables.subtype == code(b"soun");
     match &feature.to_be_bytes() {
-        b"avvb" if is_video => average(track),
-        b"avab" if is_sound => average(track),
-        b"tvsz" if is_video => picture_size(track),
-        b"vfps" if is_video => frame_rate(track),
+        b"avvb" if is_video(track) => average(track),
+        b"avab" if is_sound(track) => average(track),
+        b"tvsz" if is_video(track) => picture_size(track),
+        b"vfps" if is_video(track) => frame_rate(track),
+        b"mvbr" | b"mabr" => peak_of(track, feature).map(|peak| peak.rate),
         _ => None,
     }
 }

@@ -3,7 +3,7 @@
 //! "Order: file refusal, 14, 15 or 18, then 16". The questions of a `Movie` answer a number or what is asked. The public functions below
 //! take the file and answer the number, 0 for none, and the numbers asked: "Numbers returned with a refusal are all 0 and lent buffers keep
 //! their contents. An accepted answer fills the first places and leaves the rest."
-use super::features::computed;
+use super::features::{computed, peak_of};
 use super::refusals::{in_media_scale, read};
 use super::tables::{Movie, Record, Sample, Track};
 use crate::slip::writing;
@@ -126,6 +126,12 @@ impl Movie {
         computed(self.track(id)?, code).ok_or(NOT_COMPUTED)
     }
 
+    /// Which samples give 'mvbr' or 'mabr' its value: the number of the first, and how many they are. Refused as the feature is, and for other codes.
+    pub fn peak(&self, id: u32, code: u32) -> Result<(u64, u64), u32> {
+        let peak = peak_of(self.track(id)?, code).ok_or(NOT_COMPUTED)?;
+        Ok((peak.first, peak.samples))
+    }
+
     /// "1 (the form), track ID, scale, a, b, number of pairs, pairs"; "Slip writing takes a stretch question."
     pub fn slip(&self, id: u32, a: u32, b: u32) -> Result<Vec<u8>, u32> {
         let stretch = self.stretch(id, u64::from(a), u64::from(b))?;
@@ -211,6 +217,11 @@ pub fn stored_profile(file: &[u8], id: u32, room: &mut [u32]) -> (u32, u64) {
 
 pub fn feature(file: &[u8], id: u32, code: u32) -> (u32, u32) {
     answered(read(file).and_then(|movie| movie.feature(id, code)))
+}
+
+/// The number of the first sample, and how many there are.
+pub fn peak(file: &[u8], id: u32, code: u32) -> (u32, (u64, u64)) {
+    answered(read(file).and_then(|movie| movie.peak(id, code)))
 }
 
 /// The slip's length in bytes.
