@@ -29,12 +29,11 @@ fn shortest_run(durations: &[u64], first: usize, scale: u64) -> Option<Range<usi
 
 /// "For each sample ... Runs that never get there are left out; if no run gets there, the whole track is the only run."
 fn runs(durations: &[u64], samples: usize, scale: u64) -> Vec<Range<usize>> {
-    let runs: Vec<Range<usize>> = (0..samples).filter_map(|first| shortest_run(durations, first, scale)).collect();
+    let mut runs: Vec<Range<usize>> = (0..samples).filter_map(|first| shortest_run(durations, first, scale)).collect();
     if runs.is_empty() {
-        vec![0..samples]
-    } else {
-        runs
+        runs.push(0..samples);
     }
+    runs
 }
 
 /// "The rate of a run is 8 × its sizes × scale / its durations, rounded up, and the feature is the greatest." Nothing where a run's rate cannot be

@@ -2,7 +2,7 @@
 use super::base::Film;
 use reference::movie::track_list;
 
-/// A question: what is asked, of which track, and the number asked. For a feature that is its code, for a profile the length of the room lent.
+/// A question: what is asked, of which track, and the number asked. For a feature and a peak that is the code, for a profile the length of the room lent.
 #[derive(Clone, Copy, PartialEq)]
 pub struct Ask {
     pub kind: Kind,
@@ -17,16 +17,24 @@ pub enum Kind {
     Map = 3,
     Feature = 4,
     Profile = 5,
+    Peak = 6,
 }
 
-/// The features of document 01.
-pub const CODES: [&[u8; 4]; 4] = [b"avvb", b"avab", b"tvsz", b"vfps"];
+/// The features of documents 01 and 02.
+pub const CODES: [&[u8; 4]; 6] = [b"avvb", b"avab", b"tvsz", b"vfps", b"mvbr", b"mabr"];
+
+/// Those that a run of samples gives its value.
+pub const PEAKS: [&[u8; 4]; 2] = [b"mvbr", b"mabr"];
 
 /// The places of the longest room.
 pub const PLACES: u32 = 64;
 
 /// An ID that no film has.
 const STRANGER: u32 = 999;
+
+fn numbers(codes: &[&[u8; 4]]) -> Vec<u32> {
+    codes.iter().map(|code| u32::from_be_bytes(**code)).collect()
+}
 
 /// What the file of questions has of a question.
 impl Ask {
@@ -60,8 +68,11 @@ impl Film {
     }
 
     pub fn features(&mut self, id: u32, codes: &[&[u8; 4]]) -> &mut Film {
-        let numbers: Vec<u32> = codes.iter().map(|code| u32::from_be_bytes(**code)).collect();
-        self.ask(Kind::Feature, id, &numbers)
+        self.ask(Kind::Feature, id, &numbers(codes))
+    }
+
+    pub fn peaks(&mut self, id: u32, codes: &[&[u8; 4]]) -> &mut Film {
+        self.ask(Kind::Peak, id, &numbers(codes))
     }
 
     pub fn profile(&mut self, id: u32, rooms: &[u32]) -> &mut Film {
@@ -78,7 +89,7 @@ impl Film {
             self.sample(id, &[0, 1, n, n + 1, u32::MAX]);
             self.at(id, &[0, 1, n, n + 1, total.saturating_sub(1), total, u32::MAX]);
             self.map(id, &[0, 1, n, n + 1, total.saturating_sub(1), total, u32::MAX]);
-            self.features(id, &CODES).profile(id, &[0]);
+            self.features(id, &CODES).peaks(id, &PEAKS).profile(id, &[0]);
         }
         self.profile(0, &[0])
     }
@@ -86,7 +97,7 @@ impl Film {
     /// Each question of one track, whatever it is answered.
     pub fn each(&mut self, id: u32) -> &mut Film {
         self.sample(id, &[1, 0]).at(id, &[0, u32::MAX]).map(id, &[0, u32::MAX]);
-        self.features(id, &[b"avvb", &[0; 4]]).profile(id, &[3, 0])
+        self.features(id, &[b"avvb", b"mvbr", &[0; 4]]).peaks(id, &[b"mvbr", b"mabr", b"avvb"]).profile(id, &[3, 0])
     }
 
     /// Each question of IDs that are no track's.

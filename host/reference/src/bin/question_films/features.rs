@@ -1,5 +1,5 @@
 //! Features: each of their grounds for 18, and what comes nearest to it.
-use super::asks::CODES;
+use super::asks::{CODES, PEAKS};
 use super::base::*;
 use reference::film::*;
 
@@ -106,8 +106,8 @@ fn averages(films: &mut Films) {
         track.stco = (0..11_587).map(|i| i % 400).collect();
     });
     let film = films.node(0, "numerator-of-2-64", movie(&[track]).file());
-    film.features(1, &CODES).sample(1, &[1, 11_587, 11_588]).at(1, &[u32::MAX - 1]);
-    film.says(&["feature 1 avvb: refused 18", "feature 1 vfps: 760743181 = 0x2d58050d"]);
+    film.features(1, &CODES).peaks(1, &PEAKS).sample(1, &[1, 11_587, 11_588]).at(1, &[u32::MAX - 1]);
+    film.says(&["feature 1 avvb: refused 18", "feature 1 vfps: 760743181 = 0x2d58050d", "feature 1 mvbr: refused 18"]);
 }
 
 /// "65536 × scale / least non-zero duration"

@@ -48,6 +48,13 @@ fn feature_line(film: &[u8], id: u32, code: u32) -> String {
     }
 }
 
+fn peak_line(film: &[u8], id: u32, code: u32) -> String {
+    match peak(film, id, code) {
+        (0, (first, samples)) => format!("from {first} count {samples}"),
+        (number, _) => format!("refused {number}"),
+    }
+}
+
 /// The name of a feature; of another code the hex digits.
 fn code_name(code: u32) -> String {
     match CODES.iter().find(|name| u32::from_be_bytes(***name) == code) {
@@ -83,6 +90,7 @@ pub fn line(film: &[u8], ask: &Ask) -> String {
         Kind::At => format!("at {id} {n}: {}", at_line(film, id, n)),
         Kind::Map => format!("map {id} {n}: {}", map_line(film, id, n)),
         Kind::Feature => format!("feature {id} {}: {}", code_name(n), feature_line(film, id, n)),
+        Kind::Peak => format!("peak {id} {}: {}", code_name(n), peak_line(film, id, n)),
         Kind::Profile => format!("profile {id} room {n}: {}", profile_line(film, id, n)),
     }
 }

@@ -9,6 +9,7 @@ mod base;
 mod features;
 mod lines;
 mod paper;
+mod peaks;
 mod profiles;
 mod refused;
 mod samples;
@@ -28,6 +29,7 @@ fn main() {
     samples::films(&mut films);
     times::films(&mut films);
     features::films(&mut films);
+    peaks::films(&mut films);
     profiles::films(&mut films);
     tracks::films(&mut films);
     refused::films(&mut films);

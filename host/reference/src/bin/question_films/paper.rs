@@ -11,9 +11,14 @@ fn w_itself(films: &mut Films) {
         .node(0, "w", w())
         .at(1, &[0, 23, 24, 47, 48, 71, 72, 119, 120])
         .sample(1, &[0, 1, 2, 3, 4, 5])
-        .features(1, &[b"avvb", b"vfps", b"tvsz", b"avab"])
-        // Codes that are no feature's, or are spelled otherwise.
-        .features(1, &[&[0; 4], &[0, 0, 0, 1], &[0xff; 4], b"AVVB", b"avvc", b"bvva", b"vide", b"vfmt", b"mvbr"])
+        .features(1, &[b"avvb", b"vfps", b"tvsz", b"avab", b"mvbr", b"mabr"])
+        .peaks(1, &[b"mvbr", b"mabr"])
+        // Codes that are no feature's, or are spelled otherwise; and of those that are, the ones that no run gives a value.
+        .features(
+            1,
+            &[&[0; 4], &[0, 0, 0, 1], &[0xff; 4], b"AVVB", b"avvc", b"bvva", b"vide", b"vfmt", b"MVBR", b"mvbs"],
+        )
+        .peaks(1, &[&[0; 4], &[0xff; 4], b"avvb", b"avab", b"tvsz", b"vfps", b"MVBR", b"mvbs"])
         .map(1, &[0, 23, 119, 120])
         .profile(0, &[0, 1, 64])
         .profile(1, &[0, 1, 64])
@@ -30,6 +35,9 @@ fn w_itself(films: &mut Films) {
         ])
         .says(&["feature 1 avvb: 8800 = 0x00002260", "feature 1 vfps: 1638400 = 0x00190000"])
         .says(&["feature 1 avab: refused 18", "feature 1 41565642: refused 18", "feature 1 ffffffff: refused 18"])
+        .says(&["feature 1 mvbr: 8800 = 0x00002260", "feature 1 mabr: refused 18"])
+        .says(&["peak 1 mvbr: from 1 count 4", "peak 1 mabr: refused 18", "peak 1 avvb: refused 18"])
+        .says(&["peak 1 00000000: refused 18", "peak 999 avvb: refused 14", "peak 0 mvbr: refused 14"])
         .says(&["profile 1 room 0: 0 records, rest untouched", "profile 999 room 0: refused 14, untouched"])
         .says(&["sample 999 0: refused 14, bytes 0 sum 0", "feature 999 00000000: refused 14", "map 0 0: refused 14"]);
 }

@@ -16,6 +16,8 @@ pub fn films(films: &mut Films) {
             &format!("at 0 0: refused {number}"),
             &format!("map 2 4294967295: refused {number}"),
             &format!("feature 1 00000000: refused {number}"),
+            &format!("peak 1 mvbr: refused {number}"),
+            &format!("peak 2 avvb: refused {number}"),
             &format!("profile 0 room 3: refused {number}, untouched"),
             &format!("profile 1 room 0: refused {number}, untouched"),
         ]);
