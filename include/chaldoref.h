@@ -81,6 +81,7 @@ enum {
     CHALDOREF_STRETCH_PLACES = 2,
     CHALDOREF_PROFILE_PLACES = 1,
     CHALDOREF_FEATURE_PLACES = 1,
+    CHALDOREF_PEAK_PLACES = 2,
     CHALDOREF_READ_SLIP_PLACES = 5,
     CHALDOREF_WRITE_SLIP_PLACES = 1
 };
@@ -176,18 +177,35 @@ uint32_t chaldoref_profile(
     uint32_t *room, size_t room_len,
     uint64_t *places, size_t places_len);
 
-/* The features' codes: average video and audio bit rate, greatest picture, highest frame rate. */
+/* The features' codes: average video and audio bit rate, greatest picture, highest frame rate,
+   highest video and audio bit rate over one second. */
 #define CHALDOREF_AVVB UINT32_C(0x61767662)
 #define CHALDOREF_AVAB UINT32_C(0x61766162)
 #define CHALDOREF_TVSZ UINT32_C(0x7476737a)
 #define CHALDOREF_VFPS UINT32_C(0x76667073)
+#define CHALDOREF_MVBR UINT32_C(0x6d766272)
+#define CHALDOREF_MABR UINT32_C(0x6d616272)
 
 /*
  * A feature of a track, by its four-character code. Refusals 1 to 13, 14, 18, 16.
- * places: 1: the value: bits a second for avvb and avab; width * 65536 + height for
- *         tvsz; frames a second * 65536 for vfps. Quotients are rounded up.
+ * places: 1: the value: bits a second for avvb, avab, mvbr and mabr; width * 65536 +
+ *         height for tvsz; frames a second * 65536 for vfps. Quotients are rounded up.
+ * mvbr and mabr are the greatest rate of a run of samples. There is a run for each sample:
+ * the shortest that starts with it and lasts a second, if one does; where none does, the
+ * whole track is the only run.
  */
 uint32_t chaldoref_feature(
+    const uint8_t *file, size_t file_len,
+    uint32_t id, uint32_t code,
+    uint64_t *places, size_t places_len);
+
+/*
+ * Where the highest bit rate over one second is, by its code, mvbr or mabr. Refused as that
+ * feature is, and 18 for any other code: refusals 1 to 13, 14, 18, 16.
+ * places: 2: the number, from 1, of the first sample whose run has the greatest rate; how
+ *         many samples that run has.
+ */
+uint32_t chaldoref_peak(
     const uint8_t *file, size_t file_len,
     uint32_t id, uint32_t code,
     uint64_t *places, size_t places_len);

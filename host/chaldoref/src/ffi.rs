@@ -104,6 +104,11 @@ pub fn feature(file: &[u8], id: u32, code: u32) -> Result<[u64; 1], Refusal> {
     ask(|places, len| unsafe { raw::chaldoref_feature(file.as_ptr(), file.len(), id, code, places, len) })
 }
 
+pub fn peak(file: &[u8], id: u32, code: u32) -> Result<[u64; 2], Refusal> {
+    // SAFETY: slices' own pointers and lengths, as the module says.
+    ask(|places, len| unsafe { raw::chaldoref_peak(file.as_ptr(), file.len(), id, code, places, len) })
+}
+
 pub fn read_slip(slip: &[u8], room: &mut [ByteRange]) -> Result<[u64; 5], Refusal> {
     let room = numbers(room);
     // SAFETY: slices' own pointers and lengths, as the module says.

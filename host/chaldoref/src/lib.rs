@@ -3,8 +3,8 @@
 //! It tells which tracks a movie holds, which bytes of the file show which time of a track, and it writes and reads
 //! *slips*, the receipts that file which bytes of film belong to which stretch of time. The reader itself is the proved
 //! library `libchaldoref.a`, written in Rattle; this crate gives it Rust's types and judges nothing on its own. The
-//! rules are those of the project's document 01, and so are the words of each [`Refusal`]; `docs/RULES.md` in the project's
-//! repository has each rule in full.
+//! rules are those of the project's documents 01 and 02, and the words of each [`Refusal`] are document 01's;
+//! `docs/RULES.md` in the project's repository has each rule in full.
 //!
 //! ```
 //! use chaldoref::{MediaTime, Movie, Refusal, Slip, TrackId};
@@ -62,7 +62,7 @@ mod refusal;
 mod slip;
 mod units;
 
-pub use movie::{Feature, Movie, ProfileRecord, Sample, Shown, Stretch, StretchSize, Track, MAX_FILE_BYTES};
+pub use movie::{Feature, Movie, Peak, ProfileRecord, Sample, Shown, Stretch, StretchSize, Track, MAX_FILE_BYTES};
 pub use refusal::Refusal;
 pub use slip::Slip;
 pub use units::{ByteRange, FourCC, MediaTime, MovieTime, TrackId};

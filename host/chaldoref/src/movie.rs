@@ -3,7 +3,7 @@ use crate::ffi::{self, broken, promised};
 use crate::refusal::Refusal;
 use crate::units::{ByteRange, FourCC, MediaTime, MovieTime, TrackId};
 use std::fmt;
-use std::ops::Range;
+use std::ops::{Range, RangeInclusive};
 
 /// The most bytes that an accepted file has. A longer one is [`Refusal::FileTooLong`].
 pub const MAX_FILE_BYTES: u64 = 2_147_483_647;
@@ -110,15 +110,21 @@ pub enum Feature {
     GreatestPicture,
     /// `vfps`, of video: frames a second × 65536, rounded up, for the shortest sample.
     HighestFrameRate,
+    /// `mvbr`, of video: bits a second, rounded up, in the second that has most. [`Movie::peak`] tells which one.
+    HighestVideoBitRate,
+    /// `mabr`, of sound: bits a second, rounded up, in the second that has most. [`Movie::peak`] tells which one.
+    HighestAudioBitRate,
 }
 
 impl Feature {
     /// Every feature that can be computed.
-    pub const ALL: [Feature; 4] = [
+    pub const ALL: [Feature; 6] = [
         Feature::AverageVideoBitRate,
         Feature::AverageAudioBitRate,
         Feature::GreatestPicture,
         Feature::HighestFrameRate,
+        Feature::HighestVideoBitRate,
+        Feature::HighestAudioBitRate,
     ];
 
     /// Its four-character code.
@@ -128,7 +134,36 @@ impl Feature {
             Feature::AverageAudioBitRate => FourCC::from_bytes(*b"avab"),
             Feature::GreatestPicture => FourCC::from_bytes(*b"tvsz"),
             Feature::HighestFrameRate => FourCC::from_bytes(*b"vfps"),
+            Feature::HighestVideoBitRate => FourCC::from_bytes(*b"mvbr"),
+            Feature::HighestAudioBitRate => FourCC::from_bytes(*b"mabr"),
         }
+    }
+
+    /// The feature with that code, if there is one.
+    pub fn from_code(code: FourCC) -> Option<Feature> {
+        Feature::ALL.into_iter().find(|feature| feature.code() == code)
+    }
+
+    /// The subtype of the tracks that have it, `vide` or `soun`. Of any other track it is refused 18.
+    pub const fn subtype(self) -> FourCC {
+        match self {
+            Feature::AverageAudioBitRate | Feature::HighestAudioBitRate => FourCC::from_bytes(*b"soun"),
+            _ => FourCC::from_bytes(*b"vide"),
+        }
+    }
+}
+
+impl fmt::Display for Feature {
+    /// Its name in plain words.
+    fn fmt(&self, f: &mut fmt::Formatter<'_>) -> fmt::Result {
+        f.pad(match self {
+            Feature::AverageVideoBitRate => "average video bit rate",
+            Feature::AverageAudioBitRate => "average audio bit rate",
+            Feature::GreatestPicture => "greatest picture",
+            Feature::HighestFrameRate => "highest frame rate",
+            Feature::HighestVideoBitRate => "highest video bit rate over one second",
+            Feature::HighestAudioBitRate => "highest audio bit rate over one second",
+        })
     }
 }
 
@@ -136,6 +171,16 @@ impl From<Feature> for FourCC {
     fn from(feature: Feature) -> FourCC {
         feature.code()
     }
+}
+
+/// The second of a track that has the highest bit rate: a run of samples that lasts a second or as little more as can
+/// be; the whole track where it is shorter than a second.
+#[derive(Clone, Debug, PartialEq, Eq, Hash)]
+pub struct Peak {
+    /// The numbers of its samples, from 1.
+    pub samples: RangeInclusive<u32>,
+    /// From where its first sample starts up to where its last one ends.
+    pub time: Range<MediaTime>,
 }
 
 /// A movie file that the reader has accepted.
@@ -298,7 +343,7 @@ impl<'a> Movie<'a> {
     }
 
     /// A feature computed from a track's tables, by its [`Feature`] or any four-character code. Refusals 14, 18; every
-    /// code but the four of [`Feature`] is refused 18.
+    /// code but the six of [`Feature`] is refused 18.
     ///
     /// ```
     /// use chaldoref::{Feature, FourCC, Movie, Refusal, TrackId};
@@ -313,6 +358,30 @@ impl<'a> Movie<'a> {
     pub fn feature(&self, id: TrackId, code: impl Into<FourCC>) -> Result<u32, Refusal> {
         let [value] = ffi::feature(self.file, id.0, code.into().0)?;
         Ok(promised(value))
+    }
+
+    /// Where a track has its highest bit rate over one second, by [`Feature::HighestVideoBitRate`] or
+    /// [`Feature::HighestAudioBitRate`]: the first second that has the greatest. Refused as the feature is; every other
+    /// code is refused 18. It costs three questions.
+    ///
+    /// ```
+    /// use chaldoref::{Feature, MediaTime, Movie, TrackId};
+    ///
+    /// # std::env::set_current_dir("../..")?;
+    /// let file = std::fs::read("films/w.mov")?;
+    /// let movie = Movie::open(&file)?;
+    /// assert_eq!(movie.feature(TrackId(1), Feature::HighestVideoBitRate)?, 8800);
+    /// let peak = movie.peak(TrackId(1), Feature::HighestVideoBitRate)?;
+    /// assert_eq!((peak.samples, peak.time), (1..=4, MediaTime(0)..MediaTime(120)));
+    /// # Ok::<(), Box<dyn std::error::Error>>(())
+    /// ```
+    pub fn peak(&self, id: TrackId, code: impl Into<FourCC>) -> Result<Peak, Refusal> {
+        let [first, count] = ffi::peak(self.file, id.0, code.into().0)?;
+        let samples: RangeInclusive<u32> = promised(first)..=promised(first + count - 1);
+        let start = self.sample(id, *samples.start())?.decode;
+        let last = self.sample(id, *samples.end())?;
+        let end = MediaTime(promised(u64::from(last.decode.0) + u64::from(last.duration)));
+        Ok(Peak { samples, time: start..end })
     }
 
     /// The number of a track's chunks; 0 where no track has that ID, for which the library needs no room to say so.

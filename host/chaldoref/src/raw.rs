@@ -82,6 +82,15 @@ extern "C" {
         places_len: usize,
     ) -> u32;
 
+    pub fn chaldoref_peak(
+        file: *const u8,
+        file_len: usize,
+        id: u32,
+        code: u32,
+        places: *mut u64,
+        places_len: usize,
+    ) -> u32;
+
     pub fn chaldoref_read_slip(
         slip: *const u8,
         slip_len: usize,

@@ -154,7 +154,9 @@ fn features() {
     assert_eq!(movie.feature(ONE, Feature::AverageAudioBitRate), Err(Refusal::NotComputed));
     assert_eq!(movie.feature(ONE, Feature::GreatestPicture), Ok(320 << 16 | 240));
     assert_eq!(movie.feature(ONE, Feature::HighestFrameRate), Ok(0x0019_0000));
-    assert_eq!(movie.feature(ONE, FourCC::from_bytes(*b"mvbr")), Err(Refusal::NotComputed));
+    assert_eq!(movie.feature(ONE, Feature::HighestVideoBitRate), Ok(8800));
+    assert_eq!(movie.feature(ONE, Feature::HighestAudioBitRate), Err(Refusal::NotComputed));
+    assert_eq!(movie.feature(ONE, FourCC::from_bytes(*b"vfmt")), Err(Refusal::NotComputed));
     let track = film::Track { scale: 30000, duration: 1001 + 3 * 2002, stts: vec![(3, 2002), (1, 1001)], ..w_track() };
     assert_eq!(opened(&with_track(track)).feature(ONE, Feature::HighestFrameRate), Ok(0x001d_f854));
 }

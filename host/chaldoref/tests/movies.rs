@@ -90,8 +90,14 @@ fn ranges_of_a_film() {
 fn codes() {
     for feature in Feature::ALL {
         assert_eq!(FourCC::from(feature), feature.code());
+        assert_eq!(Feature::from_code(feature.code()), Some(feature));
     }
-    assert_eq!(Feature::ALL.map(|feature| feature.code().to_string()), ["avvb", "avab", "tvsz", "vfps"]);
+    let codes = ["avvb", "avab", "tvsz", "vfps", "mvbr", "mabr"];
+    assert_eq!(Feature::ALL.map(|feature| feature.code().to_string()), codes);
+    let subtypes = ["vide", "soun", "vide", "vide", "vide", "soun"];
+    assert_eq!(Feature::ALL.map(|feature| feature.subtype().to_string()), subtypes);
+    assert_eq!(Feature::from_code(FourCC::from_bytes(*b"vfmt")), None);
+    assert_eq!(Feature::HighestVideoBitRate.to_string(), "highest video bit rate over one second");
     assert_eq!(FourCC::from_bytes(*b"url ").to_string(), "url ");
     assert_eq!(FourCC(0x7669_6405).to_string(), "0x76696405");
     assert_eq!(FourCC(0x7669_647f).to_string(), "0x7669647f");

@@ -84,6 +84,8 @@ fn ids_that_no_track_has() {
         assert_eq!(movie.write_slip(id, time), Err(Refusal::NoTrack));
         assert_eq!(movie.feature(id, Feature::GreatestPicture), Err(Refusal::NoTrack));
         assert_eq!(movie.feature(id, FourCC(0)), Err(Refusal::NoTrack));
+        assert_eq!(movie.peak(id, Feature::HighestVideoBitRate), Err(Refusal::NoTrack));
+        assert_eq!(movie.peak(id, FourCC(0)), Err(Refusal::NoTrack));
     }
     assert_eq!(movie.profile(TrackId(2)), Err(Refusal::NoTrack));
 }

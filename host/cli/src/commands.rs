@@ -1,4 +1,5 @@
 //! What each command prints, for people and for machines.
+mod features;
 mod questions;
 mod ranges;
 
@@ -26,8 +27,8 @@ pub fn run(request: &Request, out: &mut dyn Write) -> Result<(), Failure> {
         Ask::Sample { track, n, bytes: true } => questions::sample_bytes(&movie()?, *track, *n, to),
         Ask::At { track, time } => questions::at(&movie()?, *track, *time, to),
         Ask::Map { track, time } => questions::map(&movie()?, *track, *time, to),
-        Ask::Features { track, code: None } => questions::features(&movie()?, *track, to),
-        Ask::Features { track, code: Some(code) } => questions::feature(&movie()?, *track, *code, to),
+        Ask::Features { track, code: None } => features::features(&movie()?, *track, to),
+        Ask::Features { track, code: Some(code) } => features::feature(&movie()?, *track, *code, to),
         Ask::Profile { track } => questions::profile(&movie()?, *track, to),
         Ask::Stretch { track, time, bytes: false } => ranges::stretch(&movie()?, *track, time, to),
         Ask::Stretch { track, time, bytes: true } => ranges::stretch_bytes(&movie()?, *track, time, to),

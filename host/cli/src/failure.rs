@@ -13,8 +13,8 @@ pub enum Failure {
     Usage(String, String),
     /// The film or slip could not be read.
     Input(io::Error),
-    /// The film, the question or the slip was refused.
-    Refused(Refusal),
+    /// The film, the question or the slip was refused; what more there is to say of it is a line of its own.
+    Refused(Refusal, String),
     /// The file of that name could not be written.
     NotWritten(OsString, io::Error),
     /// Standard output could not be written.
@@ -23,7 +23,7 @@ pub enum Failure {
 
 impl From<Refusal> for Failure {
     fn from(refusal: Refusal) -> Failure {
-        Failure::Refused(refusal)
+        Failure::Refused(refusal, of_ffmpeg(refusal))
     }
 }
 
@@ -41,7 +41,7 @@ impl Failure {
 
     pub fn status(&self) -> ExitCode {
         match self {
-            Failure::Refused(_) => ExitCode::from(REFUSED),
+            Failure::Refused(..) => ExitCode::from(REFUSED),
             _ if self.is_broken_pipe() => ExitCode::SUCCESS,
             _ => ExitCode::from(BAD_USAGE),
         }
@@ -52,8 +52,8 @@ impl Failure {
         match self {
             Failure::Usage(wrong, usage) => format!("chaldoref: {wrong}\n{usage}"),
             Failure::Input(error) => format!("chaldoref: {file}: {error}\n"),
-            Failure::Refused(refusal) => {
-                format!("chaldoref: {file}: refused {}: {refusal}\n{}", refusal.number(), hint(*refusal))
+            Failure::Refused(refusal, more) => {
+                format!("chaldoref: {file}: refused {}: {refusal}\n{more}", refusal.number())
             }
             Failure::NotWritten(name, error) => format!("chaldoref: {}: {error}\n", input::shown(name)),
             Failure::Output(_) if self.is_broken_pipe() => String::new(),
@@ -62,17 +62,21 @@ impl Failure {
     }
 }
 
-/// A second line for the refusals that films from ffmpeg meet.
-fn hint(refusal: Refusal) -> &'static str {
+/// A second line for a refusal.
+pub fn hint(words: &str) -> String {
+    format!("chaldoref: hint: {words}\n")
+}
+
+/// The hint for the refusals that films from ffmpeg meet.
+fn of_ffmpeg(refusal: Refusal) -> String {
     match refusal {
-        Refusal::LeafVersion => {
-            "chaldoref: hint: atoms are read in version 0 alone; ffmpeg writes a ctts of version 1 with \
-             -movflags negative_cts_offsets\n"
-        }
-        Refusal::EditList => {
-            "chaldoref: hint: for films with B-frames ffmpeg writes an edit list that ends past their samples; \
-             with -use_editlist 0 it writes none\n"
-        }
-        _ => "",
+        Refusal::LeafVersion => hint(
+            "atoms are read in version 0 alone; ffmpeg writes a ctts of version 1 with -movflags negative_cts_offsets",
+        ),
+        Refusal::EditList => hint(
+            "for films with B-frames ffmpeg writes an edit list that ends past their samples; with -use_editlist 0 it \
+             writes none",
+        ),
+        _ => String::new(),
     }
 }

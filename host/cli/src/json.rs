@@ -96,6 +96,19 @@ impl Object<'_> {
         Ok(self)
     }
 
+    /// A field that is an object, or null where there is none.
+    pub fn object<T>(
+        &mut self,
+        key: &'static str,
+        item: Option<&T>,
+        fields: impl Fn(&mut Object, &T) -> io::Result<()>,
+    ) -> io::Result<&mut Self> {
+        let Some(item) = item else { return self.put(key, Value::Null) };
+        self.key(key)?;
+        object(self.out, |object| fields(object, item))?;
+        Ok(self)
+    }
+
     /// A field that is a list of objects.
     pub fn list<T>(
         &mut self,
@@ -138,11 +151,13 @@ mod tests {
         let all = written(|o| {
             o.put("a", -1i64)?.put("b", u64::MAX)?.put("c", true)?.put("d", None::<u32>)?;
             o.list("e", &[1u32, 2], |o, n| o.put("n", *n).map(drop))?.list("f", &[(); 0], |_, _| Ok(()))?;
+            o.object("g", Some(&3u32), |o, n| o.put("n", *n).map(drop))?.object("h", None::<&u32>, |_, _| Ok(()))?;
             Ok(())
         });
         assert_eq!(
             all,
-            "{\"a\":-1,\"b\":18446744073709551615,\"c\":true,\"d\":null,\"e\":[{\"n\":1},{\"n\":2}],\"f\":[]}\n"
+            "{\"a\":-1,\"b\":18446744073709551615,\"c\":true,\"d\":null,\"e\":[{\"n\":1},{\"n\":2}],\"f\":[],\
+             \"g\":{\"n\":3},\"h\":null}\n"
         );
     }
 

@@ -27,9 +27,9 @@ fn main() -> ExitCode {
 fn answer(request: &Request) -> Result<(), Failure> {
     let answered = print(|out| commands::run(request, out));
     match answered {
-        Err(Failure::Refused(refusal)) if request.json => {
+        Err(Failure::Refused(refusal, more)) if request.json => {
             print(|out| Ok(commands::refused(refusal, out)?))?;
-            Err(Failure::Refused(refusal))
+            Err(Failure::Refused(refusal, more))
         }
         _ => answered,
     }

@@ -77,7 +77,7 @@ pub static COMMANDS: [Command; 9] = [
         name: "features",
         operands: &["FILE", "TRACK", "[CODE]"],
         options: &[&JSON],
-        about: "the features avvb, avab, tvsz and vfps of a track, or that of one code",
+        about: "the features avvb, avab, tvsz, vfps, mvbr and mabr of a track, or that of one code",
         ask: |words| Ok(Ask::Features { track: words.track(1)?, code: words.if_given(2, Words::code)? }),
     },
     Command {

@@ -154,23 +154,93 @@ fn slips_read() {
 fn features() {
     answers(
         "features films/w.mov 1",
-        "code       value  meaning\n\
-         avvb        8800  8800 bits a second\n\
-         avab  refused 18  the feature cannot be computed\n\
-         tvsz    20971760  320 x 240 pixels\n\
-         vfps     1638400  25.000 frames a second\n",
+        "code  name                                         value  meaning\n\
+         avvb  average video bit rate                        8800  8800 bits a second\n\
+         avab  average audio bit rate                  refused 18  only for sound tracks\n\
+         tvsz  greatest picture                          20971760  320 x 240 pixels\n\
+         vfps  highest frame rate                         1638400  25.000 frames a second\n\
+         mvbr  highest video bit rate over one second        8800  8800 bits a second\n\
+         mabr  highest audio bit rate over one second  refused 18  only for sound tracks\n\
+         peak of mvbr: samples 1 to 4, media time 0 to 120 (0.000 to 0.200 seconds), the whole track\n",
     );
+    let refused = "\"value\":null,\"refused\":18,\"reason\":\"only for sound tracks\",\"peak\":null}";
+    let found = "\"refused\":null,\"reason\":null,\"peak\":null}";
+    let whole = "{\"first\":1,\"last\":4,\"a\":0,\"b\":120}}";
     answers(
         "features films/w.mov 1 --json",
-        "{\"track\":1,\"features\":[{\"code\":\"avvb\",\"value\":8800,\"refused\":null},\
-         {\"code\":\"avab\",\"value\":null,\"refused\":18},{\"code\":\"tvsz\",\"value\":20971760,\"refused\":null},\
-         {\"code\":\"vfps\",\"value\":1638400,\"refused\":null}]}\n",
+        &format!(
+            "{{\"track\":1,\"features\":[{{\"code\":\"avvb\",\"name\":\"average video bit rate\",\"value\":8800,{found},\
+             {{\"code\":\"avab\",\"name\":\"average audio bit rate\",{refused},\
+             {{\"code\":\"tvsz\",\"name\":\"greatest picture\",\"value\":20971760,{found},\
+             {{\"code\":\"vfps\",\"name\":\"highest frame rate\",\"value\":1638400,{found},\
+             {{\"code\":\"mvbr\",\"name\":\"highest video bit rate over one second\",\"value\":8800,\
+             \"refused\":null,\"reason\":null,\"peak\":{whole},\
+             {{\"code\":\"mabr\",\"name\":\"highest audio bit rate over one second\",{refused}]}}\n"
+        ),
     );
-    answers("features films/w.mov 1 avvb", "code  value  meaning\navvb   8800  8800 bits a second\n");
+    answers(
+        "features films/w.mov 1 avvb",
+        "code  name                    value  meaning\navvb  average video bit rate   8800  8800 bits a second\n",
+    );
     answers(
         "features films/w.mov 1 0x76667073 --json",
-        "{\"track\":1,\"features\":[{\"code\":\"vfps\",\"value\":1638400,\"refused\":null}]}\n",
+        &format!(
+            "{{\"track\":1,\"features\":[{{\"code\":\"vfps\",\"name\":\"highest frame rate\",\"value\":1638400,{found}]}}\n"
+        ),
     );
+}
+
+#[test]
+fn peaks() {
+    // Samples 3 to 5 have 210 bytes in a second.
+    let burst = film::Track {
+        duration: 40,
+        scale: 10,
+        stts: vec![(3, 5), (1, 4), (1, 1), (1, 20)],
+        stsc: vec![(1, 6, 1)],
+        stsz: film::Sizes::Each(vec![1, 1, 60, 70, 80, 9]),
+        stco: vec![1000],
+        ..w_track()
+    };
+    answers_on(
+        &film_of(vec![burst.clone()]),
+        &["features", "-", "1", "mvbr"],
+        "code  name                                    value  meaning\n\
+         mvbr  highest video bit rate over one second   1680  1680 bits a second\n\
+         peak of mvbr: samples 3 to 5, media time 10 to 20 (1.000 to 2.000 seconds)\n",
+    );
+    let sound = film_of(vec![film::Track { subtype: *b"soun", ..burst }]);
+    answers_on(
+        &sound,
+        &["features", "-", "1"],
+        "code  name                                         value  meaning\n\
+         avvb  average video bit rate                  refused 18  only for video tracks\n\
+         avab  average audio bit rate                         442  442 bits a second\n\
+         tvsz  greatest picture                        refused 18  only for video tracks\n\
+         vfps  highest frame rate                      refused 18  only for video tracks\n\
+         mvbr  highest video bit rate over one second  refused 18  only for video tracks\n\
+         mabr  highest audio bit rate over one second        1680  1680 bits a second\n\
+         peak of mabr: samples 3 to 5, media time 10 to 20 (1.000 to 2.000 seconds)\n",
+    );
+    answers_on(
+        &sound,
+        &["features", "-", "1", "mabr", "--json"],
+        "{\"track\":1,\"features\":[{\"code\":\"mabr\",\"name\":\"highest audio bit rate over one second\",\
+         \"value\":1680,\"refused\":null,\"reason\":null,\"peak\":{\"first\":3,\"last\":5,\"a\":10,\"b\":20}}]}\n",
+    );
+}
+
+#[test]
+fn features_of_no_samples_and_of_text() {
+    let none = run_on(&film_of(vec![reference::made::empty_track(1)]), &["features", "-", "1"]).out;
+    for code in ["avvb", "tvsz", "vfps", "mvbr"] {
+        let line = none.lines().find(|line| line.starts_with(code)).unwrap();
+        assert!(line.ends_with("refused 18  the feature cannot be computed"), "{none}");
+    }
+    assert!(!none.contains("peak"), "{none}");
+    let text = run_on(&film_of(vec![film::Track { subtype: *b"text", ..w_track() }]), &["features", "-", "1"]).out;
+    assert_eq!(text.matches("refused 18  only for video tracks\n").count(), 4, "{text}");
+    assert_eq!(text.matches("refused 18  only for sound tracks\n").count(), 2, "{text}");
 }
 
 #[test]

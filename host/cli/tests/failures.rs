@@ -19,7 +19,14 @@ fn questions_refused() {
     refuses("sample films/w.mov 2 1", "chaldoref: films/w.mov: refused 14: no track has that ID\n");
     refuses("features films/w.mov 2", "chaldoref: films/w.mov: refused 14: no track has that ID\n");
     refuses("profile films/w.mov 2", "chaldoref: films/w.mov: refused 14: no track has that ID\n");
-    refuses("features films/w.mov 1 avab", "chaldoref: films/w.mov: refused 18: the feature cannot be computed\n");
+    let features = |code, hint| {
+        let said = format!("chaldoref: films/w.mov: refused 18: the feature cannot be computed\n{hint}");
+        refuses(&format!("features films/w.mov 1 {code}"), &said);
+    };
+    features("avab", "chaldoref: hint: avab is only for sound tracks\n");
+    features("mabr", "chaldoref: hint: mabr is only for sound tracks\n");
+    features("vfmt", "");
+    features("0x00000000", "");
     refuses("read-slip films/w.mov", "chaldoref: films/w.mov: refused 17: a slip is malformed\n");
 }
 

@@ -1,9 +1,9 @@
-//! Tracks, samples, times, features and profiles.
+//! Tracks, samples, times and profiles.
 use super::{scale, seconds, Answer};
 use crate::failure::Failure;
 use crate::json::{document, Object, Value};
 use crate::table::{self, number, text};
-use chaldoref::{Feature, FourCC, MediaTime, Movie, MovieTime, ProfileRecord, Refusal, Shown, Track, TrackId};
+use chaldoref::{MediaTime, Movie, MovieTime, ProfileRecord, Shown, Track, TrackId};
 use std::io;
 
 pub fn tracks(movie: &Movie, to: Answer) -> Result<(), Failure> {
@@ -99,54 +99,6 @@ pub fn map(movie: &Movie, track: TrackId, time: MovieTime, to: Answer) -> Result
     };
     let columns = [number("movie time"), number("media time"), number("seconds")];
     Ok(table::write(to.out, columns, &[[time.to_string(), shown, start]], |row| row.clone())?)
-}
-
-/// All four features; that one of them cannot be computed is an answer here.
-pub fn features(movie: &Movie, track: TrackId, to: Answer) -> Result<(), Failure> {
-    let mut values = Vec::new();
-    for feature in Feature::ALL {
-        match movie.feature(track, feature) {
-            Err(refusal) if refusal != Refusal::NotComputed => return Err(refusal.into()),
-            value => values.push((feature.code(), value)),
-        }
-    }
-    print_features(track, &values, to)
-}
-
-pub fn feature(movie: &Movie, track: TrackId, code: FourCC, to: Answer) -> Result<(), Failure> {
-    let value = movie.feature(track, code)?;
-    print_features(track, &[(code, Ok(value))], to)
-}
-
-fn print_features(track: TrackId, values: &[(FourCC, Result<u32, Refusal>)], to: Answer) -> Result<(), Failure> {
-    if to.json {
-        return Ok(document(to.out, |o| {
-            o.put("track", track.0)?.list("features", values, |o, (code, value)| {
-                let refused = value.err().map(Refusal::number);
-                o.put("code", code.to_string())?.put("value", value.ok())?.put("refused", refused).map(drop)
-            })?;
-            Ok(())
-        })?);
-    }
-    let columns = [text("code"), number("value"), text("meaning")];
-    let row = |(code, value): &(FourCC, Result<u32, Refusal>)| {
-        let [value, meaning] = match value {
-            Ok(value) => [value.to_string(), meaning(*code, *value)],
-            Err(refusal) => [format!("refused {}", refusal.number()), refusal.to_string()],
-        };
-        [code.to_string(), value, meaning]
-    };
-    Ok(table::write(to.out, columns, values, row)?)
-}
-
-/// What a feature's number says.
-fn meaning(code: FourCC, value: u32) -> String {
-    match Feature::ALL.into_iter().find(|feature| feature.code() == code) {
-        Some(Feature::AverageVideoBitRate | Feature::AverageAudioBitRate) => format!("{value} bits a second"),
-        Some(Feature::GreatestPicture) => format!("{} x {} pixels", value >> 16, value & 0xffff),
-        Some(Feature::HighestFrameRate) => format!("{:.3} frames a second", f64::from(value) / 65536.0),
-        None => String::new(),
-    }
 }
 
 pub fn profile(movie: &Movie, track: Option<TrackId>, to: Answer) -> Result<(), Failure> {
