@@ -3,8 +3,10 @@ use crate::question::Question;
 use reference::maker::Random;
 use reference::movie::tables::{Movie, Track};
 
-/// The one for sound first.
-const CODES: [&[u8; 4]; 4] = [b"avab", b"avvb", b"tvsz", b"vfps"];
+/// The features of sound, those of pictures, and the highest rates over a second.
+const SOUND_CODES: [&[u8; 4]; 2] = [b"avab", b"mabr"];
+const PICTURE_CODES: [&[u8; 4]; 4] = [b"avvb", b"tvsz", b"vfps", b"mvbr"];
+const PEAK_CODES: [&[u8; 4]; 2] = [b"mvbr", b"mabr"];
 
 /// A number or a neighbour of it, as a number of 32 bits.
 fn near(random: &mut Random, n: u64) -> u32 {
@@ -17,9 +19,14 @@ fn any_track<'a>(random: &mut Random, film: &'a Result<Movie, u32>) -> Option<&'
     (!tracks.is_empty()).then(|| &tracks[random.below(tracks.len())])
 }
 
+/// The track's ID; 1 where there is none.
+fn own_id(track: Option<&Track>) -> u32 {
+    track.map_or(1, |track| u32::try_from(track.tables.id).unwrap())
+}
+
 /// The track's ID, seldom another: 0, a neighbour, any.
 fn id(random: &mut Random, track: Option<&Track>) -> u32 {
-    let own = track.map_or(1, |track| u32::try_from(track.tables.id).unwrap());
+    let own = own_id(track);
     let any = random.number();
     if random.once_in(10) {
         random.one(&[0, 1, 2, own.wrapping_add(1), own ^ (1 << 31), any])
@@ -113,10 +120,30 @@ fn stretch(random: &mut Random, track: Option<&Track>) -> (u32, u32) {
 /// A feature's code, mostly one for the track's subtype.
 fn code(random: &mut Random, track: Option<&Track>) -> u32 {
     let is_sound = track.is_some_and(|track| track.tables.subtype == u64::from(u32::from_be_bytes(*b"soun")));
-    let known = u32::from_be_bytes(*random.one(&CODES));
-    let fitting = u32::from_be_bytes(*random.one(if is_sound { &CODES[..1] } else { &CODES[1..] }));
+    let known = number(random.one(&[SOUND_CODES.as_slice(), &PICTURE_CODES].concat()));
+    let fitting = number(if is_sound { random.one(&SOUND_CODES) } else { random.one(&PICTURE_CODES) });
     let any = random.number();
     random.one(&[known, known, fitting, fitting, fitting, known ^ 1, 0, any])
+}
+
+fn number(code: &[u8; 4]) -> u32 {
+    u32::from_be_bytes(*code)
+}
+
+/// Both highest rates over a second, and where they are, of each track; of track 1 where there is none.
+pub fn peaks(film: &Result<Movie, u32>) -> Vec<Question> {
+    let tracks = film.as_ref().map_or(&[][..], |movie| &movie.tracks);
+    let mut ids: Vec<u32> = tracks.iter().map(|track| own_id(Some(track))).collect();
+    if ids.is_empty() {
+        ids.push(own_id(None));
+    }
+    let mut questions = Vec::new();
+    for id in ids {
+        for code in PEAK_CODES.map(number) {
+            questions.extend([Question::Feature { id, code }, Question::Peak { id, code }]);
+        }
+    }
+    questions
 }
 
 /// One question of each kind but the reading of a slip, to a film as the reference reads it.
@@ -135,6 +162,7 @@ pub fn questions(random: &mut Random, film: &Result<Movie, u32>) -> Vec<Question
         Question::Stretch { id: id(random, track), a: x.0, b: x.1 },
         Question::Profile { id: random.one(&[0, profile_id, profile_id]) },
         Question::Feature { id: id(random, track), code: code(random, track) },
+        Question::Peak { id: id(random, track), code: code(random, track) },
         Question::WriteSlip { id: id(random, track), a: y.0, b: y.1 },
     ]
 }

@@ -20,8 +20,8 @@ fn can_meet(number: usize, kind: &str) -> bool {
         17 => kind == "read_slip",
         _ if kind == "read_slip" => false,
         14 => kind != "track_list",
-        15 => !["track_list", "profile", "feature"].contains(&kind),
-        18 => kind == "feature",
+        15 => !["track_list", "profile", "feature", "peak"].contains(&kind),
+        18 => ["feature", "peak"].contains(&kind),
         _ => true,
     }
 }

@@ -1,6 +1,6 @@
 //! A film, or a slip, put to the library and to the reference.
 use crate::case::{compare, Difference, Lengths};
-use crate::choose::questions;
+use crate::choose::{peaks, questions};
 use crate::counts::Counts;
 use crate::question::{slip_answer, Answer, Question};
 use reference::maker::Random;
@@ -114,7 +114,7 @@ impl Comparison {
         }
     }
 
-    /// Puts so many rounds of every question about a film.
+    /// Puts so many rounds of every question about a film, and once the questions about the highest rates of each track.
     pub fn film(&mut self, random: &mut Random, bytes: &Bytes, rounds: usize) -> Result<(), Box<Difference>> {
         let film = read(bytes.lent());
         self.counts.film(film.as_ref().err().copied().unwrap_or(0));
@@ -124,6 +124,9 @@ impl Comparison {
             for question in questions(random, &film) {
                 self.question(random, bytes, &film, question)?;
             }
+        }
+        for question in peaks(&film) {
+            self.question(random, bytes, &film, question)?;
         }
         Ok(())
     }

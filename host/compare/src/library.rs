@@ -29,6 +29,7 @@ pub fn ask(file: &[u8], question: Question, lending: &mut Lending) -> u32 {
             Question::Stretch { id, a, b } => chaldoref_stretch(f, len, id, a, b, room, room_len, places, places_len),
             Question::Profile { id } => chaldoref_profile(f, len, id, room, room_len, places, places_len),
             Question::Feature { id, code } => chaldoref_feature(f, len, id, code, places, places_len),
+            Question::Peak { id, code } => chaldoref_peak(f, len, id, code, places, places_len),
             Question::ReadSlip => chaldoref_read_slip(f, len, room, room_len, places, places_len),
             Question::WriteSlip { id, a, b } => {
                 chaldoref_write_slip(f, len, id, a, b, out, out_len, places, places_len)

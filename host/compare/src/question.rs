@@ -13,12 +13,13 @@ pub enum Question {
     Stretch { id: u32, a: u32, b: u32 },
     Profile { id: u32 },
     Feature { id: u32, code: u32 },
+    Peak { id: u32, code: u32 },
     ReadSlip,
     WriteSlip { id: u32, a: u32, b: u32 },
 }
 
 /// How the questions are called, in the order of `Question::kind`.
-pub const KINDS: [&str; 10] = [
+pub const KINDS: [&str; 11] = [
     "track_list",
     "sample",
     "sample_bytes",
@@ -27,12 +28,13 @@ pub const KINDS: [&str; 10] = [
     "stretch",
     "profile",
     "feature",
+    "peak",
     "read_slip",
     "write_slip",
 ];
 
 /// How many places each question fills, in the same order.
-const PLACES: [usize; 10] = [1, 8, 2, 1, 2, 2, 1, 1, 5, 1];
+const PLACES: [usize; 11] = [1, 8, 2, 1, 2, 2, 1, 1, 2, 5, 1];
 
 /// An answer: its own numbers, and what goes to the lent numbers or bytes.
 #[derive(Clone, Debug, Default, PartialEq)]
@@ -57,8 +59,9 @@ impl Question {
             Question::Stretch { .. } => 5,
             Question::Profile { .. } => 6,
             Question::Feature { .. } => 7,
-            Question::ReadSlip => 8,
-            Question::WriteSlip { .. } => 9,
+            Question::Peak { .. } => 8,
+            Question::ReadSlip => 9,
+            Question::WriteSlip { .. } => 10,
         }
     }
 
@@ -92,6 +95,10 @@ impl Question {
                 listed(records.into_iter().map(|record| [record.part_id, record.code, record.value]))
             }
             Question::Feature { id, code } => only(&[u64::from(movie.feature(id, code)?)]),
+            Question::Peak { id, code } => {
+                let (first, samples) = movie.peak(id, code)?;
+                only(&[first, samples])
+            }
             Question::WriteSlip { id, a, b } => {
                 let bytes = movie.slip(id, a, b)?;
                 Answer { bytes: bytes.clone(), ..only(&[long(bytes.len())]) }

@@ -75,8 +75,14 @@ fn overlapping(scale: u32) -> Track {
     Track { scale, ..many_chunks(70_000, 70_000) }
 }
 
+/// The same, the first half of the samples lasting twice as long as the rest: with a time scale of 7,600 the second with most bits, which is later, has
+/// hardly less than 2^32, with 8,000 more. The first second has far less.
+fn later_peak(scale: u32) -> Track {
+    Track { duration: 105_000, stts: vec![(35_000, 2), (35_000, 1)], ..overlapping(scale) }
+}
+
 /// How many films there are.
-pub const FILMS: usize = 10;
+pub const FILMS: usize = 12;
 
 /// One of them.
 pub fn limit(random: &mut Random, which: usize) -> Vec<u8> {
@@ -90,6 +96,8 @@ pub fn limit(random: &mut Random, which: usize) -> Vec<u8> {
         6 => film(overlapping(600)),
         7 => film(overlapping(u32::MAX)),
         8 => film(many_chunks(MOST, 5_000)),
+        9 => film(later_peak(7_600)),
+        10 => film(later_peak(8_000)),
         _ => sixteen_large_tracks(random),
     }
 }

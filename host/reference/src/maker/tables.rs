@@ -15,6 +15,14 @@ pub fn scale(random: &mut Random) -> u32 {
     }
 }
 
+/// A time scale that a run of samples just reaches, or just doesn't: the total of some durations, or one less or more.
+fn scale_of_a_run(random: &mut Random, durations: &[u32]) -> u32 {
+    let first = random.below(durations.len());
+    let samples = 1 + random.below(durations.len() - first);
+    let total: u32 = durations[first..first + samples].iter().sum();
+    random.one(&[total.saturating_sub(1), total, total, total.saturating_add(1)]).max(1)
+}
+
 /// How many samples a track has.
 pub fn sample_count(random: &mut Random) -> usize {
     match random.below(100) {
@@ -177,10 +185,11 @@ pub fn track_of(random: &mut Random, id: u32, samples: usize) -> Track {
     let descriptions = descriptions(random, &subtype, samples);
     let dealt = deal(random, samples);
     let durations = durations(random, &dealt);
+    let by_a_run = !durations.is_empty() && random.once_in(3);
     Track {
         id,
         subtype,
-        scale: scale(random),
+        scale: if by_a_run { scale_of_a_run(random, &durations) } else { scale(random) },
         duration: durations.iter().sum(),
         stts: entries(random, &durations),
         ctts: ctts_entries(random, samples),
