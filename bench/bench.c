@@ -117,6 +117,24 @@ static bool ask_feature(const struct film *f, const struct track_facts *t, doubl
     return refused == 0 && value == (8 * t->bytes * t->scale + t->total - 1) / t->total;
 }
 
+static bool ask_highest(const struct film *f, const struct track_facts *t, double *ms)
+{
+    uint64_t value;
+    double begin = now_ms();
+    uint32_t refused = chaldoref_feature(f->bytes, f->len, t->id, CHALDOREF_MVBR, &value, 1);
+    *ms = now_ms() - begin;
+    return refused == 0 && value == t->peak_rate;
+}
+
+static bool ask_peak(const struct film *f, const struct track_facts *t, double *ms)
+{
+    uint64_t places[2];
+    double begin = now_ms();
+    uint32_t refused = chaldoref_peak(f->bytes, f->len, t->id, CHALDOREF_MVBR, places, 2);
+    *ms = now_ms() - begin;
+    return refused == 0 && places[0] == t->peak_first && places[1] == t->peak_samples;
+}
+
 #ifdef WITH_AV
 static bool ask_open(const struct film *f, const struct track_facts *t, double *ms)
 {
@@ -145,6 +163,8 @@ static int gather(struct candidate *c, const struct film *f)
     c[n++] = (struct candidate){ .name = "sample at the last time", .run = ask_sample_at, .track = f->track };
     c[n++] = (struct candidate){ .name = "slip of the whole", .run = ask_write_slip, .track = f->track };
     c[n++] = (struct candidate){ .name = "feature avvb", .run = ask_feature, .track = f->track };
+    c[n++] = (struct candidate){ .name = "feature mvbr", .run = ask_highest, .track = f->track };
+    c[n++] = (struct candidate){ .name = "peak of mvbr", .run = ask_peak, .track = f->track };
 #ifdef WITH_AV
     c[n++] = (struct candidate){ .name = "libavformat: open", .run = ask_open, .slow = true };
     c[n++] = (struct candidate){ .name = "libavformat: find stream info", .run = ask_info, .slow = true };

@@ -242,6 +242,25 @@ static void put_mdia(struct writer *w, const struct plan *p, struct track_facts 
     poke32(w->bytes + mdhd + 24, f->total);
 }
 
+/* From each sample on as many as last a second; no film is shorter. */
+static void find_peak(const struct plan *p, struct track_facts *f)
+{
+    for (uint32_t first = 0; first < FILM_SAMPLES; first++) {
+        uint64_t bytes = 0, time = 0;
+        uint32_t past = first;
+        for (; past < FILM_SAMPLES && time < p->scale; past++) {
+            bytes += size_of(p, past);
+            time += duration_of(p, past);
+        }
+        uint64_t rate = (8 * bytes * p->scale + time - 1) / time;
+        if (time >= p->scale && rate > f->peak_rate) {
+            f->peak_rate = rate;
+            f->peak_first = first + 1;
+            f->peak_samples = past - first;
+        }
+    }
+}
+
 static struct track_facts put_trak(struct writer *w, const struct plan *p, uint32_t id, uint32_t offset)
 {
     struct track_facts f = { .id = id, .subtype = p->subtype, .scale = p->scale, .samples = FILM_SAMPLES };
@@ -253,6 +272,7 @@ static struct track_facts put_trak(struct writer *w, const struct plan *p, uint3
     close_atom(w, tkhd);
     put_mdia(w, p, &f, offset);
     close_atom(w, trak);
+    find_peak(p, &f);
     return f;
 }
 

@@ -12,6 +12,7 @@ struct track_facts {
     uint32_t id, subtype, scale, total, samples, chunks;
     uint32_t last_duration, last_size, last_begin;
     uint64_t bytes;
+    uint64_t peak_rate, peak_first, peak_samples; /* the second with the highest bit rate, the first of equal ones */
 };
 
 struct film {
