@@ -91,6 +91,9 @@ fn codes() {
     for feature in Feature::ALL {
         assert_eq!(FourCC::from(feature), feature.code());
         assert_eq!(Feature::from_code(feature.code()), Some(feature));
+        let name = feature.code().to_string().to_uppercase();
+        let line = format!("#define CHALDOREF_{name} UINT32_C({:#010x})\n", feature.code().0);
+        assert!(include_str!("../../../include/chaldoref.h").contains(&line), "{line}");
     }
     let codes = ["avvb", "avab", "tvsz", "vfps", "mvbr", "mabr"];
     assert_eq!(Feature::ALL.map(|feature| feature.code().to_string()), codes);

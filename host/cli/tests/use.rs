@@ -1,7 +1,7 @@
 //! Help, the man page, and how files may be named.
 mod common;
 
-use chaldoref::Refusal;
+use chaldoref::{Feature, Refusal};
 use common::{answers, program, run, words, Folder, W};
 use reference::film::w;
 use std::ffi::OsString;
@@ -54,6 +54,11 @@ fn the_man_page_has_all() {
     }
     for refusal in Refusal::ALL {
         assert!(page.contains(&format!(".B {}\n{refusal}\n", refusal.number())), "{refusal}");
+    }
+    let features = run(&["features", "--help"]).out;
+    for feature in Feature::ALL {
+        assert!(page.contains(&format!(".B {}\n(", feature.code())), "{feature}");
+        assert!(features.contains(&feature.code().to_string()), "{feature}");
     }
     assert!(page.contains(env!("CARGO_PKG_VERSION")));
 }
