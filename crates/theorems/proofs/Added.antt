@@ -1,15 +1,16 @@
 -- Numbers added by their indices, each the step from one value to the next, come to the way from the first value to the last: so the sizes of some samples come to
--- the bytes from the first to the last of them, and the parts of all samples in a stretch to its length.
+-- the bytes from the first to the last of them, and the parts of all samples in a stretch to its length. A sum cut at a start adds up.
 -- Assumes nothing.
 use Prim.Native.Nat.{ℕ, zero, suc, _+_, _-_, _≤_, _<_}
 use mathlib.Core.Path.{_≡_, refl, sym, ap, _∙_}
 use mathlib.Core.List.{List, [], _∷_, map, map-append}
 use native.Mathlib.Nat.{zero-add}
 use native.Mathlib.Omega.{arith}
+use native.Mathlib.Decide.{ℕ-discrete}
 use lib.ListN.{length, getD, take, drop}
-use Rattle.lists.specs.Lists.{sum, before, between, upTo, part, parts}
+use Rattle.lists.specs.Lists.{sum, before, between, upTo, holder, part, parts}
 use Rattle.lists.proofs.Laws.{sum-append}
-use Rattle.lists.proofs.Places.{before-suc, between-split, between-one, parts-sum}
+use Rattle.lists.proofs.Places.{before-suc, holder-only, holder-mono, between-split, between-one, parts-sum}
 
 steps : (f g : ℕ → ℕ) (n : ℕ) → ((i : ℕ) → i < n → f i + g i ≡ g (suc i)) → sum (map f (upTo n)) + g 0 ≡ g n
 steps f g zero h = zero-add (g 0)
@@ -75,3 +76,20 @@ parts-added ds f a b n o w c h =
     ∙ ap (before ps) (sym (parts-length a b 0 ds ∙ c))
     ∙ before-all ps
     ∙ parts-sum a b ds o w
+
+-- ---- a stretch cut at the start of the sample with index i, where no sample of zero duration stands
+
+pub cut-at : (ds zs : List ℕ) (a b i : ℕ) → ((k : ℕ) → k < length ds → before ds k ≡ before ds i → 0 < getD ds k 0) → i < length ds → a < before ds i → before ds i < b
+    → between zs (holder ds a) (suc (holder ds (b - 1)))
+    ≡ between zs (holder ds a) (suc (holder ds (before ds i - 1))) + between zs (holder ds (before ds i)) (suc (holder ds (b - 1)))
+cut-at ds zs a b zero pos few l k = absurd (omega arith)
+cut-at ds zs a b (suc i) pos few l k =
+    let c = before ds (suc i) in
+    let width : 0 < getD ds i 0 = elim (ℕ-discrete (getD ds i 0) 0) [
+      | yes e ↦ pos i (omega arith) (omega (arith, before-suc ds i))
+      | no e ↦ omega arith
+    ] in
+    let here : suc i ≡ holder ds c = holder-only ds c (suc i) (record { from = omega arith; to = omega (arith, pos (suc i) few refl) }) in
+    let last : i ≡ holder ds (c - 1) = holder-only ds (c - 1) i (record { from = omega (arith, before-suc ds i, width); to = omega (arith, before-suc ds i) }) in
+    let e : suc (holder ds (c - 1)) ≡ holder ds c = omega arith in
+    rw e (between-split zs (holder ds a) (holder ds c) (suc (holder ds (b - 1))) (holder-mono ds a c (omega arith)) (omega (arith, holder-mono ds c (b - 1) (omega arith))))

@@ -2,12 +2,12 @@
 -- Assumes nothing.
 use Prim.Native.Nat.{ℕ, zero, suc, _-_, _≤_, _<_}
 use mathlib.Core.Path.{_≡_, refl}
-use mathlib.Core.Bool.{Bool, true, false, cond}
+use mathlib.Core.Bool.{Bool, true, false, cond, _&&_}
 use mathlib.Core.List.{List}
 use native.Mathlib.Omega.{arith}
 use native.Mathlib.Decide.{decLe, decLt}
 use lib.ListN.{length}
-use lib.Dec.{eqb, ltb}
+use lib.Dec.{eqb, ltb, leb}
 use borrow.Author.Tests.{lt-ltb, le-ltb, le-leb, lt-leb, ltb-true, leb-true, eqb-true}
 use Rattle.lists.specs.Lists.{sum, holder}
 use Rattle.lists.proofs.Booleans.{and-left, and-right}
@@ -96,6 +96,25 @@ module _ (s : List ℕ) (id : ℕ) (e : askRefusal s id ≡ 0) where
   unfolding stretchAnswer stretchRefusal spanRefusal noRoom orElse totalIn trackOf
   pairs-is a b room o w r =
       rw (e, lt-ltb (a .0) (b .0) o, le-leb (b .0) (sum (tables s id .durations)) w, le-ltb (length room) (length (flat (stretchPairs s id a b))) r)
+
+  pub short-is : (a b : MediaTime) (room : List ℕ) → a .0 < b .0 → b .0 ≤ sum (tables s id .durations) → length room < length (flat (stretchPairs s id a b))
+      → stretchAnswer s id a b room ≡ stretch.Refused 16
+  unfolding stretchAnswer stretchRefusal spanRefusal noRoom orElse totalIn trackOf
+  short-is a b room o w r =
+      rw (e, lt-ltb (a .0) (b .0) o, le-leb (b .0) (sum (tables s id .durations)) w, lt-ltb (length room) (length (flat (stretchPairs s id a b))) r)
+
+  outside : (a b : MediaTime) → ((a .0 < b .0) × (b .0 ≤ sum (tables s id .durations)) → ⊥) → (ltb (a .0) (b .0) && leb (b .0) (sum (tables s id .durations))) ≡ false
+  outside a b n = elim (decLt (a .0) (b .0)) [
+    | yes o ↦ elim (decLe (b .0) (sum (tables s id .durations))) [
+      | yes w ↦ absurd (n (o, w))
+      | no w ↦ rw (lt-ltb (a .0) (b .0) o) (lt-leb (b .0) (sum (tables s id .durations)) (omega arith))
+    ]
+    | no o ↦ rw (le-ltb (a .0) (b .0) (omega arith))
+  ]
+
+  pub no-stretch : (a b : MediaTime) → ((a .0 < b .0) × (b .0 ≤ sum (tables s id .durations)) → ⊥) → (room : List ℕ) → stretchAnswer s id a b room ≡ stretch.Refused 15
+  unfolding stretchAnswer stretchRefusal spanRefusal orElse totalIn trackOf
+  no-stretch a b n room = rw (e, outside a b n)
 
 -- ---- what the answer of a stretch tells
 

@@ -22,19 +22,20 @@ use Rattle.questions.specs.Asked.{askRefusal, trackAsked}
 use Rattle.questions.proofs.Asking.{asked}
 use Rattle.questions.specs.Samples.{sampleOf, sampleAnswer}
 use Rattle.questions.specs.Times.{atAnswer}
-use Rattle.stretch.specs.Stretches.{firstIn, pastIn, bytesIn, stretchPairs}
+use Rattle.pairs.proofs.Counting.{touched-length}
+use Rattle.stretch.specs.Stretches.{firstIn, pastIn, pairsIn, bytesIn, stretchPairs}
 use Rattle.questions.specs.declared.samples.Sample.{Sample}
 use Rattle.questions.specs.declared.samples.SampleAnswer.the-variants.{Found}
 use Rattle.questions.specs.declared.times.NumberAnswer.the-variants as number
-use Rattle.theorems.specs.Entries.{stcoEntries, stszEntries, mediaTotal}
+use Rattle.theorems.specs.Entries.{mediaTotal}
 use Rattle.theorems.specs.Demand.{HasTime, partIn, sizeIn, howMany, added, NoZeroDuration, OfTrack, Demand3}
-use Rattle.theorems.proofs.Added.{sizes-added, parts-added}
+use Rattle.theorems.proofs.Added.{sizes-added, parts-added, cut-at}
 use Rattle.theorems.proofs.Dealt.{gets-of, gets-only, first-low, first-chunk, first-offset, next-offset}
 use Rattle.theorems.proofs.Lists.{tables, Listed, listed}
 use Rattle.theorems.proofs.Entries.{total-is, count-is, entry-counts, size-at, offset-at, entry-holds}
 use Rattle.theorems.proofs.Tracks.{own-asked, own-itself}
 use Rattle.stretch.proofs.Spanning.{flat-length}
-use Rattle.theorems.proofs.Answers.{Known, found-is, none-is, past-is, found-known, at-is, at-outside, at-known, pairs-is, pairs-known}
+use Rattle.theorems.proofs.Answers.{Known, found-is, none-is, past-is, found-known, at-is, at-outside, at-known, pairs-is, short-is, no-stretch, pairs-known}
 
 -- ---- what a sample's answer says of the lists
 
@@ -68,10 +69,11 @@ has-of : (s : List ℕ) (id i t : ℕ) → Holds (tables s id .durations) t i �
 unfolding sampleOf
 has-of s id i t h = record { from = h .from; to = h .to }
 
--- the duration of an index is not zero where no answer's is
-lasting : (s : List ℕ) (id : ℕ) (e : askRefusal s id ≡ 0) (i : ℕ) → i < samplesOf (trackAsked s id) → NoZeroDuration s id → 0 < getD (tables s id .durations) i 0
+-- the duration of an index is not zero where it stands at m and no answer there is of zero duration
+lasting : (s : List ℕ) (id m : ℕ) (e : askRefusal s id ≡ 0) (i : ℕ) → i < samplesOf (trackAsked s id) → NoZeroDuration s id m → before (tables s id .durations) i ≡ m
+    → 0 < getD (tables s id .durations) i 0
 unfolding sampleOf
-lasting s id e i h all = omega (arith, all (suc i) (sampleOf (tables s id) i) (found-is s id e (suc i) i refl h))
+lasting s id m e i h all w = omega (arith, all (suc i) (sampleOf (tables s id) i) (found-is s id e (suc i) i refl h) w)
 
 -- ---- stretches
 
@@ -124,17 +126,28 @@ module _ (s : List ℕ) (id : ℕ) (e : askRefusal s id ≡ 0) (l : Listed s id)
         (sym (sizes-added (tables s id .sizes) (λ j. sizeIn (sampleAnswer s id (first + j))) (r .i) (r .n) (λ j h. ap sizeIn (each j h))))
 
 -- a stretch cut at the start of the sample with index i
-cut-fits : (s : List ℕ) (id : ℕ) (a m b : MediaTime) (i : ℕ) → ((k : ℕ) → k < length (tables s id .durations) → 0 < getD (tables s id .durations) k 0)
+cut-fits : (s : List ℕ) (id : ℕ) (a m b : MediaTime) (i : ℕ)
+    → ((k : ℕ) → k < length (tables s id .durations) → before (tables s id .durations) k ≡ before (tables s id .durations) i → 0 < getD (tables s id .durations) k 0)
     → i < length (tables s id .durations) → m .0 ≡ before (tables s id .durations) i → a .0 < m .0 → m .0 < b .0
     → bytesIn (tables s id) a b ≡ bytesIn (tables s id) a m + bytesIn (tables s id) m b
 unfolding bytesIn firstIn pastIn
-cut-fits s id a m b i pos h d o w =
+cut-fits s id a m b i pos h d o w = rw d (cut-at (tables s id .durations) (tables s id .sizes) (a .0) (b .0) i pos h (omega arith) (omega arith))
+
+-- one pair for each chunk from that of the first sample to that of the last
+pairs-fit : (s : List ℕ) (id : ℕ) → Listed s id → (a b : MediaTime) → b .0 - 1 < sum (tables s id .durations)
+    → length (stretchPairs s id a b)
+    ≡ suc (suc (holder (tables s id .perChunk) (holder (tables s id .durations) (b .0 - 1)))) - suc (holder (tables s id .perChunk) (holder (tables s id .durations) (a .0)))
+unfolding stretchPairs pairsIn firstIn pastIn
+pairs-fit s id l a b h =
     let ds = tables s id .durations in
-    let zs = tables s id .sizes in
-    let same : (x y : ℕ) → between zs (holder ds x) (suc (holder ds (y - 1))) ≡ places.bytesIn ds zs x y =
-    λ x y. let q : suc (holder ds (y - 1)) ≡ holder ds (y - 1) + 1 = omega arith in ap (between zs (holder ds x)) q in
-    let c = places.cut ds zs (a .0) (b .0) i pos h (omega arith) (omega arith) in
-    rw d (omega (arith, same (a .0) (b .0), same (a .0) (before ds i), same (before ds i) (b .0), c))
+    let ps = tables s id .perChunk in
+    let i = holder ds (a .0) in
+    let j = holder ds (b .0 - 1) in
+    let z : suc j - 1 - 0 ≡ j = omega arith in
+    let y : i - 0 ≡ i = omega arith in
+    let low = places.holds-below ds (b .0 - 1) j (places.holder-holds ds (b .0 - 1) h) .1 in
+    let k = places.holds-below ps j (holder ps j) (places.holder-holds ps j (omega (arith, low, l .timed, l .dealt))) .1 in
+    omega (arith, rw (z, y) at (touched-length i (suc j) 0 ps (tables s id .chunkOffsets) (tables s id .sizes) (omega arith) (omega arith)), k)
 
 -- the parts of all samples
 all-parts : (s : List ℕ) (id : ℕ) → askRefusal s id ≡ 0 → Listed s id → (a b : ℕ) → a < b → b ≤ sum (tables s id .durations)
@@ -154,10 +167,10 @@ module _ (s t : List ℕ) (e : askRefusal s (idOf t) ≡ 0) (itself : trackAsked
   shape : Shaped t
   shape = rw itself at (asked s (idOf t) e .track .shape)
 
-  many : samplesOf (trackAsked s (idOf t)) ≡ stszEntries t
+  many : samplesOf (trackAsked s (idOf t)) ≡ samplesOf t
   many = ap samplesOf itself
 
-  chunked : chunksOf (trackAsked s (idOf t)) ≡ stcoEntries t
+  chunked : chunksOf (trackAsked s (idOf t)) ≡ chunksOf t
   chunked = ap chunksOf itself
 
   durations-are : tables s (idOf t) .durations ≡ perSample (tableOf stts t)
@@ -196,7 +209,16 @@ module _ (s t : List ℕ) (e : askRefusal s (idOf t) ≡ 0) (itself : trackAsked
         found = λ n lo hi. (sampleOf (tables s id) (n - 1), found-is s id e n (n - 1) (omega arith) (omega (arith, many)));
         none = none-is s id e;
         past = λ n h. past-is s id e n (omega (arith, many));
-        timed = sym (count-is t shape) ∙ ap length (sym durations-are) ∙ l .timed ∙ many;
+        counted = sym (count-is t shape) ∙ ap length (sym durations-are) ∙ l .timed ∙ many;
+        starts = λ x q.
+            let u = found-known s id e 1 x q in
+            let v : u .index ≡ 0 = omega (arith, u .number) in
+            omega (arith, decode-is s id 1 x u, ap (before ds) v);
+        follows = λ n x y p q.
+            let u = found-known s id e n x p in
+            let v = found-known s id e (suc n) y q in
+            let w : v .index ≡ suc (u .index) = omega (arith, u .number, v .number) in
+            omega (arith, decode-is s id n x u, duration-is s id n x u, decode-is s id (suc n) y v, ap (before ds) w, places.before-suc ds (u .index));
         lasts = λ n x q.
             let u = found-known s id e n x q in
             let k = entry-counts t shape n (u .index) (u .number) (omega (arith, u .low, l .timed, ap length durations-are)) in
@@ -269,14 +291,34 @@ module _ (s t : List ℕ) (e : askRefusal s (idOf t) ≡ 0) (itself : trackAsked
           length (stretchPairs s id a b),
           bytesIn (tables s id) a b,
           λ room h. pairs-is s id e a b room o (omega (arith, total)) (omega (arith, flat-length (stretchPairs s id a b))),
+          λ room h. short-is s id e a b room o (omega (arith, total)) (omega (arith, flat-length (stretchPairs s id a b))),
         );
+        refused = λ a b n room. no-stretch s id e a b (λ w. n (w .0, omega (arith, w .1, total))) room;
+        pairs = λ a b z room k total′ first last x y g d p q f h.
+            let r = pairs-known s id a b room k total′ g in
+            let v = at-known s id e a first p in
+            let w = at-known s id e z last q in
+            let t : holder ds (z .0) ≡ holder ds (b .0 - 1) = ap (holder ds) d in
+            let u₁ = found-known s id e first x f in
+            let u₂ = found-known s id e last y h in
+            let i₁ : u₁ .index ≡ holder ds (a .0) = omega (arith, u₁ .number, v .1) in
+            let i₂ : u₂ .index ≡ holder ds (b .0 - 1) = omega (arith, u₂ .number, w .1, t) in
+            omega (
+              arith,
+              r .count,
+              pairs-fit s id l a b (omega (arith, w .0, d)),
+              chunk-is s id first x u₁,
+              ap (holder ps) i₁,
+              chunk-is s id last y u₂,
+              ap (holder ps) i₂,
+            );
         bytes = λ a b z room k total first last g d p q.
             let r = pairs-known s id a b room k total g in
             r .total ∙ sizes-fit s id e l a b first last (run-of s id e l a b z first last (r .span .order) (r .span .within) d p q);
-        cut = λ pos a m b n x f d o w room₁ room₂ room k₁ k₂ k bytes₁ bytes₂ bytes p q r.
+        cut = λ a m b pos n x f d o w room₁ room₂ room k₁ k₂ k bytes₁ bytes₂ bytes p q r.
             let u = found-known s id e n x f in
-            let all : (i : ℕ) → i < length ds → 0 < getD ds i 0 = λ i h.
-            lasting s id e i (omega (arith, l .timed)) pos in
+            let all : (i : ℕ) → i < length ds → before ds i ≡ before ds (u .index) → 0 < getD ds i 0 = λ i h q′.
+            lasting s id (m .0) e i (omega (arith, l .timed)) pos (q′ ∙ sym (d ∙ decode-is s id n x u)) in
             let c = cut-fits s id a m b (u .index) all (omega (arith, u .low, l .timed)) (d ∙ decode-is s id n x u) o w in
             omega (
               arith,

@@ -4,7 +4,7 @@ use Prim.Native.Nat.{ℕ, zero, suc, _≤_, _<_}
 use mathlib.Core.Path.{_≡_, refl, sym, subst, _∙_}
 use mathlib.Core.Logic.{_⊎_, inl, inr, ⊎-elim}
 use mathlib.Core.Bool.{Bool, true, false, cond, _||_}
-use mathlib.Core.List.{List, [], _∷_}
+use mathlib.Core.List.{List, [], _∷_, _++_, map}
 use native.Mathlib.Omega.{arith}
 use lib.ListN.{length}
 use lib.Dec.{ltb, eqb·suc-zero}
@@ -64,6 +64,10 @@ unfolding orElse
 else-cases zero b = inl (refl, refl)
 else-cases (suc a) b = inr (λ e. omega arith, rw (eqb·suc-zero a))
 
+numbered : (scale len : ℕ) → map (λ r. r .number) (fileRows ++ moovRows scale len) ≡ 1 ∷ 2 ∷ 3 ∷ 4 ∷ 5 ∷ 6 ∷ 7 ∷ 8 ∷ 9 ∷ 10 ∷ 11 ∷ 12 ∷ 13 ∷ []
+unfolding fileRows moovRows
+numbered scale len = refl
+
 pub lowest-applies : (s : List ℕ) → LowestApplies s
 unfolding fileRefusal moovRefusal
 lowest-applies s =
@@ -73,6 +77,7 @@ lowest-applies s =
     let rows = moovRows (movieScale m) (length s) in
     let cases = else-cases (first f fileRows) (first g rows) in
     record {
+      numbers = numbered (movieScale m) (length s);
       applies = λ h.
           ⊎-elim (λ c. subst (Applies s) (sym (c .1)) (inr (given g rows (λ z. h (c .1 ∙ z))))) (λ c. subst (Applies s) (sym (c .1)) (inl (given f fileRows (c .0)))) cases;
       lowest = λ n o.

@@ -16,11 +16,11 @@ use Rattle.words.specs.Words.{sizes, chunkOffsets}
 use Rattle.chunks.specs.Chunks.{perChunk, endWithin}
 use Rattle.pairs.specs.Pairs.{touched, flat}
 use Rattle.edits.specs.declared.MediaTime.{MediaTime}
-use Rattle.slip.specs.Slip.{Rules, IsSlip, Reads}
+use Rattle.slip.specs.Slip.{slipBytes, Rules, Reads}
 use Rattle.slip.specs.declared.Head.{Head}
 use Rattle.slip.specs.declared.read.SlipRead.{SlipRead}
 use Rattle.slip.specs.declared.read.SlipRead.the-variants.{Accepted}
-use Rattle.slip.proofs.Promises.{reads-back, accepted-only, one-slip}
+use Rattle.slip.proofs.Promises.{reads-back, accepted-only}
 use Rattle.structure.specs.Track.{scaleOf, samplesOf}
 use Rattle.structure.proofs.Callers.{none-else}
 use Rattle.track.specs.Track.{trackOf}
@@ -108,10 +108,10 @@ slip-rules s id a b bytes p =
 
 -- ---- written, and read
 
-pub written-reads-back : (s : List ℕ) → Bytes s → (id : ℕ) (a b : MediaTime) → ReadsBack s id a b
+pub written-reads-back : (s : List ℕ) (id : ℕ) (a b : MediaTime) → ReadsBack s id a b
 unfolding slipOfStretch slipHead slipRefusal trackOf
-written-reads-back s bytes id a b = record {
-  same = λ out after n slips room put k total stretches places enough r read reads.
+written-reads-back s id a b = record {
+  same = λ bytes out after n slips room put k total stretches places enough r read reads.
       let ps = stretchPairs s id a b in
       let u = slip-known s id a b out n (sym (slips .answer)) in
       let v = pairs-known s id a b room k total (sym (stretches .answer)) in
@@ -130,17 +130,17 @@ written-reads-back s bytes id a b = record {
 
 -- ---- read twice
 
+-- the pairs are the first places of the room
+pairs-in : (pairs room after : List ℕ) (n : ℕ) → length pairs ≡ 2 * n → after ≡ pairs ++ drop (length pairs) room → take (2 * n) after ≡ pairs
+pairs-in pairs room after n c e = ap (take (2 * n)) e ∙ take-at pairs (drop (length pairs) room) (2 * n) c
+
+writing : (h : Head) (bs room after : List ℕ) → Reads bs room (Accepted h) after → bs ≡ slipBytes h (take (2 * h .pairs) after)
+writing h bs room after p =
+    let u = accepted-only bs room (Accepted h) after p h refl in
+    u .1 .bytes ∙ ap (slipBytes h) (sym (pairs-in (u .0) room after (h .pairs) (u .1 .rules .all-pairs) (u .2)))
+
 pub only-writing : (h : Head) → OnlyWriting h
 only-writing h = record {
-  same = λ bs cs room₁ room₂ after₁ after₂ p q e.
-      let u = accepted-only bs room₁ (Accepted h) after₁ p h refl in
-      let v = accepted-only cs room₂ (Accepted h) after₂ q h refl in
-      let x = pairs-in (u .0) room₁ after₁ (h .pairs) (u .1 .rules .all-pairs) (u .2) in
-      let y = pairs-in (v .0) room₂ after₂ (h .pairs) (v .1 .rules .all-pairs) (v .2) in
-      let same : v .0 ≡ u .0 = sym y ∙ sym e ∙ x in
-      one-slip bs cs h (u .0) (u .1) (subst (IsSlip cs h) same (v .1));
+  written = writing h;
+  same = λ bs cs room₁ room₂ after₁ after₂ p q e. writing h bs room₁ after₁ p ∙ ap (slipBytes h) e ∙ sym (writing h cs room₂ after₂ q);
 }
-  where
-    -- the pairs are the first places of the room
-    pairs-in : (pairs room after : List ℕ) (n : ℕ) → length pairs ≡ 2 * n → after ≡ pairs ++ drop (length pairs) room → take (2 * n) after ≡ pairs
-    pairs-in pairs room after n c e = ap (take (2 * n)) e ∙ take-at pairs (drop (length pairs) room) (2 * n) c

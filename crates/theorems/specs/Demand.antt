@@ -5,7 +5,7 @@ use mathlib.Core.List.{List, [], map}
 use lib.ListN.{length, getD}
 use Rattle.lists.specs.Lists.{sum, before, upTo, part}
 use Rattle.edits.specs.declared.MediaTime.{MediaTime}
-use Rattle.structure.specs.Track.{idOf}
+use Rattle.structure.specs.Track.{idOf, samplesOf, chunksOf}
 use Rattle.structure.specs.Movie.{moovOf, tracksOf}
 use Rattle.movie.specs.Refusals.{fileRefusal}
 use Rattle.questions.specs.Asked.{askRefusal, trackAsked}
@@ -18,7 +18,7 @@ use Rattle.questions.specs.declared.samples.SampleAnswer.the-variants.{Found, R
 use Rattle.questions.specs.declared.times.NumberAnswer.the-variants as number
 use Rattle.stretch.specs.declared.StretchAnswer.the-variants as stretch
 use Rattle.theorems.specs.Entries.{sttsEntries, sampleDuration, countedBy, mediaTotal, stscEntries, firstChunk, samplesPerChunk}
-use Rattle.theorems.specs.Entries.{stcoEntries, chunkOffset, stszEntries, sampleSize}
+use Rattle.theorems.specs.Entries.{chunkOffset, sampleSize}
 
 -- ---- the words of the claim; t is the body of a track's trak
 
@@ -41,9 +41,9 @@ pub record HoldsFor (t : List ℕ) (k c : ℕ) : Type 0 where
 
 -- "as many as its stsc entry says": ps has one number for each chunk of stco, that of the stsc entry which holds for it, and together they are N
 pub record Deals (t ps : List ℕ) : Type 0 where
-  pub chunks : length ps ≡ stcoEntries t
-  pub each : (c : ℕ) → 1 ≤ c → c ≤ stcoEntries t → (k : ℕ) × HoldsFor t k c × (getD ps (c - 1) 0 ≡ samplesPerChunk t k)
-  pub all : sum ps ≡ stszEntries t
+  pub chunks : length ps ≡ chunksOf t
+  pub each : (c : ℕ) → 1 ≤ c → c ≤ chunksOf t → (k : ℕ) × HoldsFor t k c × (getD ps (c - 1) 0 ≡ samplesPerChunk t k)
+  pub all : sum ps ≡ samplesOf t
 
 -- "Chunk after chunk gets the next samples", ps being how many: the chunk with the number c gets the sample with the number n. The chunks before it
 -- get fewer than n samples, and with it they get n or more
@@ -71,9 +71,9 @@ howMany first last = suc last - first
 abbrev pub added : List ℕ → ℕ → (SampleAnswer → ℕ) → ℕ → ℕ → ℕ
 added s id f first last = sum (map (λ i. f (sampleAnswer s id (first + i))) (upTo (howMany first last)))
 
--- no sample of the track has zero duration
-abbrev pub NoZeroDuration : List ℕ → ℕ → Type 0
-NoZeroDuration s id = (n : ℕ) (x : Sample) → sampleAnswer s id n ≡ Found x → 0 < x .duration
+-- no sample of zero duration stands at the time m
+abbrev pub NoZeroDuration : List ℕ → ℕ → ℕ → Type 0
+NoZeroDuration s id m = (n : ℕ) (x : Sample) → sampleAnswer s id n ≡ Found x → x .decode ≡ m → 0 < x .duration
 
 -- ---- the claim, of the track whose trak has the body t
 
@@ -82,10 +82,14 @@ pub record OfTrack (s t : List ℕ) : Type 0 where
   pub asked : askRefusal s (idOf t) ≡ 0
   pub itself : trackAsked s (idOf t) ≡ t
   -- the samples are those numbered 1 to N, and stts counts as many
-  pub found : (n : ℕ) → 1 ≤ n → n ≤ stszEntries t → (x : Sample) × (sampleAnswer s (idOf t) n ≡ Found x)
+  pub found : (n : ℕ) → 1 ≤ n → n ≤ samplesOf t → (x : Sample) × (sampleAnswer s (idOf t) n ≡ Found x)
   pub none : sampleAnswer s (idOf t) 0 ≡ Refused 15
-  pub past : (n : ℕ) → stszEntries t < n → sampleAnswer s (idOf t) n ≡ Refused 15
-  pub timed : countedBy t (sttsEntries t) ≡ stszEntries t
+  pub past : (n : ℕ) → samplesOf t < n → sampleAnswer s (idOf t) n ≡ Refused 15
+  pub counted : countedBy t (sttsEntries t) ≡ samplesOf t
+  -- "decode time (sum of durations before it)": the first starts at 0, and each other one where the one before it ends
+  pub starts : (x : Sample) → sampleAnswer s (idOf t) 1 ≡ Found x → x .decode ≡ 0
+  pub follows : (n : ℕ) (x y : Sample) → sampleAnswer s (idOf t) n ≡ Found x → sampleAnswer s (idOf t) (suc n) ≡ Found y
+      → y .decode ≡ x .decode + x .duration
   -- each has the duration of the stts entry that counts it, and its size in stsz
   pub lasts : (n : ℕ) (x : Sample) → sampleAnswer s (idOf t) n ≡ Found x → (k : ℕ) × Counts t k n × (x .duration ≡ sampleDuration t k)
   pub sized : (n : ℕ) (x : Sample) → sampleAnswer s (idOf t) n ≡ Found x → x .size ≡ sampleSize t n
@@ -96,7 +100,7 @@ pub record OfTrack (s t : List ℕ) : Type 0 where
   -- any other belongs to none, and is refused
   pub outside : (time : MediaTime) → mediaTotal t ≤ time .0
       → (atAnswer s (idOf t) time ≡ number.Refused 15) × ((m : ℕ) (y : Sample) → sampleAnswer s (idOf t) m ≡ Found y → HasTime y (time .0) → ⊥)
-  -- "samples are dealt to chunks in order, none left over, none twice": each chunk gets as many as its stsc entry says,
+  -- "samples are dealt to chunks in order, none left over, none twice": each chunk gets as many as its stsc entry says, which fixes this list,
   pub perChunk : List ℕ
   pub deals : Deals t perChunk
   -- a sample is answered with the chunk that gets it,
@@ -104,23 +108,29 @@ pub record OfTrack (s t : List ℕ) : Type 0 where
   -- and what a chunk gets are samples, answered with that chunk and so with no other
   pub gets : (c n : ℕ) → DealtTo perChunk c n → (x : Sample) × (sampleAnswer s (idOf t) n ≡ Found x) × (x .chunk ≡ c)
   -- "byte ranges in a chunk are contiguous from the chunk's offset": the first sample of a chunk begins at stco's number,
-  pub first-in : (c : ℕ) → 1 ≤ c → c ≤ stcoEntries t
+  pub first-in : (c : ℕ) → 1 ≤ c → c ≤ chunksOf t
       → (x : Sample) × (sampleAnswer s (idOf t) (suc (before perChunk (c - 1))) ≡ Found x) × (x .chunk ≡ c) × (x .offset ≡ chunkOffset t c)
   -- and each other one where the one before it ends. "Its byte range begins at its offset and is as long as its size"
   pub next-in : (n : ℕ) (x y : Sample) → sampleAnswer s (idOf t) n ≡ Found x → sampleAnswer s (idOf t) (suc n) ≡ Found y → x .chunk ≡ y .chunk
       → y .offset ≡ x .offset + x .size
   -- "the parts of the track's samples inside a stretch add up to its length": of all of them, 1 to N
-  pub parts : (a b : ℕ) → a < b → b ≤ mediaTotal t → added s (idOf t) (partIn a b) 1 (stszEntries t) ≡ b - a
-  -- each stretch is answered, in any room for its pairs
+  pub parts : (a b : ℕ) → a < b → b ≤ mediaTotal t → added s (idOf t) (partIn a b) 1 (samplesOf t) ≡ b - a
+  -- each stretch is answered in any room for its k pairs, and refused 16 in any less; what is none is refused 15
   pub answered : (a b : MediaTime) → a .0 < b .0 → b .0 ≤ mediaTotal t
       → (k : ℕ) × (bytes : ℕ) × ((room : List ℕ) → 2 * k ≤ length room → stretchAnswer s (idOf t) a b room ≡ stretch.Pairs k bytes)
+      × ((room : List ℕ) → length room < 2 * k → stretchAnswer s (idOf t) a b room ≡ stretch.Refused 16)
+  pub refused : (a b : MediaTime) → ((a .0 < b .0) × (b .0 ≤ mediaTotal t) → ⊥) → (room : List ℕ) → stretchAnswer s (idOf t) a b room ≡ stretch.Refused 15
+  -- "One pair (offset, length) for each chunk touched": from the chunk of the sample at a to that of the sample at b - 1
+  pub pairs : (a b z : MediaTime) (room : List ℕ) (k total first last : ℕ) (x y : Sample) → stretchAnswer s (idOf t) a b room ≡ stretch.Pairs k total
+      → z .0 ≡ b .0 - 1 → atAnswer s (idOf t) a ≡ number.Number first → atAnswer s (idOf t) z ≡ number.Number last
+      → sampleAnswer s (idOf t) first ≡ Found x → sampleAnswer s (idOf t) last ≡ Found y → k ≡ suc (y .chunk) - x .chunk
   -- "The bytes of a stretch are its answered total: the sizes of all samples included, added", those "from the one at a to the one at b-1"
   pub bytes : (a b z : MediaTime) (room : List ℕ) (k total first last : ℕ) → stretchAnswer s (idOf t) a b room ≡ stretch.Pairs k total
       → z .0 ≡ b .0 - 1 → atAnswer s (idOf t) a ≡ number.Number first → atAnswer s (idOf t) z ≡ number.Number last
       → total ≡ added s (idOf t) sizeIn first last
   -- "a stretch cut at a sample's start gives bytes that add up": the cut m is the start of a sample, strictly inside, and each of the three has room.
-  -- A sample of zero duration that stands at m would be in the whole and in neither part, so that there may be none
-  pub cut : NoZeroDuration s (idOf t) → (a m b : MediaTime) (n : ℕ) (x : Sample) → sampleAnswer s (idOf t) n ≡ Found x → m .0 ≡ x .decode
+  -- A sample of zero duration that stands at m would be in the whole and in neither part, so that there may be none there
+  pub cut : (a m b : MediaTime) → NoZeroDuration s (idOf t) (m .0) → (n : ℕ) (x : Sample) → sampleAnswer s (idOf t) n ≡ Found x → m .0 ≡ x .decode
       → a .0 < m .0 → m .0 < b .0 → (room₁ room₂ room : List ℕ) (k₁ k₂ k bytes₁ bytes₂ bytes : ℕ)
       → stretchAnswer s (idOf t) a m room₁ ≡ stretch.Pairs k₁ bytes₁ → stretchAnswer s (idOf t) m b room₂ ≡ stretch.Pairs k₂ bytes₂
       → stretchAnswer s (idOf t) a b room ≡ stretch.Pairs k bytes

@@ -29,17 +29,11 @@ firstChunk t k = u32At (tableOf stsc t) (16 + 12 * k)
 abbrev pub samplesPerChunk : List ℕ → ℕ → ℕ
 samplesPerChunk t k = u32At (tableOf stsc t) (20 + 12 * k)
 
--- stco: "n at 12", C, and the offset of the chunk with the number c
-abbrev pub stcoEntries : List ℕ → ℕ
-stcoEntries t = u32At (tableOf stco t) 12
-
+-- stco: the offset of the chunk with the number c; it has C entries (`chunksOf`, "n at 12")
 abbrev pub chunkOffset : List ℕ → ℕ → ℕ
 chunkOffset t c = u32At (tableOf stco t) (16 + 4 * (c - 1))
 
--- stsz: "common size 12, n at 16; sizes only if the common size is 0": N, and the size of the sample with the number n
-abbrev pub stszEntries : List ℕ → ℕ
-stszEntries t = u32At (tableOf stsz t) 16
-
+-- stsz: "common size 12, n at 16; sizes only if the common size is 0": the size of the sample with the number n; there are N (`samplesOf`)
 abbrev pub sampleSize : List ℕ → ℕ → ℕ
 sampleSize t n = cond (eqb (u32At (tableOf stsz t) 12) 0) (u32At (tableOf stsz t) (20 + 4 * (n - 1))) (u32At (tableOf stsz t) 12)
 

@@ -1,10 +1,10 @@
--- The order of the refusals of a file as a claim: "The answer is the lowest number that applies; each condition is judged on files that pass all
--- lower ones."
+-- The order of the refusals of a file as a claim: "The answer is the lowest number that applies". Each condition is defined of every file, so that it
+-- need not be "judged on files that pass all lower ones" to have a meaning.
 use Prim.Native.Nat.{ℕ, _≤_, _<_}
 use mathlib.Core.Path.{_≡_}
 use mathlib.Core.Logic.{_⊎_}
 use mathlib.Core.Bool.{Bool, true, _||_}
-use mathlib.Core.List.{List, [], _∷_}
+use mathlib.Core.List.{List, [], _∷_, _++_, map}
 use lib.ListN.{length}
 use Rattle.structure.specs.Rows.{Row, some}
 use Rattle.structure.specs.Movie.{moovOf, movieScale, tracksOf}
@@ -23,6 +23,9 @@ Applies s n =
     ⊎ OneHolds (λ r. r .whole (moovOf s) || some (r .track) (tracksOf (moovOf s))) (moovRows (movieScale (moovOf s)) (length s)) n
 
 pub record LowestApplies (s : List ℕ) : Type 0 where
+  -- the rows are those of the numbers 1 to 13
+  pub numbers : map (λ r. r .number) (fileRows ++ moovRows (movieScale (moovOf s)) (length s))
+      ≡ 1 ∷ 2 ∷ 3 ∷ 4 ∷ 5 ∷ 6 ∷ 7 ∷ 8 ∷ 9 ∷ 10 ∷ 11 ∷ 12 ∷ 13 ∷ []
   -- a number that is given applies
   pub applies : (fileRefusal s ≡ 0 → ⊥) → Applies s (fileRefusal s)
   -- where one applies a number is given, and none that applies is lower
