@@ -12,7 +12,6 @@ use Rattle.track.specs.Track.{Track, trackOf}
 use Rattle.rates.specs.declared.Feature.{Feature}
 use Rattle.rates.specs.declared.Feature.the-variants.{NotComputed}
 use Rattle.peaks.specs.Peaks.{peakOf, peakIn, rateIn}
-use Rattle.peaks.specs.declared.Peak.{Peak}
 use Rattle.peaks.specs.declared.Peak.the-variants as peaks
 use Rattle.peaks.proofs.Placing.{peak-rate}
 use Rattle.features.specs.Features.{avvb, avab, tvsz, vfps, mvbr, mabr, soun, average, picture, frames, peak, onlyIn, featureOf, peakOnlyIn, peakFor}
@@ -68,24 +67,14 @@ module _ (t : Track) (code : ℕ) where
 
   -- ---- the peak, by its code
 
+  pub peak-mvbr : code ≡ mvbr → peakFor t code ≡ peakOnlyIn vide t
+  unfolding peakFor
+  peak-mvbr e = rw e
+
+  pub peak-mabr : code ≡ mabr → peakFor t code ≡ peakOnlyIn soun t
+  unfolding peakFor
+  peak-mabr e = rw e
+
   pub peak-other : (code ≡ mvbr → ⊥) → (code ≡ mabr → ⊥) → peakFor t code ≡ peaks.NotComputed
   unfolding peakFor
   peak-other e f = rw (ne-eqb code mvbr e, ne-eqb code mabr f)
-
--- of a track's bytes, as the code has its subtype
-module _ (t : List ℕ) (code subtype : ℕ) (s : subtype ≡ subtypeOf t) where
-  pub pictures-peak : code ≡ mvbr → subtype ≡ vide → (p : Peak) → p ≡ peakIn (trackOf t .scale) (trackOf t .durations) (trackOf t .sizes) → p ≡ peakFor (trackOf t) code
-  unfolding peakFor peakOnlyIn trackOf
-  pictures-peak c e p q = rw (c, eq-eqb (subtypeOf t) vide (sym s ∙ e)) q
-
-  pub no-pictures-peak : code ≡ mvbr → (subtype ≡ vide → ⊥) → peaks.NotComputed ≡ peakFor (trackOf t) code
-  unfolding peakFor peakOnlyIn trackOf
-  no-pictures-peak c e = rw (c, ne-eqb (subtypeOf t) vide (λ z. e (s ∙ z)))
-
-  pub sound-peak : code ≡ mabr → subtype ≡ soun → (p : Peak) → p ≡ peakIn (trackOf t .scale) (trackOf t .durations) (trackOf t .sizes) → p ≡ peakFor (trackOf t) code
-  unfolding peakFor peakOnlyIn trackOf
-  sound-peak c e p q = rw (c, eq-eqb (subtypeOf t) soun (sym s ∙ e)) q
-
-  pub no-sound-peak : code ≡ mabr → (subtype ≡ soun → ⊥) → peaks.NotComputed ≡ peakFor (trackOf t) code
-  unfolding peakFor peakOnlyIn trackOf
-  no-sound-peak c e = rw (c, ne-eqb (subtypeOf t) soun (λ z. e (s ∙ z)))

@@ -21,7 +21,8 @@ use Rattle.rates.specs.declared.Feature.the-variants.{Value, NotComputed}
 use Rattle.rates.specs.Rates.{valueOf, rateOf}
 use Rattle.peaks.specs.Peaks.{peakIn, Timed}
 use Rattle.peaks.specs.declared.Peak.{Peak}
-use Rattle.features.specs.Features.{average, picture, frames, Computable}
+use Rattle.peaks.specs.declared.Peak.the-variants as peaks
+use Rattle.features.specs.Features.{average, picture, frames, peakOnlyIn, Computable}
 use Rattle.rates.proofs.Products.{value-small}
 use Rattle.rates.proofs.Orders.{eightfold}
 
@@ -45,10 +46,14 @@ module _ (t d z : List ℕ) (scale : ℕ) where
   pub peak-timed : Computable t → d ≡ tableOf stts t → z ≡ tableOf stsz t → scale ≡ scaleOf t → Timed scale (perSample d) (sizes z)
   peak-timed h a b c = rw (a, b, c) (h .timed)
 
-  pub peak-is : (p : Peak) → d ≡ tableOf stts t → z ≡ tableOf stsz t → scale ≡ scaleOf t → p ≡ peakIn scale (perSample d) (sizes z)
-      → p ≡ peakIn (trackOf t .scale) (trackOf t .durations) (trackOf t .sizes)
-  unfolding trackOf
-  peak-is p a b c e = e ∙ rw (a, b, c) refl
+  pub peak-is : (subtype wanted : ℕ) (p : Peak) → subtype ≡ subtypeOf t → subtype ≡ wanted → d ≡ tableOf stts t → z ≡ tableOf stsz t → scale ≡ scaleOf t
+      → p ≡ peakIn scale (perSample d) (sizes z) → p ≡ peakOnlyIn wanted (trackOf t)
+  unfolding peakOnlyIn trackOf
+  peak-is subtype wanted p s q a b c e = rw (eq-eqb (subtypeOf t) wanted (sym s ∙ q)) (e ∙ rw (a, b, c) refl)
+
+pub peak-not : (t : List ℕ) (subtype wanted : ℕ) → subtype ≡ subtypeOf t → (subtype ≡ wanted → ⊥) → peaks.NotComputed ≡ peakOnlyIn wanted (trackOf t)
+unfolding peakOnlyIn trackOf
+peak-not t subtype wanted s q = rw (ne-eqb (subtypeOf t) wanted (λ z. q (s ∙ z)))
 
 -- a track of pictures, its descriptions of at least 36 bytes each
 module _ (t s : List ℕ) (p : s ≡ tableOf stsd t) (v : subtypeOf t ≡ vide) (n : ℕ) (e : n ≡ length (descriptions 36 s)) where

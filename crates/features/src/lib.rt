@@ -19,8 +19,8 @@ ghost use Rattle.atoms.specs.Kinds.{vide};
 ghost use Rattle.structure.specs.Track.{subtypeOf};
 ghost use Rattle.track.specs.Track.{trackOf};
 ghost use Rattle.track.specs.Refusals.{totalIn};
-ghost use Rattle.peaks.specs.Peaks.{peakIn, rateIn};
-ghost use Rattle.features.specs.Features.{average, picture, frames, featureOf, peakFor, Computable};
+ghost use Rattle.peaks.specs.Peaks.{rateIn};
+ghost use Rattle.features.specs.Features.{average, picture, frames, featureOf, peakOnlyIn, peakFor, Computable};
 
 // The codes of the features, and the subtype of sound.
 pub const AVVB: u32 = 0x61767662;
@@ -68,11 +68,14 @@ fn frame_rate(trak: &[u8]) -> Feature
     rate(65536, media_scale(trak) as u64, least as u64)
 }
 
-// The highest rate over a second, and where it is.
-fn peak_in(trak: &[u8]) -> Peak
+// The highest rate over a second, and where it is, of a track of one subtype.
+fn peak_only_in(trak: &[u8], wanted: u32) -> Peak
     requires { ⌜ Computable (now trak) ⌝ }
-    ensures { λ r. ⌜ r ≡ peakIn (trackOf (now (trak .entry)) .scale) (trackOf (now (trak .entry)) .durations) (trackOf (now (trak .entry)) .sizes) ⌝ }
+    ensures { λ r. ⌜ r ≡ peakOnlyIn wanted (trackOf (now (trak .entry))) ⌝ }
 {
+    if subtype(trak) != wanted {
+        return Peak::NotComputed;
+    }
     peak_of(
         table(trak, kinds::STTS),
         table(trak, kinds::STSZ),
@@ -80,25 +83,14 @@ fn peak_in(trak: &[u8]) -> Peak
     )
 }
 
-// The peak of a track, by the code of its feature.
+// The same by the code of the feature.
 pub fn peak_for(trak: &[u8], code: u32) -> Peak
     requires { ⌜ Computable (now trak) ⌝ }
     ensures { λ r. ⌜ r ≡ peakFor (trackOf (now (trak .entry))) code ⌝ }
 {
-    let kind = subtype(trak);
     match code {
-        MVBR => {
-            if kind == kinds::VIDE {
-                return peak_in(trak);
-            }
-            Peak::NotComputed
-        }
-        MABR => {
-            if kind == SOUN {
-                return peak_in(trak);
-            }
-            Peak::NotComputed
-        }
+        MVBR => peak_only_in(trak, kinds::VIDE),
+        MABR => peak_only_in(trak, SOUN),
         _ => Peak::NotComputed,
     }
 }

@@ -53,8 +53,8 @@ module _ (s : ℕ) (x : Best) (w : Window) (h : IsRated s x) where
   abbrev here : Best
   here = ratedRun s (w .first) (w .stop - w .first) (w .bytes) (w .span)
 
-  pub raised-none : x ≡ NotComputed → Raises s x w NotComputed
-  raised-none e = record { kept = rw e; rated = uncomputed-rated s }
+  pub raised-none : x ≡ NotComputed → Raises s x w x
+  raised-none e = record { kept = rw e; rated = h }
 
   module _ (b : RatedRun) (e : x ≡ Run b) where
     pub raised-kept : 0 < w .span → w .span < 4294967296 → w .bytes * b .span ≤ b .bytes * w .span → Raises s x w (Run b)

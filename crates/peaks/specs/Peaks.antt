@@ -1,4 +1,5 @@
--- "Highest rate over a second": s is the media's time scale, ds are the durations of the samples from one on, and zs their sizes. Edits are not looked at.
+-- "Highest rate over a second": s is the media's time scale, ds are the durations of the samples from one on, and zs their sizes. Edits are not
+-- looked at.
 use Prim.Native.Nat.{ℕ, suc, _-_, _*_, _<_, _≤_, max}
 use mathlib.Core.Path.{_≡_}
 use mathlib.Core.Bool.{Bool, false, cond}
@@ -12,8 +13,8 @@ use Rattle.rates.specs.declared.Feature.the-variants.{Value, NotComputed}
 use Rattle.peaks.specs.declared.Peak.{Peak}
 use Rattle.peaks.specs.declared.Peak.the-variants as peaks
 
--- "the shortest run starting there whose durations total at least the time scale": how many samples it has, from the first of ds on; one more than there
--- are where none gets there. s is above 0. `proofs/Sentences.antt` shows that it gets there, and that no shorter one does
+-- "the shortest run starting there whose durations total at least the time scale": how many samples it has, from the first of ds on; one more than
+-- there are where none gets there. s is above 0. `proofs/Sentences.antt` shows that it gets there, and that no shorter one does
 abbrev pub runLength : ℕ → List ℕ → ℕ
 runLength s ds = suc (holder ds (s - 1))
 

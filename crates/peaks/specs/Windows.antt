@@ -23,7 +23,8 @@ use Rattle.peaks.specs.declared.Peak.the-variants as peaks
 
 -- ---- the window
 
--- the samples from index i up to, not including, j: their durations come to span, their sizes to bytes, and without the last of them they don't reach s
+-- the samples from index i up to, not including, j: their durations come to span, their sizes to bytes, and without the last of them they don't
+-- reach s
 pub record Sliding (s : ℕ) (ds zs : List ℕ) (i j span bytes : ℕ) : Type 0 where
   pub order : i ≤ j
   pub times : before ds i + span ≡ before ds j

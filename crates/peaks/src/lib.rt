@@ -157,7 +157,7 @@ fn raised(best: Best, w: Window, scale: u32) -> Best
     ensures { λ r. ⌜ Raises scale best w r ⌝ }
 {
     let Best::Run(b) = best else {
-        return Best::NotComputed;
+        return best;
     };
     if is_no_higher(w.bytes, w.span, b) {
         return Best::Run(b);
