@@ -22,7 +22,7 @@ use Rattle.stretch.specs.declared.slips.SlipAnswer.the-variants as slips
 use Rattle.profiles.specs.Profiles.{keptOf, profileAsked, profileRefusal, profileAnswer, profileAnswerNumbers}
 use Rattle.profiles.specs.declared.ProfileAnswer.the-variants as profiles
 use Rattle.capi.specs.Places.{refusalIn, valuesIn}
-use Rattle.capi.specs.Numbers.{media, ofTrackList, ofStretch, ofProfile, ofSlipWriting, pairsOf, faultOf}
+use Rattle.capi.specs.Numbers.{media, ofTrackList, ofStretch, ofProfile, ofSlipWriting, pairsOf, outcomeRefusal}
 use Rattle.capi.proofs.Answered.{judged, numbers-are}
 
 pub list-judged : (s room : List ℕ) → ofTrackList s room ≡ judged (listRefusal s room) (length (tracksOf (moovOf s)) ∷ [])
@@ -47,7 +47,7 @@ module _ (s : List ℕ) (id a b : ℕ) (room : List ℕ) where
 -- ---- a slip that is read
 
 abbrev pub readRefusal : Outcome → List ℕ → ℕ
-readRefusal o room = orElse (faultOf o) (noRoom (pairsOf o) room)
+readRefusal o room = orElse (outcomeRefusal o) (noRoom (pairsOf o) room)
 
 -- its refusal is the first of its numbers, and six follow
 first-by : (short : Bool) (h : Head) → refusalIn (cond short (refused 16 0) (0 ∷ h .id ∷ h .scale ∷ h .a ∷ h .b ∷ h .pairs ∷ 0 ∷ [])) ≡ cond short 16 0
@@ -55,7 +55,7 @@ first-by true h = refl
 first-by false h = refl
 
 pub read-first : (o : Outcome) (room : List ℕ) → refusalIn (numbersFor (length room) o) ≡ readRefusal o room
-unfolding numbersFor faultOf pairsOf noRoom orElse
+unfolding numbersFor outcomeRefusal pairsOf noRoom orElse
 read-first (accepted h pairs) room = first-by (ltb (length room) (length pairs)) h
 read-first (malformed p) room = refl
 
@@ -73,7 +73,7 @@ room-by true room new = refl
 room-by false room new = refl
 
 pub read-room : (o : Outcome) (room : List ℕ) → roomFor room o ≡ roomAfter (readRefusal o room) (pairsOf o) room
-unfolding roomFor faultOf pairsOf noRoom orElse roomAfter filledRoom
+unfolding roomFor outcomeRefusal pairsOf noRoom orElse roomAfter filledRoom
 read-room (accepted h pairs) room = room-by (ltb (length room) (length pairs)) room _
 read-room (malformed p) room = refl
 
@@ -82,7 +82,7 @@ fault-by : (short : Bool) (h : Head) → _≡_ {A = ℕ} 0 (cond (eqb (refusalIn
 fault-by true h = refl
 fault-by false h = refl
 
-pub fault-first : (o : Outcome) (k : ℕ) → faultOf o ≡ cond (eqb (refusalIn (numbersFor k o)) 17) 17 0
-unfolding faultOf numbersFor
+pub fault-first : (o : Outcome) (k : ℕ) → outcomeRefusal o ≡ cond (eqb (refusalIn (numbersFor k o)) 17) 17 0
+unfolding outcomeRefusal numbersFor
 fault-first (accepted h pairs) k = fault-by (ltb k (length pairs)) h
 fault-first (malformed p) k = refl

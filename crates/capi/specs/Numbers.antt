@@ -1,4 +1,5 @@
--- The numbers of each question of document 01, in its order: the refusal, 0 for none, and the values, zeros with a refusal.
+-- The numbers of each question of documents 01 and 02, in their order: the refusal, 0 for none, and the values, zeros with a refusal but for the
+-- place of 17.
 use Prim.Native.Nat.{ℕ}
 use mathlib.Core.List.{List, [], _∷_}
 use lib.ListN.{length}
@@ -74,6 +75,6 @@ pairsOf (accepted h pairs) = pairs
 pairsOf (malformed place) = []
 
 -- the refusal before the room is looked at: 17, or 0
-unfoldable pub faultOf : Outcome → ℕ
-faultOf (accepted h pairs) = 0
-faultOf (malformed place) = 17
+unfoldable pub outcomeRefusal : Outcome → ℕ
+outcomeRefusal (accepted h pairs) = 0
+outcomeRefusal (malformed place) = 17

@@ -8,7 +8,7 @@ use lib.Signed.{mag}
 use Rattle.structure.specs.Rows.{orElse}
 use Rattle.movie.specs.Rooms.{noRoom, roomAfter}
 
--- the values of an answer, zeros with a refusal, in the first of the places lent. Places fewer than the values are refused 16, after the
+-- the values of an answer, or those of a refusal, in the first of the places lent. Places fewer than the values are refused 16, after the
 -- question's own refusal, and nothing is written to them
 pub record Hands {A : Type 0} (refusal : ℕ) (values places : List A) (r : ℕ) (after : List A) : Type 0 where
   pub result : r ≡ orElse refusal (noRoom values places)

@@ -1,5 +1,5 @@
 // The questions of document 01 for programs in C and Rust: numbers and slices alone. Each function answers the number of a refusal, or 0, and puts
-// the values that document 01 names into lent places, in its order.
+// the values that documents 01 and 02 name into lent places, in its order.
 pub mod feature;
 mod places;
 pub mod profile;

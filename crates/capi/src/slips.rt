@@ -11,7 +11,7 @@ ghost use mathlib.Core.Path.{_≡_};
 ghost use Rattle.slip.specs.Slip.{slipIn};
 ghost use Rattle.stretch.specs.Slips.{slipOfStretch};
 ghost use Rattle.capi.specs.Places.{Fills};
-ghost use Rattle.capi.specs.Numbers.{media, ofSlipWriting, ofSlipReading, pairsOf, faultOf};
+ghost use Rattle.capi.specs.Numbers.{media, ofSlipWriting, ofSlipReading, pairsOf, outcomeRefusal};
 
 // Writes the slip of a track's stretch from a to b into the bytes, and in one place its length.
 #[no_mangle]
@@ -36,7 +36,7 @@ pub extern "C" fn chaldoref_write_slip(
 
 // Whether bytes are a slip: 0, or 17.
 fn slip_refusal(bytes: &[u8]) -> u32
-    ensures { λ r. ⌜ r ≡ faultOf (slipIn (now (bytes .entry))) ⌝ }
+    ensures { λ r. ⌜ r ≡ outcomeRefusal (slipIn (now (bytes .entry))) ⌝ }
 {
     let mut none = [0u32; 0];
     match read_slip(bytes, &mut none) {

@@ -20,8 +20,8 @@ slipBytes h pairs = writes (headNumbers h pairs)
 
 -- ---- where bytes go wrong, number after number
 
--- "the form is 1, ID and scale are not 0, a < b, there are 1 to 1,048,576 pairs": the rule of the number n that i numbers stand before, the form
--- among them, and prev right before. "b at or below a is b's fault". A number of a pair, and a, may be any
+-- the rule of the number n that stands at index i, counted from 0, the form being the first; prev is the number before it. "ID and scale are not 0,
+-- a < b, there are 1 to 1,048,576 pairs"; "b at or below a is b's fault". A number of a pair, and a, may be any
 unfoldable pub allowed : ℕ → ℕ → ℕ → Bool
 allowed i prev n =
     cond (leb 6 i) true
@@ -29,10 +29,11 @@ allowed i prev n =
     (cond (eqb i 4) (ltb prev n)
     (cond (eqb i 5) (ltb 0 n && leb n 1048576) true)))
 
+-- the same with the rule of the form: "the form is 1"
 unfoldable pub keeps : ℕ → ℕ → ℕ → Bool
 keeps i prev n = cond (eqb i 0) (eqb n 1) (allowed i prev n)
 
--- how many numbers there are in all, once the number n is read that i numbers stand before: "number of pairs, pairs", each pair two numbers
+-- how many numbers there are in all, once the number n at index i is read: "number of pairs, pairs", each pair two numbers
 unfoldable pub wanted : ℕ → ℕ → ℕ → ℕ
 wanted i want n = cond (eqb i 5) (6 + 2 * n) want
 
