@@ -17,10 +17,15 @@ at-scale : peakIn 120 (24 ∷ 24 ∷ 24 ∷ 48 ∷ []) (100 ∷ 50 ∷ 0 ∷ 70 
 unfolding peakIn peakOf rateOf valueOf roundUp
 at-scale = refl
 
--- the runs of samples 1 to 3 last 2, 2 and 3: 8 × 3, 8 × 9 and 8 × 8 × 2 / 3 bits a second. Sample 4's never gets there
+-- the runs of samples 1 to 4 last 2, 2, 3 and 2: 8 × 3, 8 × 9, 8 × 8 × 2 / 3 and 8 × 1 bits a second
 burst : peakIn 2 (1 ∷ 1 ∷ 1 ∷ 2 ∷ []) (1 ∷ 2 ∷ 7 ∷ 1 ∷ []) ≡ Highest 72 2 2
 unfolding peakIn peakOf rateOf valueOf roundUp
 burst = refl
+
+-- a run that never gets there is left out, though its rate would be the greatest
+left-out : peakIn 2 (2 ∷ 1 ∷ []) (1 ∷ 9 ∷ []) ≡ Highest 8 1 1
+unfolding peakIn peakOf rateOf valueOf roundUp
+left-out = refl
 
 -- of equal rates the first; a run may start with a sample of no duration, and its bytes count
 first-of-equals : peakIn 2 (2 ∷ 0 ∷ 2 ∷ 2 ∷ []) (5 ∷ 1 ∷ 5 ∷ 6 ∷ []) ≡ Highest 48 2 2

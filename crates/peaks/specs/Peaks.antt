@@ -14,7 +14,8 @@ use Rattle.peaks.specs.declared.Peak.{Peak}
 use Rattle.peaks.specs.declared.Peak.the-variants as peaks
 
 -- "the shortest run starting there whose durations total at least the time scale": how many samples it has, from the first of ds on; one more than
--- there are where none gets there. s is above 0. `proofs/Sentences.antt` shows that it gets there, and that no shorter one does
+-- there are where none gets there. s is above 0. `proofs/Sentences.antt` shows that it gets there, and that no shorter one does (`run-reaches`,
+-- `run-shortest`), and of `highest` that no run is higher and one has that rate (`at-most`, `attained`)
 abbrev pub runLength : ℕ → List ℕ → ℕ
 runLength s ds = suc (holder ds (s - 1))
 
@@ -38,7 +39,7 @@ highest s (d ∷ ds) zs =
 unfoldable pub peakOf : ℕ → List ℕ → List ℕ → Feature
 peakOf s ds zs = cond (ltb (sum ds) s) (rateOf (8 * sum zs * s) (sum ds)) (highest s ds zs)
 
--- ---- where the peak is
+-- ---- where the peak is: the papers do not ask for it
 
 -- whether a rate is v
 abbrev pub isRate : ℕ → Feature → Bool

@@ -1,5 +1,5 @@
 -- The window slid on over samples of one duration at both ends: it lasts as long as before, and the runs that are passed over are no higher than
--- the best.
+-- the best. This need not be believed: it is between the crate's own functions.
 use Prim.Native.Nat.{ℕ, zero, suc, _+_, _-_, _*_, _≤_, _<_}
 use mathlib.Core.Path.{_≡_}
 use mathlib.Core.List.{List}
