@@ -1,15 +1,13 @@
 #!/usr/bin/env bash
-# Rewrites the stored outputs of the test programs, and the films and tables that they read, from the reference, which knows nothing of the library.
+# Rewrites the stored outputs of the test programs, and the slips, films and tables that they read, from the reference, which knows nothing of the library.
 set -euo pipefail
 cd "$(dirname "$0")/.."
 made=$(mktemp -d)
 trap 'rm -r "$made"' EXIT
 cargo build --quiet --offline --manifest-path host/Cargo.toml --package reference
-for name in slip_vectors slip_example; do
-    "host/target/debug/$name" > "$made/$name"
-    cp "$made/$name" "crates/$name/stdout"
-done
-for pair in films:structure_vectors tables:tables_vectors movie_films:movie_vectors question_films:question_vectors stretch_films:stretch_vectors; do
+host/target/debug/slip_example > "$made/slip_example"
+cp "$made/slip_example" crates/slip_example/stdout
+for pair in slip_cases:slip_vectors films:structure_vectors tables:tables_vectors movie_films:movie_vectors question_films:question_vectors stretch_films:stretch_vectors; do
     name=${pair#*:}
     mkdir -p "$made/files/$name/data"
     "host/target/debug/${pair%:*}" "$made/files/$name/data" "$made/files/$name/args" > "$made/files/$name/stdout"

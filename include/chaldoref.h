@@ -13,7 +13,8 @@
  *                elements and leaves the rest; a refusal leaves all of them
  *   places       what the answer's own numbers are written to, in the order given
  *                with each function: an answer fills the first places, a refusal
- *                fills the same ones with zeros, the rest is left
+ *                fills the same ones with zeros (17 all but the last, which then
+ *                says where the slip goes wrong), the rest is left
  *
  * Places fewer than a function names are refused 16 as room is, and then nothing
  * at all is written. The order of refusals is: the file's (1 to 13), 14, 15 or 18,
@@ -82,7 +83,7 @@ enum {
     CHALDOREF_PROFILE_PLACES = 1,
     CHALDOREF_FEATURE_PLACES = 1,
     CHALDOREF_PEAK_PLACES = 2,
-    CHALDOREF_READ_SLIP_PLACES = 5,
+    CHALDOREF_READ_SLIP_PLACES = 6,
     CHALDOREF_WRITE_SLIP_PLACES = 1
 };
 
@@ -213,7 +214,10 @@ uint32_t chaldoref_peak(
 /*
  * Reads a slip. Refusals 17, 16.
  * room: for each pair offset and length; as many numbers as the slip has bytes are always enough.
- * places: 5: track ID, time scale, a, b, the number of pairs.
+ * places: 6: track ID, time scale, a, b, the number of pairs, 0; and with refusal 17 five
+ *         zeros and the place of the slip's first fault, counted from 0: the first byte of
+ *         the first number that breaks a rule, slip_len if the slip ends early, or the
+ *         first surplus byte. With 16 it is 0.
  */
 uint32_t chaldoref_read_slip(
     const uint8_t *slip, size_t slip_len,

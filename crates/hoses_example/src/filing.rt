@@ -34,7 +34,7 @@ fn filed_by(bytes: &[u8]) -> FilmTime {
     let mut room = [0u32; PLACES];
     match read_slip(bytes, &mut room) {
         SlipRead::Accepted(head) => FilmTime::Units(between(head.a, head.b)),
-        SlipRead::Malformed => FilmTime::Refused(17),
+        SlipRead::Malformed(_) => FilmTime::Refused(17),
         SlipRead::NoRoom => FilmTime::Refused(16),
     }
 }

@@ -56,6 +56,12 @@ fn print_pair(offset: u32, length: u32) {
     text(b" of the file\n");
 }
 
+fn refused(place: usize) {
+    text(b"refused 17 at byte ");
+    io::print_decimal(libc::STDOUT_FILENO, place as u64);
+    text(b" of the slip\n");
+}
+
 fn read(bytes: &[u8]) {
     let mut room = [0u32; 4];
     match slip::read_slip(bytes, &mut room) {
@@ -65,7 +71,7 @@ fn read(bytes: &[u8]) {
             print_pair(room[2], room[3]);
         }
         SlipRead::NoRoom => text(b"refused 16\n"),
-        SlipRead::Malformed => text(b"refused 17\n"),
+        SlipRead::Malformed(place) => refused(place),
     }
 }
 
@@ -74,6 +80,7 @@ fn main() {
     write(&mut out);
     print_bytes(&out);
     read(&out);
-    out[0] = 2;
+    // b is now a.
+    out[5] = 24;
     read(&out);
 }

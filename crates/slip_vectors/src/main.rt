@@ -1,35 +1,74 @@
-// Runs slips and numbers, good and damaged, through the crates leb128 and slip, and writes a line for each with the whole answer. The lines are held
-// to those that the reference in host/reference writes.
-mod cursors;
-mod numbers;
+// Puts cases to the crates leb128 and slip, and writes a line for each with the whole answer. Each file that its arguments name is a case. The cases and
+// the lines are those that the reference in host/reference writes.
 mod reading;
 mod show;
 mod writing;
 
+use bigendian::after;
+use bigendian::u32_at;
+use bigendian::u64_at;
+use leb128::Cursor;
+
+// The kinds of cases: a number read, a slip read, a number written, a slip written.
+const READ_NUMBER: u32 = 1;
+
+const READ_SLIP: u32 = 2;
+
+const WRITE_NUMBER: u32 = 3;
+
+const WRITE_SLIP: u32 = 4;
+
+// A case begins with its kind and the length of the room lent, 32 bits each, and with a count or a number to write, and a place, 64 bits each.
+// The bytes to read, or the numbers to write, follow.
+const BODY: usize = 24;
+
+fn answer(case: &[u8]) {
+    let body = after(case, BODY);
+    let room = u32_at(case, 4) as usize;
+    let n = u64_at(case, 8);
+    let at = u64_at(case, 16) as usize;
+    match u32_at(case, 0) {
+        READ_NUMBER => {
+            let count = n as usize;
+            reading::number(body, Cursor { at, count });
+        }
+        READ_SLIP => reading::slip(body, room),
+        WRITE_NUMBER => writing::number(n, at, room),
+        WRITE_SLIP => writing::slip(body, room),
+        _ => show::text(b": no case"),
+    }
+}
+
+// A case of up to 4,096 bytes; of a longer one the rest is not read.
+fn read(fd: i32) {
+    let mut case = io::buffer();
+    let n = io::read_full(fd, &mut case);
+    answer(&case[..n]);
+    show::text(b"\n");
+}
+
+fn case(i: usize) {
+    let mut name = io::buffer();
+    let length = os::arg(i, &mut name);
+    if os::errno() != 0 {
+        os::fail(b"name");
+        return;
+    }
+    let fd = os::open_read(&name[..length]);
+    if fd < 0 {
+        os::fail(&name[..length]);
+        return;
+    }
+    show::text(&name[..length]);
+    read(fd);
+    libc::close(fd);
+}
+
 fn main() {
-    reading::paper_slip();
-    numbers::written();
-    numbers::too_large();
-    numbers::broken();
-    numbers::short();
-    numbers::past_the_end();
-    reading::edges();
-    reading::rules();
-    reading::pairs();
-    reading::padded();
-    reading::padded_pairs();
-    reading::too_wide();
-    reading::too_wide_times();
-    reading::too_wide_pairs();
-    reading::prefixes(b"\x01\x01\xd8\x04\x18\x49\x02\xcc\x08\x32\x84\x07\x46");
-    reading::surplus();
-    reading::both_refusals();
-    writing::puts();
-    writing::puts_past_the_end();
-    writing::ten_bytes();
-    writing::heads();
-    writing::other_heads();
-    cursors::next_numbers();
-    writing::whole_slip();
-    writing::large_slip();
+    let count = os::arg_count();
+    let mut i = 1;
+    while i < count {
+        case(i);
+        i += 1;
+    }
 }

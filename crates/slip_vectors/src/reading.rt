@@ -1,277 +1,34 @@
-// Slips read: the paper's, others that are good, and one for each rule that a slip can break.
+// Numbers and slips read.
 use super::show;
+use leb128::Cursor;
 
-// Reads a slip, and writes the answer and every place of the room.
-fn read_into(case: &[u8], bytes: &[u8], room: &mut [u32]) {
-    show::text(case);
-    show::text(b": read");
-    show::bytes(bytes);
-    show::field(b" room", room.len());
-    show::text(b":");
-    show::answer(slip::read_slip(bytes, room));
-    show::text(b" room");
-    show::numbers(room);
-    show::text(b"\n");
+// What stands at a cursor, by its place and by the cursor, and the cursor after it. `next_number` lends it to `advance`, so that the line shows both.
+pub fn number(bytes: &[u8], from: Cursor) {
+    show::bytes(b":", bytes);
+    show::cursor(b" from", from);
+    show::number_read(b": number_at", leb128::number_at(bytes, from.at));
+    let step = leb128::next_number(bytes, from);
+    let read = step.read;
+    show::number_read(b" next_number", read);
+    show::cursor(b" to", step.cursor);
 }
 
-fn read_0(case: &[u8], bytes: &[u8]) {
-    let mut room = [9u32; 0];
-    read_into(case, bytes, &mut room);
+// What every place holds before a slip is read, and the places of the longest room.
+const GUARD: u32 = 9;
+
+const PLACES: usize = 1024;
+
+// The slip, the answer, and every place of the room.
+fn slip_into(bytes: &[u8], room: &mut [u32]) {
+    show::bytes(b":", bytes);
+    show::slip_read(slip::read_slip(bytes, room));
+    show::numbers(b" room", room);
 }
 
-fn read_3(case: &[u8], bytes: &[u8]) {
-    let mut room = [9u32; 3];
-    read_into(case, bytes, &mut room);
-}
-
-pub fn read_4(case: &[u8], bytes: &[u8]) {
-    let mut room = [9u32; 4];
-    read_into(case, bytes, &mut room);
-}
-
-fn read_5(case: &[u8], bytes: &[u8]) {
-    let mut room = [9u32; 5];
-    read_into(case, bytes, &mut room);
-}
-
-pub fn paper_slip() {
-    read_4(
-        b"the paper's slip",
-        b"\x01\x01\xd8\x04\x18\x49\x02\xcc\x08\x32\x84\x07\x46",
-    );
-    read_3(
-        b"room one short",
-        b"\x01\x01\xd8\x04\x18\x49\x02\xcc\x08\x32\x84\x07\x46",
-    );
-    read_5(
-        b"room one long",
-        b"\x01\x01\xd8\x04\x18\x49\x02\xcc\x08\x32\x84\x07\x46",
-    );
-    read_0(
-        b"no room",
-        b"\x01\x01\xd8\x04\x18\x49\x02\xcc\x08\x32\x84\x07\x46",
-    );
-}
-
-pub fn edges() {
-    read_3(b"smallest numbers", b"\x01\x01\x01\x00\x01\x01\x00\x00");
-    read_3(
-        b"largest numbers",
-        b"\x01\xff\xff\xff\xff\x0f\xff\xff\xff\xff\x0f\xfe\xff\xff\xff\x0f\xff\xff\xff\xff\x0f\x01\xff\xff\xff\xff\x0f\xff\xff\xff\xff\x0f",
-    );
-    read_4(b"one pair", b"\x01\x01\xd8\x04\x18\x49\x01\xcc\x08\x32");
-    read_4(
-        b"pairs that repeat",
-        b"\x01\x01\xd8\x04\x18\x49\x02\x05\x05\x05\x05",
-    );
-}
-
-pub fn rules() {
-    read_4(
-        b"form 0",
-        b"\x00\x01\xd8\x04\x18\x49\x02\xcc\x08\x32\x84\x07\x46",
-    );
-    read_4(
-        b"form 2",
-        b"\x02\x01\xd8\x04\x18\x49\x02\xcc\x08\x32\x84\x07\x46",
-    );
-    read_4(
-        b"ID 0",
-        b"\x01\x00\xd8\x04\x18\x49\x02\xcc\x08\x32\x84\x07\x46",
-    );
-    read_4(
-        b"scale 0",
-        b"\x01\x01\x00\x18\x49\x02\xcc\x08\x32\x84\x07\x46",
-    );
-    read_4(
-        b"a = b",
-        b"\x01\x01\xd8\x04\x49\x49\x02\xcc\x08\x32\x84\x07\x46",
-    );
-    read_4(
-        b"a > b",
-        b"\x01\x01\xd8\x04\x4a\x49\x02\xcc\x08\x32\x84\x07\x46",
-    );
-    read_4(
-        b"a > b = 0",
-        b"\x01\x01\xd8\x04\x18\x00\x02\xcc\x08\x32\x84\x07\x46",
-    );
-}
-
-pub fn pairs() {
-    read_4(b"0 pairs", b"\x01\x01\xd8\x04\x18\x49\x00");
-    read_4(
-        b"0 pairs, pairs there",
-        b"\x01\x01\xd8\x04\x18\x49\x00\xcc\x08\x32\x84\x07\x46",
-    );
-    read_4(
-        b"1048577 pairs",
-        b"\x01\x01\xd8\x04\x18\x49\x81\x80\x40\xcc\x08\x32\x84\x07\x46",
-    );
-    read_4(
-        b"one pair missing",
-        b"\x01\x01\xd8\x04\x18\x49\x03\xcc\x08\x32\x84\x07\x46",
-    );
-    read_4(
-        b"half a pair missing",
-        b"\x01\x01\xd8\x04\x18\x49\x02\xcc\x08\x32\x84\x07",
-    );
-    read_4(
-        b"one pair too many",
-        b"\x01\x01\xd8\x04\x18\x49\x01\xcc\x08\x32\x84\x07\x46",
-    );
-    read_4(
-        b"half a pair too many",
-        b"\x01\x01\xd8\x04\x18\x49\x01\xcc\x08\x32\x84\x07",
-    );
-}
-
-pub fn padded() {
-    read_4(
-        b"form padded",
-        b"\x81\x00\x01\xd8\x04\x18\x49\x02\xcc\x08\x32\x84\x07\x46",
-    );
-    read_4(
-        b"ID padded",
-        b"\x01\x81\x00\xd8\x04\x18\x49\x02\xcc\x08\x32\x84\x07\x46",
-    );
-    read_4(
-        b"scale padded",
-        b"\x01\x01\xd8\x84\x00\x18\x49\x02\xcc\x08\x32\x84\x07\x46",
-    );
-    read_4(
-        b"a padded",
-        b"\x01\x01\xd8\x04\x98\x00\x49\x02\xcc\x08\x32\x84\x07\x46",
-    );
-    read_4(
-        b"b padded",
-        b"\x01\x01\xd8\x04\x18\xc9\x00\x02\xcc\x08\x32\x84\x07\x46",
-    );
-}
-
-pub fn padded_pairs() {
-    read_4(
-        b"number of pairs padded",
-        b"\x01\x01\xd8\x04\x18\x49\x82\x00\xcc\x08\x32\x84\x07\x46",
-    );
-    read_4(
-        b"first offset padded",
-        b"\x01\x01\xd8\x04\x18\x49\x02\xcc\x88\x00\x32\x84\x07\x46",
-    );
-    read_4(
-        b"first length padded",
-        b"\x01\x01\xd8\x04\x18\x49\x02\xcc\x08\xb2\x00\x84\x07\x46",
-    );
-    read_4(
-        b"last offset padded",
-        b"\x01\x01\xd8\x04\x18\x49\x02\xcc\x08\x32\x84\x87\x00\x46",
-    );
-    read_4(
-        b"last length padded",
-        b"\x01\x01\xd8\x04\x18\x49\x02\xcc\x08\x32\x84\x07\xc6\x00",
-    );
-}
-
-pub fn too_wide() {
-    read_4(
-        b"form 2^32 + 1",
-        b"\x81\x80\x80\x80\x10\x01\xd8\x04\x18\x49\x02\xcc\x08\x32\x84\x07\x46",
-    );
-    read_4(
-        b"ID 2^32",
-        b"\x01\x80\x80\x80\x80\x10\xd8\x04\x18\x49\x02\xcc\x08\x32\x84\x07\x46",
-    );
-    read_4(
-        b"ID 2^32 + 1",
-        b"\x01\x81\x80\x80\x80\x10\xd8\x04\x18\x49\x02\xcc\x08\x32\x84\x07\x46",
-    );
-    read_4(
-        b"scale 2^32",
-        b"\x01\x01\x80\x80\x80\x80\x10\x18\x49\x02\xcc\x08\x32\x84\x07\x46",
-    );
-    read_4(
-        b"scale 2^32 + 600",
-        b"\x01\x01\xd8\x84\x80\x80\x10\x18\x49\x02\xcc\x08\x32\x84\x07\x46",
-    );
-}
-
-pub fn too_wide_times() {
-    read_4(
-        b"a 2^32",
-        b"\x01\x01\xd8\x04\x80\x80\x80\x80\x10\x49\x02\xcc\x08\x32\x84\x07\x46",
-    );
-    read_4(
-        b"a 2^32, b 2^32 + 1",
-        b"\x01\x01\xd8\x04\x80\x80\x80\x80\x10\x81\x80\x80\x80\x10\x02\xcc\x08\x32\x84\x07\x46",
-    );
-    read_4(
-        b"b 2^32",
-        b"\x01\x01\xd8\x04\x18\x80\x80\x80\x80\x10\x02\xcc\x08\x32\x84\x07\x46",
-    );
-}
-
-pub fn too_wide_pairs() {
-    read_4(
-        b"2^32 + 2 pairs",
-        b"\x01\x01\xd8\x04\x18\x49\x82\x80\x80\x80\x10\xcc\x08\x32\x84\x07\x46",
-    );
-    read_4(
-        b"offset 2^32",
-        b"\x01\x01\xd8\x04\x18\x49\x02\x80\x80\x80\x80\x10\x32\x84\x07\x46",
-    );
-    read_4(
-        b"length 2^32",
-        b"\x01\x01\xd8\x04\x18\x49\x02\xcc\x08\x80\x80\x80\x80\x10\x84\x07\x46",
-    );
-    read_4(
-        b"last length 2^32",
-        b"\x01\x01\xd8\x04\x18\x49\x02\xcc\x08\x32\x84\x07\x80\x80\x80\x80\x10",
-    );
-}
-
-// Every beginning of a slip, from the empty one on, but not the whole.
-pub fn prefixes(bytes: &[u8]) {
-    let mut n = 0;
-    while n < bytes.len() {
-        read_4(b"prefix", &bytes[..n]);
-        n += 1;
+// Reads a slip into a room of that length, up to that of the longest.
+pub fn slip(bytes: &[u8], length: usize) {
+    let mut room = [GUARD; PLACES];
+    if length <= PLACES {
+        slip_into(bytes, &mut room[..length]);
     }
-}
-
-pub fn surplus() {
-    read_4(
-        b"surplus 00",
-        b"\x01\x01\xd8\x04\x18\x49\x02\xcc\x08\x32\x84\x07\x46\x00",
-    );
-    read_5(
-        b"surplus 01",
-        b"\x01\x01\xd8\x04\x18\x49\x02\xcc\x08\x32\x84\x07\x46\x01",
-    );
-    read_4(
-        b"surplus 80",
-        b"\x01\x01\xd8\x04\x18\x49\x02\xcc\x08\x32\x84\x07\x46\x80",
-    );
-}
-
-// Malformed and too little room: 17 comes before 16.
-pub fn both_refusals() {
-    read_0(
-        b"form 2, no room",
-        b"\x02\x01\xd8\x04\x18\x49\x02\xcc\x08\x32\x84\x07\x46",
-    );
-    read_3(
-        b"last length padded, room short",
-        b"\x01\x01\xd8\x04\x18\x49\x02\xcc\x08\x32\x84\x07\xc6\x00",
-    );
-    read_3(
-        b"half a pair missing, room short",
-        b"\x01\x01\xd8\x04\x18\x49\x02\xcc\x08\x32\x84\x07",
-    );
-    read_0(
-        b"surplus, no room",
-        b"\x01\x01\xd8\x04\x18\x49\x02\xcc\x08\x32\x84\x07\x46\x00",
-    );
-    read_3(
-        b"1048577 pairs, room short",
-        b"\x01\x01\xd8\x04\x18\x49\x81\x80\x40\xcc\x08\x32\x84\x07\x46",
-    );
 }

@@ -1,6 +1,6 @@
 // What the lines are made of. A number is written with a blank before it.
+use leb128::Cursor;
 use leb128::NumberRead;
-use slip::Head;
 use slip::SlipRead;
 
 pub fn text(s: &[u8]) {
@@ -12,34 +12,34 @@ pub fn number(n: u64) {
     io::print_decimal(libc::STDOUT_FILENO, n);
 }
 
-pub fn place(n: usize) {
-    number(n as u64);
-}
-
-// Words, and a place or a length after them.
-pub fn field(words: &[u8], n: usize) {
+// Words, and a number after them.
+pub fn field(words: &[u8], n: u64) {
     text(words);
-    place(n);
+    number(n);
 }
 
-fn byte(b: u8) {
+fn hex(b: u8) {
     text(b" ");
     io::print_hex(libc::STDOUT_FILENO, b as u64, 2);
+}
+
+// Words, and bytes after them.
+pub fn bytes(words: &[u8], s: &[u8]) {
+    text(words);
+    let mut i = 0;
+    while i < s.len() {
+        hex(s[i]);
+        i += 1;
+    }
 }
 
 fn number_32(n: u32) {
     number(n as u64);
 }
 
-pub fn bytes(s: &[u8]) {
-    let mut i = 0;
-    while i < s.len() {
-        byte(s[i]);
-        i += 1;
-    }
-}
-
-pub fn numbers(s: &[u32]) {
+// Words, and numbers after them.
+pub fn numbers(words: &[u8], s: &[u32]) {
+    text(words);
     let mut i = 0;
     while i < s.len() {
         number_32(s[i]);
@@ -47,54 +47,33 @@ pub fn numbers(s: &[u32]) {
     }
 }
 
-pub fn number_read(r: NumberRead) {
+pub fn cursor(words: &[u8], c: Cursor) {
+    field(words, c.at as u64);
+    field(b" count", c.count as u64);
+}
+
+fn good(n: u64, next: usize) {
+    field(b" good", n);
+    field(b" past", next as u64);
+}
+
+// Words, and what stands at a place after them.
+pub fn number_read(words: &[u8], r: NumberRead) {
+    text(words);
     match r {
-        NumberRead::Good(n, next) => {
-            text(b" good");
-            number(n);
-            field(b" past", next);
-        }
-        NumberRead::Broken(p) => {
-            field(b" broken at", p);
-        }
-        NumberRead::Short(p) => {
-            field(b" short at", p);
-        }
+        NumberRead::Good(n, next) => good(n, next),
+        NumberRead::Broken(p) => field(b" broken at", p as u64),
+        NumberRead::Short(p) => field(b" short at", p as u64),
     }
 }
 
-pub fn head(h: Head) {
-    number_32(h.id);
-    number_32(h.scale);
-    number_32(h.a);
-    number_32(h.b);
-    number_32(h.pairs);
-}
-
-fn zeros() -> Head {
-    Head {
-        id: 0,
-        scale: 0,
-        a: 0,
-        b: 0,
-        pairs: 0,
-    }
-}
-
-// Document 01's number of an answer, and its numbers, which are all 0 with a refusal.
-pub fn answer(r: SlipRead) {
+pub fn slip_read(r: SlipRead) {
     match r {
         SlipRead::Accepted(h) => {
-            number(0);
-            head(h);
+            let head = [h.id, h.scale, h.a, h.b, h.pairs];
+            numbers(b": accepted", &head);
         }
-        SlipRead::NoRoom => {
-            number(16);
-            head(zeros());
-        }
-        SlipRead::Malformed => {
-            number(17);
-            head(zeros());
-        }
+        SlipRead::NoRoom => text(b": refused 16"),
+        SlipRead::Malformed(place) => field(b": refused 17 at", place as u64),
     }
 }

@@ -103,7 +103,7 @@ fn reads_back(film: &[u8], ask: Ask, bytes: &[u8]) -> bool {
     let mut room = [GUARD; BYTES];
     match read_slip(bytes, &mut room) {
         SlipRead::Accepted(head) => is_stretch(film, ask, head, &room),
-        SlipRead::Malformed => false,
+        SlipRead::Malformed(_) => false,
         SlipRead::NoRoom => false,
     }
 }

@@ -34,15 +34,24 @@ fn numbers<T: Entry>(room: &mut [T]) -> &mut [u32] {
     unsafe { std::slice::from_raw_parts_mut(room.as_mut_ptr().cast(), count) }
 }
 
-/// Puts a question with the places that its answer has. The answer is the places' numbers.
+/// Puts a question with the places that its answer has. What comes back is whether it is answered, and the places' numbers.
+fn put<T: Copy + Default, const PLACES: usize>(
+    question: impl FnOnce(*mut T, usize) -> u32,
+) -> (Result<(), Refusal>, [T; PLACES]) {
+    let mut places = [T::default(); PLACES];
+    let answered = match question(places.as_mut_ptr(), PLACES) {
+        0 => Ok(()),
+        number => Err(Refusal::from_number(number).unwrap_or_else(|| broken())),
+    };
+    (answered, places)
+}
+
+/// The same for a question whose refusals say nothing but their numbers.
 fn ask<T: Copy + Default, const PLACES: usize>(
     question: impl FnOnce(*mut T, usize) -> u32,
 ) -> Result<[T; PLACES], Refusal> {
-    let mut places = [T::default(); PLACES];
-    match question(places.as_mut_ptr(), PLACES) {
-        0 => Ok(places),
-        number => Err(Refusal::from_number(number).unwrap_or_else(|| broken())),
-    }
+    let (answered, places) = put(question);
+    answered.map(|()| places)
 }
 
 /// What the library's proved contracts rule out, for every input.
@@ -109,10 +118,11 @@ pub fn peak(file: &[u8], id: u32, code: u32) -> Result<[u64; 2], Refusal> {
     ask(|places, len| unsafe { raw::chaldoref_peak(file.as_ptr(), file.len(), id, code, places, len) })
 }
 
-pub fn read_slip(slip: &[u8], room: &mut [ByteRange]) -> Result<[u64; 5], Refusal> {
+/// Whether the slip is read; and its numbers, the last being the place with refusal 17.
+pub fn read_slip(slip: &[u8], room: &mut [ByteRange]) -> (Result<(), Refusal>, [u64; 6]) {
     let room = numbers(room);
     // SAFETY: slices' own pointers and lengths, as the module says.
-    ask(|places, len| unsafe {
+    put(|places, len| unsafe {
         raw::chaldoref_read_slip(slip.as_ptr(), slip.len(), room.as_mut_ptr(), room.len(), places, len)
     })
 }

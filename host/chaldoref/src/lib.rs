@@ -64,5 +64,5 @@ mod units;
 
 pub use movie::{Feature, Movie, Peak, ProfileRecord, Sample, Shown, Stretch, StretchSize, Track, MAX_FILE_BYTES};
 pub use refusal::Refusal;
-pub use slip::Slip;
+pub use slip::{MalformedSlip, Slip};
 pub use units::{ByteRange, FourCC, MediaTime, MovieTime, TrackId};

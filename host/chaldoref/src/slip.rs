@@ -1,7 +1,9 @@
 //! Slips, which know nothing of movies.
-use crate::ffi::{self, promised};
+use crate::ffi::{self, broken, promised};
 use crate::refusal::Refusal;
 use crate::units::{ByteRange, MediaTime, TrackId};
+use std::error::Error;
+use std::fmt;
 
 /// The most pairs that a slip has.
 const MAX_PAIRS: usize = 1_048_576;
@@ -15,7 +17,10 @@ const MAX_PAIRS: usize = 1_048_576;
 /// let slip = Slip::read(&bytes)?;
 /// assert_eq!((slip.id, slip.scale, slip.a, slip.b), (TrackId(1), 600, MediaTime(24), MediaTime(73)));
 /// assert_eq!(slip.pairs[1], ByteRange { offset: 900, length: 70 });
-/// assert_eq!(Slip::read(&bytes[..12]), Err(Refusal::MalformedSlip));
+///
+/// // Its last byte is missing, so it ends early: the place is its length.
+/// let malformed = Slip::read(&bytes[..12]).unwrap_err();
+/// assert_eq!((malformed.place, Refusal::from(malformed)), (12, Refusal::MalformedSlip));
 /// # Ok::<(), Refusal>(())
 /// ```
 #[derive(Clone, Debug, PartialEq, Eq, Hash)]
@@ -32,13 +37,40 @@ pub struct Slip {
     pub pairs: Vec<ByteRange>,
 }
 
+/// Refusal 17 of bytes that are no slip, and where they go wrong.
+#[non_exhaustive]
+#[derive(Clone, Copy, Debug, PartialEq, Eq, Hash)]
+pub struct MalformedSlip {
+    /// The first fault, counted in bytes from 0: the first byte of the first number that breaks a rule, the slip's
+    /// length if it ends early, or the first surplus byte.
+    pub place: usize,
+}
+
+impl From<MalformedSlip> for Refusal {
+    fn from(_: MalformedSlip) -> Refusal {
+        Refusal::MalformedSlip
+    }
+}
+
+impl fmt::Display for MalformedSlip {
+    fn fmt(&self, f: &mut fmt::Formatter<'_>) -> fmt::Result {
+        write!(f, "{}, at place {}", Refusal::MalformedSlip, self.place)
+    }
+}
+
+impl Error for MalformedSlip {}
+
 impl Slip {
-    /// Reads a slip, which must take up all of the bytes. Anything else is [`Refusal::MalformedSlip`].
-    pub fn read(bytes: &[u8]) -> Result<Slip, Refusal> {
+    /// Reads a slip, which must take up all of the bytes.
+    pub fn read(bytes: &[u8]) -> Result<Slip, MalformedSlip> {
         // Each number of a pair takes a byte at least.
         let mut pairs = vec![ByteRange::default(); (bytes.len() / 2).min(MAX_PAIRS)];
-        let [id, scale, a, b, count] = ffi::read_slip(bytes, &mut pairs)?;
-        pairs.truncate(promised(count));
+        let (answered, [id, scale, a, b, count, place]) = ffi::read_slip(bytes, &mut pairs);
+        match answered {
+            Ok(()) => pairs.truncate(promised(count)),
+            Err(Refusal::MalformedSlip) => return Err(MalformedSlip { place: promised(place) }),
+            Err(_) => broken(),
+        }
         let (id, a, b) = (TrackId(promised(id)), MediaTime(promised(a)), MediaTime(promised(b)));
         Ok(Slip { id, scale: promised(scale), a, b, pairs })
     }

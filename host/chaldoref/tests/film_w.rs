@@ -138,12 +138,24 @@ fn slips_are_read_back() {
     let pairs = vec![pair(1100, 50), pair(900, 70)];
     assert_eq!(slip, Slip { id: ONE, scale: 600, a: MediaTime(24), b: MediaTime(73), pairs });
     assert_eq!((slip.film_time(), slip.bytes()), (49, 120));
+}
+
+#[test]
+fn malformed_slips_have_a_place() {
+    let place = |bytes: &[u8]| Slip::read(bytes).unwrap_err().place;
+    // It ends early.
     for end in 0..SLIP.len() {
-        assert_eq!(Slip::read(&SLIP[..end]), Err(Refusal::MalformedSlip), "{end} bytes");
+        assert_eq!(place(&SLIP[..end]), end);
     }
-    let mut more = SLIP.to_vec();
-    more.push(0);
-    assert_eq!(Slip::read(&more), Err(Refusal::MalformedSlip));
+    // A surplus byte; b that is a; a number of pairs that is padded.
+    assert_eq!(place(&[&SLIP[..], &[0]].concat()), 13);
+    assert_eq!(place(&[&SLIP[..5], &[0x18], &SLIP[6..]].concat()), 5);
+    assert_eq!(place(&[&SLIP[..6], &[0x82, 0x00], &SLIP[7..]].concat()), 6);
+    let malformed = Slip::read(&SLIP[..12]).unwrap_err();
+    assert_eq!(
+        (malformed.to_string().as_str(), malformed.into()),
+        ("a slip is malformed, at place 12", Refusal::MalformedSlip)
+    );
 }
 
 #[test]

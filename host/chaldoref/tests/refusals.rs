@@ -92,7 +92,7 @@ fn ids_that_no_track_has() {
 
 #[test]
 fn slips() {
-    for bytes in [&[][..], &[0], &[1, 0, 1, 0, 1, 1, 0, 0], &[0xff; 64]] {
-        assert_eq!(Slip::read(bytes), Err(Refusal::MalformedSlip));
+    for (bytes, place) in [(&[][..], 0), (&[0], 0), (&[1, 0, 1, 0, 1, 1, 0, 0], 1), (&[0xff; 64], 0), (&[1, 0xff], 2)] {
+        assert_eq!(Slip::read(bytes).map_err(|malformed| malformed.place), Err(place));
     }
 }

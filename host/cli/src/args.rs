@@ -13,9 +13,10 @@ pub enum Parsed {
     Run(Request),
 }
 
-/// A question to a film, or a slip to read.
+/// A question to a film, or slips to read.
 pub struct Request {
-    pub file: OsString,
+    /// One, or several slips.
+    pub files: Vec<OsString>,
     pub ask: Ask,
     pub json: bool,
 }
@@ -98,18 +99,21 @@ impl Words {
     fn request(mut self) -> Result<Request, Failure> {
         let most = self.command.operands.len();
         let least = self.command.operands.iter().filter(|name| !name.starts_with('[')).count();
-        if let Some(surplus) = self.operands.get(most) {
+        if let Some(surplus) = self.operands.get(most).filter(|_| !self.command.takes_files()) {
             return Err(self.wrong(format!("{} is one argument too many", quoted(surplus))));
         }
         if self.operands.len() < least {
-            return Err(self.wrong(format!("{} is missing", self.command.operands[self.operands.len()])));
+            return Err(self.wrong(format!("{} is missing", self.name(self.operands.len()))));
         }
         let json = self.has(&JSON);
         if json && (self.has(&BYTES) || self.out.is_some()) {
             return Err(self.wrong("--json goes with neither --bytes nor -o".into()));
         }
         let ask = (self.command.ask)(&self)?;
-        Ok(Request { file: self.operands.swap_remove(0), ask, json })
+        if !self.command.takes_files() {
+            self.operands.truncate(1);
+        }
+        Ok(Request { files: self.operands, ask, json })
     }
 
     pub fn has(&self, option: &Opt) -> bool {
@@ -151,8 +155,13 @@ impl Words {
         (place < self.operands.len()).then(|| read(self, place)).transpose()
     }
 
+    /// An operand's name alone.
+    fn name(&self, place: usize) -> &'static str {
+        self.command.operands[place].trim_matches(['[', ']', '.'])
+    }
+
     fn misfit(&self, place: usize, wanted: &str) -> Failure {
-        let name = self.command.operands[place].trim_matches(['[', ']']);
+        let name = self.name(place);
         self.wrong(format!("{name} is {wanted}, and not {}", quoted(&self.operands[place])))
     }
 

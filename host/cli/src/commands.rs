@@ -2,12 +2,14 @@
 mod features;
 mod questions;
 mod ranges;
+mod slips;
 
 use crate::args::{Ask, Request};
 use crate::failure::Failure;
 use crate::input;
-use crate::json::document;
+use crate::json::{document, Object};
 use chaldoref::{MediaTime, Movie, Refusal, TrackId};
+use std::ffi::OsStr;
 use std::io::{self, Write};
 
 /// Where an answer goes, and in which form.
@@ -16,9 +18,9 @@ struct Answer<'w> {
     json: bool,
 }
 
-/// Answers a request on standard output.
-pub fn run(request: &Request, out: &mut dyn Write) -> Result<(), Failure> {
-    let file = input::read(&request.file).map_err(Failure::Input)?;
+/// Answers a request of the file of that name on standard output.
+pub fn run(request: &Request, name: &OsStr, out: &mut dyn Write) -> Result<(), Failure> {
+    let file = input::read(name).map_err(Failure::Input)?;
     let movie = || Movie::open(&file);
     let to = Answer { out, json: request.json };
     match &request.ask {
@@ -33,18 +35,28 @@ pub fn run(request: &Request, out: &mut dyn Write) -> Result<(), Failure> {
         Ask::Stretch { track, time, bytes: false } => ranges::stretch(&movie()?, *track, time, to),
         Ask::Stretch { track, time, bytes: true } => ranges::stretch_bytes(&movie()?, *track, time, to),
         Ask::Slip { track, time, out: None } => ranges::slip(&movie()?, *track, time, to),
-        Ask::Slip { track, time, out: Some(name) } => {
+        Ask::Slip { track, time, out: Some(slip_name) } => {
             let slip = movie()?.write_slip(*track, time.clone())?;
-            ranges::write_out(&slip, name, &request.file, to)
+            ranges::write_out(&slip, slip_name, name, to)
         }
-        Ask::ReadSlip { hex: false } => ranges::read_slip(&file, to),
-        Ask::ReadSlip { hex: true } => ranges::read_slip(&input::from_hex(&file)?, to),
+        Ask::ReadSlip { hex } => {
+            let bytes = if *hex { input::from_hex(&file)? } else { input::slip(file)? };
+            slips::read(&bytes, name, request.files.len() > 1, to)
+        }
     }
 }
 
-/// A refusal, for machines.
-pub fn refused(refusal: Refusal, out: &mut dyn Write) -> io::Result<()> {
-    document(out, |o| o.put("refused", refusal.number())?.put("reason", refusal.to_string()).map(drop))
+/// A refusal, for machines. What else went wrong gives no document.
+pub fn refused(failure: &Failure, name: &OsStr, out: &mut dyn Write) -> io::Result<()> {
+    match failure {
+        Failure::Refused(refusal, _) => document(out, |o| refusal_fields(o, *refusal).map(drop)),
+        Failure::Malformed(fault) => slips::refused(fault, name, out),
+        _ => Ok(()),
+    }
+}
+
+fn refusal_fields<'o, 'w>(o: &'o mut Object<'w>, refusal: Refusal) -> io::Result<&'o mut Object<'w>> {
+    o.put("refused", refusal.number())?.put("reason", refusal.to_string())
 }
 
 /// A time in seconds, to the millisecond.

@@ -1,10 +1,12 @@
 //! What ends a command without an answer: its message and its exit status.
+use crate::fault::Fault;
 use crate::input;
 use chaldoref::Refusal;
 use std::ffi::OsString;
 use std::io;
-use std::process::ExitCode;
 
+/// The exit statuses. Of several files the greatest counts.
+pub const SUCCESS: u8 = 0;
 const REFUSED: u8 = 1;
 const BAD_USAGE: u8 = 2;
 
@@ -13,8 +15,10 @@ pub enum Failure {
     Usage(String, String),
     /// The film or slip could not be read.
     Input(io::Error),
-    /// The film, the question or the slip was refused; what more there is to say of it is a line of its own.
+    /// The film or the question was refused; what more there is to say of it is a line of its own.
     Refused(Refusal, String),
+    /// The slip is malformed.
+    Malformed(Fault),
     /// The file of that name could not be written.
     NotWritten(OsString, io::Error),
     /// Standard output could not be written.
@@ -39,11 +43,11 @@ impl Failure {
         matches!(self, Failure::Output(error) if error.kind() == io::ErrorKind::BrokenPipe)
     }
 
-    pub fn status(&self) -> ExitCode {
+    pub fn status(&self) -> u8 {
         match self {
-            Failure::Refused(..) => ExitCode::from(REFUSED),
-            _ if self.is_broken_pipe() => ExitCode::SUCCESS,
-            _ => ExitCode::from(BAD_USAGE),
+            Failure::Refused(..) | Failure::Malformed(_) => REFUSED,
+            _ if self.is_broken_pipe() => SUCCESS,
+            _ => BAD_USAGE,
         }
     }
 
@@ -52,14 +56,18 @@ impl Failure {
         match self {
             Failure::Usage(wrong, usage) => format!("chaldoref: {wrong}\n{usage}"),
             Failure::Input(error) => format!("chaldoref: {file}: {error}\n"),
-            Failure::Refused(refusal, more) => {
-                format!("chaldoref: {file}: refused {}: {refusal}\n{more}", refusal.number())
-            }
+            Failure::Refused(refusal, more) => refused(file, *refusal, more),
+            Failure::Malformed(fault) => refused(file, fault.refusal(), &fault.lines()),
             Failure::NotWritten(name, error) => format!("chaldoref: {}: {error}\n", input::shown(name)),
             Failure::Output(_) if self.is_broken_pipe() => String::new(),
             Failure::Output(error) => format!("chaldoref: standard output: {error}\n"),
         }
     }
+}
+
+/// What is said of every refusal, and what else is said of this one.
+fn refused(file: &str, refusal: Refusal, more: &str) -> String {
+    format!("chaldoref: {file}: refused {}: {refusal}\n{more}", refusal.number())
 }
 
 /// A second line for a refusal.

@@ -43,14 +43,38 @@ fn open(name: &OsStr) -> io::Result<File> {
     File::open(name)
 }
 
-/// The bytes that hex text says: words of whole pairs of digits, with white space between them.
+/// The bytes of a slip. The file has them, or it has hex text that says them: a slip begins with the byte 01, and hex text with the digit 0.
+/// A file that begins otherwise is taken for text if it is nothing else.
+pub fn slip(file: Vec<u8>) -> Result<Vec<u8>, Failure> {
+    let first = file.iter().find(|byte| !byte.is_ascii_whitespace());
+    if first == Some(&b'0') || file.iter().all(|byte| byte.is_ascii_graphic() || byte.is_ascii_whitespace()) {
+        return from_hex(&file);
+    }
+    Ok(file)
+}
+
+/// The bytes that hex text says: pairs of digits, and white space before and after them.
 pub fn from_hex(text: &[u8]) -> Result<Vec<u8>, Failure> {
-    let not_hex = || Failure::Input(io::Error::new(io::ErrorKind::InvalidData, "not pairs of hex digits"));
     let mut bytes = Vec::with_capacity(text.len() / 2);
-    for pair in text.split(u8::is_ascii_whitespace).flat_map(|word| word.chunks(2)) {
-        bytes.push(byte(pair).ok_or_else(not_hex)?);
+    let mut at = 0;
+    while let Some(c) = text.get(at) {
+        if c.is_ascii_whitespace() {
+            at += 1;
+            continue;
+        }
+        bytes.push(text.get(at..at + 2).and_then(byte).ok_or_else(|| not_hex(text, at))?);
+        at += 2;
     }
     Ok(bytes)
+}
+
+/// Says where the text has no pair of digits: lines and columns count from 1.
+fn not_hex(text: &[u8], at: usize) -> Failure {
+    let before = &text[..at];
+    let line = 1 + before.iter().filter(|c| **c == b'\n').count();
+    let column = 1 + before.iter().rev().take_while(|c| **c != b'\n').count();
+    let words = format!("line {line}, column {column}: not a pair of hex digits");
+    Failure::Input(io::Error::new(io::ErrorKind::InvalidData, words))
 }
 
 /// The byte of two hex digits.
@@ -62,7 +86,7 @@ fn byte(pair: &[u8]) -> Option<u8> {
 
 #[cfg(test)]
 mod tests {
-    use super::from_hex;
+    use super::*;
 
     #[test]
     fn hex() {
@@ -70,6 +94,32 @@ mod tests {
         assert_eq!(from_hex(b"").ok(), Some(vec![]));
         for text in [&b"0"[..], b"0 1", b"0x01", b"01,02", b"\xff\xff"] {
             assert!(from_hex(text).is_err());
+        }
+    }
+
+    #[test]
+    fn what_is_not_hex_has_its_line_and_column() {
+        for (text, line, column) in
+            [("0x", 1, 1), ("01 0", 1, 4), ("01\r\n02 0g", 2, 4), ("\n\n 1", 3, 2), ("010", 1, 3)]
+        {
+            let failure = from_hex(text.as_bytes()).err().unwrap();
+            let said = format!("line {line}, column {column}: not a pair of hex digits");
+            assert!(failure.message("-").contains(&said), "{text}");
+        }
+    }
+
+    #[test]
+    fn raw_bytes_and_text_are_told_apart() {
+        let read = |file: &[u8]| slip(file.to_vec()).ok();
+        assert_eq!(read(&[0x01, 0x30, 0x31]), Some(vec![0x01, 0x30, 0x31]));
+        assert_eq!(read(b" \n01 02"), Some(vec![1, 2]));
+        assert_eq!(read(b"11 02\n"), Some(vec![0x11, 2]));
+        assert_eq!(read(b"\n"), Some(vec![]));
+        assert_eq!(read(b""), Some(vec![]));
+        assert_eq!(read(&[0x02, 0x41]), Some(vec![0x02, 0x41]));
+        assert_eq!(read(&[0x41, 0x80]), Some(vec![0x41, 0x80]));
+        for text in [&b"O1 02"[..], b"01 02 \xa0", b"a slip"] {
+            assert_eq!(read(text), None);
         }
     }
 }

@@ -1,9 +1,10 @@
-//! The command line of Chaldoref: each command puts one question of document 01 to a film, or writes or reads a slip.
+//! The command line of Chaldoref: each command puts one question of document 01 to a film, or writes or reads slips.
 #![forbid(unsafe_code)]
 
 mod args;
 mod commands;
 mod failure;
+mod fault;
 mod help;
 mod input;
 mod json;
@@ -11,28 +12,29 @@ mod syntax;
 mod table;
 
 use args::{Parsed, Request};
-use failure::Failure;
+use failure::{Failure, SUCCESS};
+use std::ffi::OsStr;
 use std::io::{self, BufWriter, Write};
 use std::process::ExitCode;
 
 fn main() -> ExitCode {
-    match args::parse(std::env::args_os().skip(1)) {
+    let status = match args::parse(std::env::args_os().skip(1)) {
         Ok(Parsed::Text(text)) => end("", print(|out| Ok(out.write_all(text.as_bytes())?))),
-        Ok(Parsed::Run(request)) => end(&input::called(&request.file), answer(&request)),
+        Ok(Parsed::Run(request)) => {
+            request.files.iter().map(|file| end(&input::called(file), answer(&request, file))).max().unwrap_or(SUCCESS)
+        }
         Err(failure) => end("", Err(failure)),
-    }
+    };
+    ExitCode::from(status)
 }
 
-/// Answers a request. With --json a refusal is a document on standard output as well, so that there is always one.
-fn answer(request: &Request) -> Result<(), Failure> {
-    let answered = print(|out| commands::run(request, out));
-    match answered {
-        Err(Failure::Refused(refusal, more)) if request.json => {
-            print(|out| Ok(commands::refused(refusal, out)?))?;
-            Err(Failure::Refused(refusal, more))
-        }
-        _ => answered,
+/// Answers a request of one file. With --json a refusal is a document on standard output as well, so that there is always one.
+fn answer(request: &Request, file: &OsStr) -> Result<(), Failure> {
+    let answered = print(|out| commands::run(request, file, out));
+    if let (Err(failure), true) = (&answered, request.json) {
+        print(|out| Ok(commands::refused(failure, file, out)?))?;
     }
+    answered
 }
 
 /// Runs something that writes to standard output, and sees to it that all of it is written.
@@ -43,8 +45,8 @@ fn print(write: impl FnOnce(&mut dyn Write) -> Result<(), Failure>) -> Result<()
 }
 
 /// The exit status; what went wrong with the file of that name goes to standard error.
-fn end(file: &str, done: Result<(), Failure>) -> ExitCode {
-    let Err(failure) = done else { return ExitCode::SUCCESS };
+fn end(file: &str, done: Result<(), Failure>) -> u8 {
+    let Err(failure) = done else { return SUCCESS };
     // Where standard error cannot be written, the status alone tells.
     let _ = io::stderr().write_all(failure.message(file).as_bytes());
     failure.status()

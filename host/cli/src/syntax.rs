@@ -9,7 +9,7 @@ pub struct Opt {
     pub about: &'static str,
 }
 
-/// A command. Operands in brackets may be left out.
+/// A command. Operands in brackets may be left out, and one with dots may be given several times.
 pub struct Command {
     pub name: &'static str,
     pub operands: &'static [&'static str],
@@ -20,7 +20,7 @@ pub struct Command {
 
 pub const JSON: Opt = Opt { flag: "--json", value: None, about: "print one JSON document" };
 pub const BYTES: Opt = Opt { flag: "--bytes", value: None, about: "write the film's own bytes instead" };
-pub const HEX: Opt = Opt { flag: "--hex", value: None, about: "read hex text and not raw bytes" };
+pub const HEX: Opt = Opt { flag: "--hex", value: None, about: "read hex text, whatever it begins with" };
 pub const OUT: Opt = Opt { flag: "-o", value: Some("OUT"), about: "write raw bytes to OUT; - is standard output" };
 
 pub static COMMANDS: [Command; 9] = [
@@ -68,9 +68,9 @@ pub static COMMANDS: [Command; 9] = [
     },
     Command {
         name: "read-slip",
-        operands: &["FILE"],
+        operands: &["FILE..."],
         options: &[&HEX, &JSON],
-        about: "what a slip says",
+        about: "what slips say, or where they go wrong",
         ask: |words| Ok(Ask::ReadSlip { hex: words.has(&HEX) }),
     },
     Command {
@@ -92,5 +92,10 @@ pub static COMMANDS: [Command; 9] = [
 impl Command {
     pub fn named(name: &str) -> Option<&'static Command> {
         COMMANDS.iter().find(|command| command.name == name)
+    }
+
+    /// Whether all its operands are files.
+    pub fn takes_files(&self) -> bool {
+        self.operands[0].ends_with("...")
     }
 }

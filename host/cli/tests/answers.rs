@@ -134,20 +134,36 @@ fn slips() {
     assert_eq!(run(&["read-slip", name]), run_on(SLIP.as_bytes(), &["read-slip", "--hex", "-"]));
 }
 
+const SLIP_READ: &str = "track  scale   a   b  film time  seconds\n    1    600  24  73         49    0.082\n\n\
+                         offset  length\n  1100      50\n   900      70\n2 ranges, 120 bytes\n";
+
 #[test]
 fn slips_read() {
-    answers_on(
-        &SLIP_BYTES,
-        &["read-slip", "-"],
-        "track  scale   a   b  film time  seconds\n    1    600  24  73         49    0.082\n\n\
-         offset  length\n  1100      50\n   900      70\n2 ranges, 120 bytes\n",
-    );
-    answers_on(
-        b"0101D804\n184902 CC08\t32 840746",
-        &["read-slip", "--hex", "--json", "-"],
-        "{\"track\":1,\"scale\":600,\"a\":24,\"b\":73,\"pairs\":[{\"offset\":1100,\"length\":50},\
-         {\"offset\":900,\"length\":70}],\"bytes\":120}\n",
-    );
+    let json =
+        "{\"file\":\"-\",\"track\":1,\"scale\":600,\"a\":24,\"b\":73,\"pairs\":[{\"offset\":1100,\"length\":50},\
+                {\"offset\":900,\"length\":70}],\"bytes\":120}\n";
+    // Raw bytes, and hex text with white space and line breaks: nobody has to say which.
+    for slip in [&SLIP_BYTES[..], SLIP.as_bytes(), b"\r\n 0101D804\r\n184902 cC08\t32 840746\n\n"] {
+        answers_on(slip, &["read-slip", "-"], SLIP_READ);
+        answers_on(slip, &["read-slip", "--json", "-"], json);
+    }
+}
+
+#[test]
+fn several_slips_are_read() {
+    let folder = Folder::new("several");
+    let (raw, text) = (folder.file("raw.slip", &SLIP_BYTES), folder.file("text.slip", SLIP.as_bytes()));
+    let (raw, text) = (raw.to_str().unwrap(), text.to_str().unwrap());
+    let ran = run(&["read-slip", raw, text]);
+    let expected = format!("{raw}:\n{SLIP_READ}\n{text}:\n{SLIP_READ}\n");
+    assert_eq!(ran, Ran { out: expected, err: String::new(), status: 0 });
+    let json = run(&["read-slip", raw, text, "--json"]).out;
+    let files: Vec<bool> = json
+        .lines()
+        .zip([raw, text])
+        .map(|(line, name)| line.starts_with(&format!("{{\"file\":\"{name}\",\"track\":1,")))
+        .collect();
+    assert_eq!(files, [true, true]);
 }
 
 #[test]

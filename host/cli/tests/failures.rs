@@ -27,7 +27,15 @@ fn questions_refused() {
     features("mabr", "chaldoref: hint: mabr is only for sound tracks\n");
     features("vfmt", "");
     features("0x00000000", "");
-    refuses("read-slip films/w.mov", "chaldoref: films/w.mov: refused 17: a slip is malformed\n");
+    refuses(
+        "read-slip films/w.mov",
+        "chaldoref: films/w.mov: refused 17: a slip is malformed\n   \
+            0  00 00 01 E8 6D 6F 6F 76 00 00 00 6C 6D 76 68 64\n      \
+               ^^\n  \
+           16  00 00 00 00 00 00 00 00 00 00 00 00 00 00 02 58\n  \
+           32  00 00 00 78 00 00 00 00 00 00 00 00 00 00 00 00\n\
+         place 0, form: it is 0, and must be 1\n",
+    );
 }
 
 #[test]
@@ -123,7 +131,9 @@ fn unreadable_files() {
         |name: &str, reason: &str| Ran { out: String::new(), err: format!("chaldoref: {name}: {reason}\n"), status: 2 };
     assert_eq!(run(&["tracks", "films/none.mov"]), failed("films/none.mov", "No such file or directory (os error 2)"));
     assert_eq!(run(&["tracks", "films", "--json"]), failed("films", "Is a directory (os error 21)"));
-    assert_eq!(run(&["read-slip", "--hex", HOSES]), failed(HOSES, "not pairs of hex digits"));
+    assert_eq!(run(&["read-slip", "--hex", HOSES]), failed(HOSES, "line 1, column 1: not a pair of hex digits"));
+    let typed = run_on(b"01 01 D8\n04 1B 4", &["read-slip", "-"]);
+    assert_eq!(typed, failed("standard input", "line 2, column 7: not a pair of hex digits"));
     let slip = run(&["slip", W, "1", "0", "1", "-o", "films/none/w.slip"]);
     assert_eq!(slip, failed("films/none/w.slip", "No such file or directory (os error 2)"));
 }

@@ -40,9 +40,9 @@ fn one_help_in_full() {
          Prints the slip of a track from media time A up to B, in hex.\n\n  \
            -o OUT    write raw bytes to OUT; - is standard output\n  \
            --json    print one JSON document\n\n\
-         FILE is a whole film, and for read-slip a slip; - is standard input. TRACK is a track ID. Numbers are decimal, or hex\n\
-         after 0x, and below 2^32. Media times count in the track's own time scale, movie times in the movie's. CODE is four\n\
-         characters, or hex after 0x.\n",
+         FILE is a whole film, and for read-slip a slip, as raw bytes or as hex text; - is standard input. TRACK is a track ID.\n\
+         Numbers are decimal, or hex after 0x, and below 2^32. Media times count in the track's own time scale, movie times in\n\
+         the movie's. CODE is four characters, or hex after 0x.\n",
     );
 }
 

@@ -1,7 +1,7 @@
 //! A question with the lengths of what is lent for it: what the reference expects, and whether the library does just that.
 use crate::lent::Lent;
 use crate::library::{ask, Lending};
-use crate::question::{Answer, Question};
+use crate::question::{Answer, Answered, Question};
 use reference::maker::Random;
 
 const NO_ROOM: u32 = 16;
@@ -16,12 +16,12 @@ pub struct Lengths {
 
 impl Lengths {
     /// As many as the answer needs.
-    pub fn exact(question: Question, answer: &Result<Answer, u32>, pattern: u64) -> Lengths {
+    pub fn exact(question: Question, answer: &Answered, pattern: u64) -> Lengths {
         Lengths { room: needed(answer), places: question.places(), pattern }
     }
 
     /// Mostly enough: exactly as many as the answer needs, or more; else none, one too few, or some.
-    pub fn any(random: &mut Random, question: Question, answer: &Result<Answer, u32>) -> Lengths {
+    pub fn any(random: &mut Random, question: Question, answer: &Answered) -> Lengths {
         // With a refusal any room is left as it is, a long one too.
         let room = if answer.is_ok() { needed(answer) } else { random.one(&[0, 7, 30, 120]) };
         let places = question.places();
@@ -45,23 +45,26 @@ impl Lengths {
 }
 
 /// How long a room the answer needs; a refusal needs none.
-fn needed(answer: &Result<Answer, u32>) -> usize {
+fn needed(answer: &Answered) -> usize {
     answer.as_ref().map_or(0, |answer| answer.numbers.len() + answer.bytes.len())
 }
 
 /// What the library should return, and what it should write to the first elements of all that is lent. "Order: file refusal, 14, 15 or 18, then 16":
-/// too few places are refused 16 as room is, and then nothing at all is written.
-pub fn expected(question: Question, answer: &Result<Answer, u32>, lengths: Lengths) -> (u32, Answer) {
+/// too few places are refused 16 as room is, and then nothing at all is written. Of a malformed slip the last place says where it goes wrong.
+pub fn expected(question: Question, answer: &Answered, lengths: Lengths) -> (u32, Answer) {
     let has_places = lengths.places >= question.places();
-    let number = match answer {
+    let refused = match answer {
         Ok(answer) if has_places && lengths.room >= answer.numbers.len() + answer.bytes.len() => {
             return (0, answer.clone());
         }
-        Ok(_) => NO_ROOM,
-        Err(number) => *number,
+        Ok(_) => NO_ROOM.into(),
+        Err(refused) => *refused,
     };
-    let zeros = if has_places { question.places() } else { 0 };
-    (number, Answer { places: vec![0; zeros], ..Answer::default() })
+    let mut places = vec![0; if has_places { question.places() } else { 0 }];
+    if let Some(last) = places.last_mut() {
+        *last = u64::try_from(refused.place).unwrap();
+    }
+    (refused.number, Answer { places, ..Answer::default() })
 }
 
 /// A question that the library does not answer as it should.
@@ -119,7 +122,7 @@ fn fault(found: u32, lent: &Lending, number: u32, written: &Answer) -> Option<St
 pub fn compare(
     file: &[u8],
     question: Question,
-    answer: &Result<Answer, u32>,
+    answer: &Answered,
     lengths: Lengths,
 ) -> Result<(u32, Lending), Box<Difference>> {
     let (number, written) = expected(question, answer, lengths);

@@ -1,4 +1,5 @@
 //! How often each refusal was met, by which question.
+use crate::faults::FAULTS;
 use crate::question::KINDS;
 use std::fmt::Write;
 
@@ -11,6 +12,8 @@ pub struct Counts {
     /// Films by the number with which the file is refused.
     films: [u64; NUMBERS],
     slips: u64,
+    /// Malformed slips by what is at fault.
+    faults: [u64; FAULTS.len()],
 }
 
 /// Whether include/chaldoref.h names that number for that question.
@@ -31,8 +34,12 @@ impl Counts {
         self.films[usize::try_from(number).unwrap()] += 1;
     }
 
-    pub fn slip(&mut self) {
+    /// A slip, and the kind of its first fault if it is malformed.
+    pub fn slip(&mut self, fault: Option<usize>) {
         self.slips += 1;
+        if let Some(kind) = fault {
+            self.faults[kind] += 1;
+        }
     }
 
     pub fn question(&mut self, kind: usize, number: u32) {
@@ -41,10 +48,6 @@ impl Counts {
 
     pub fn films(&self) -> u64 {
         self.films.iter().sum()
-    }
-
-    pub fn slips(&self) -> u64 {
-        self.slips
     }
 
     pub fn questions(&self) -> u64 {
@@ -72,6 +75,13 @@ impl Counts {
         text + "\n"
     }
 
+    /// How many slips were read, and how many of them were malformed where.
+    pub fn slip_lines(&self) -> String {
+        let faults: Vec<String> =
+            FAULTS.iter().zip(self.faults).map(|(name, count)| format!("{name} {count}")).collect();
+        format!("slips read: {}\nmalformed at: {}", self.slips, faults.join(", "))
+    }
+
     /// A sentence for each number that a question can give and was never met, so that it was not compared; and for each given that can't be.
     pub fn complaints(&self) -> Vec<String> {
         let mut all = Vec::new();
@@ -86,6 +96,8 @@ impl Counts {
         }
         let never = (0..=13).filter(|number| self.films[*number] == 0);
         all.extend(never.map(|number| format!("no film was refused {number}")));
+        let places = FAULTS.iter().zip(self.faults).filter(|(_, count)| *count == 0);
+        all.extend(places.map(|(name, _)| format!("no slip was malformed at: {name}")));
         all
     }
 }
@@ -105,6 +117,7 @@ mod tests {
             }
         }
         (0..=13).for_each(|number| counts.film(number));
+        (0..FAULTS.len()).for_each(|kind| counts.slip(Some(kind)));
         counts
     }
 
@@ -118,7 +131,9 @@ mod tests {
         let mut counts = full();
         counts.questions[15][1] = 0;
         counts.films[7] = 0;
-        assert_eq!(counts.complaints(), ["sample never met 15", "no film was refused 7"]);
+        counts.faults[4] = 0;
+        let expected = ["sample never met 15", "no film was refused 7", "no slip was malformed at: b"];
+        assert_eq!(counts.complaints(), expected);
         assert!(counts.table().lines().any(|line| line.starts_with(" 15") && line.contains(" 0 ")));
     }
 

@@ -2,7 +2,8 @@
 use crate::case::{compare, Difference, Lengths};
 use crate::choose::{peaks, questions};
 use crate::counts::Counts;
-use crate::question::{slip_answer, Answer, Question};
+use crate::faults;
+use crate::question::{slip_answer, Answered, Question};
 use reference::maker::Random;
 use reference::movie::refusals::read;
 use reference::movie::tables::Movie;
@@ -56,7 +57,7 @@ impl Comparison {
         &mut self,
         bytes: &Bytes,
         question: Question,
-        answer: &Result<Answer, u32>,
+        answer: &Answered,
         lengths: Lengths,
     ) -> Result<(u32, Vec<u64>, Vec<u8>), Box<Difference>> {
         let (number, lent) = compare(bytes.lent(), question, answer, lengths)?;
@@ -99,14 +100,14 @@ impl Comparison {
         &self,
         film: &Result<Movie, u32>,
         (id, a, b): (u32, u32, u32),
-        slip: Result<Answer, u32>,
+        slip: Answered,
     ) -> Result<(), &'static str> {
         let Ok(slip) = slip else {
             return Err("the slip written is refused");
         };
         let stretch = Question::Stretch { id, a, b }.answer(film).unwrap();
         let scale = film.as_ref().unwrap().track(id).unwrap().tables.scale;
-        let head = vec![u64::from(id), scale, u64::from(a), u64::from(b), stretch.places[0]];
+        let head = vec![u64::from(id), scale, u64::from(a), u64::from(b), stretch.places[0], 0];
         if slip.places == head && slip.numbers == stretch.numbers {
             Ok(())
         } else {
@@ -132,10 +133,10 @@ impl Comparison {
     }
 
     /// Reads a slip, with exactly the room it needs and with memory of any lengths. Answers how the reference reads it.
-    pub fn slip(&mut self, random: &mut Random, slip: &[u8]) -> Result<Result<Answer, u32>, Box<Difference>> {
+    pub fn slip(&mut self, random: &mut Random, slip: &[u8]) -> Result<Answered, Box<Difference>> {
         let bytes = Bytes::copy(random, slip);
         let answer = slip_answer(slip);
-        self.counts.slip();
+        self.counts.slip(answer.as_ref().err().map(|refused| faults::kind(slip, refused.place)));
         let exact = Lengths::exact(Question::ReadSlip, &answer, random.bits());
         self.case(&bytes, Question::ReadSlip, &answer, exact)?;
         let any = Lengths::any(random, Question::ReadSlip, &answer);

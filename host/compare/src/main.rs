@@ -5,6 +5,7 @@ mod big;
 mod case;
 mod choose;
 mod counts;
+mod faults;
 mod films;
 mod lent;
 mod library;
@@ -26,7 +27,7 @@ fn main() -> ExitCode {
     let mut run = run::Run::new(options.seed);
     let compared = run.all(&options);
     let counts = run.counts();
-    println!("{}slips read: {}", counts.table(), counts.slips());
+    println!("{}{}", counts.table(), counts.slip_lines());
     if let Err(words) = compared {
         println!("{words}");
         return ExitCode::FAILURE;

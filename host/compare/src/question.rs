@@ -34,7 +34,7 @@ pub const KINDS: [&str; 11] = [
 ];
 
 /// How many places each question fills, in the same order.
-const PLACES: [usize; 11] = [1, 8, 2, 1, 2, 2, 1, 1, 2, 5, 1];
+const PLACES: [usize; 11] = [1, 8, 2, 1, 2, 2, 1, 1, 2, 6, 1];
 
 /// An answer: its own numbers, and what goes to the lent numbers or bytes.
 #[derive(Clone, Debug, Default, PartialEq)]
@@ -43,6 +43,22 @@ pub struct Answer {
     pub numbers: Vec<u32>,
     pub bytes: Vec<u8>,
 }
+
+/// A refusal: its number, and the place of the fault, which is 0 but for 17.
+#[derive(Clone, Copy, Debug, PartialEq)]
+pub struct Refused {
+    pub number: u32,
+    pub place: usize,
+}
+
+impl From<u32> for Refused {
+    fn from(number: u32) -> Refused {
+        Refused { number, place: 0 }
+    }
+}
+
+/// What the reference answers; room plays no part yet.
+pub type Answered = Result<Answer, Refused>;
 
 fn long(n: usize) -> u64 {
     u64::try_from(n).unwrap()
@@ -69,8 +85,8 @@ impl Question {
         PLACES[self.kind()]
     }
 
-    /// The reference's answer about a film, or the number of the refusal; room plays no part yet.
-    pub fn answer(&self, film: &Result<Movie, u32>) -> Result<Answer, u32> {
+    /// The reference's answer about a film.
+    pub fn answer(&self, film: &Result<Movie, u32>) -> Answered {
         let movie = film.as_ref().map_err(|number| *number)?;
         Ok(match *self {
             Question::TrackList => listed(movie.track_list().into_iter()),
@@ -133,13 +149,14 @@ fn sample_places(sample: &Sample) -> [u64; 8] {
     ]
 }
 
-/// The reference's reading of a slip, or 17. A slip has a byte at least for each number, so this room is enough.
-pub fn slip_answer(slip: &[u8]) -> Result<Answer, u32> {
+/// The reference's reading of a slip. A slip has a byte at least for each number, so this room is enough.
+pub fn slip_answer(slip: &[u8]) -> Answered {
     let mut numbers = vec![0; slip.len()];
-    let (refusal, head) = read_slip(slip, &mut numbers);
-    if refusal != 0 {
-        return Err(refusal);
+    let (number, head, place) = read_slip(slip, &mut numbers);
+    if number != 0 {
+        return Err(Refused { number, place });
     }
     numbers.truncate(2 * usize::try_from(head.pairs).unwrap());
-    Ok(Answer { numbers, ..only(&[head.id, head.scale, head.a, head.b, head.pairs].map(u64::from)) })
+    let places = [head.id, head.scale, head.a, head.b, head.pairs, 0].map(u64::from);
+    Ok(Answer { numbers, ..only(&places) })
 }

@@ -48,14 +48,16 @@ impl Run {
         Err(format!("DIFFERENCE: seed {}, {name}\n{fault}\n{}", self.seed, keep(bytes)))
     }
 
-    /// The film of an index, and a slip.
+    /// The film of an index, a slip, and the same slip damaged.
     fn made(&mut self, index: u64) -> Result<(), String> {
         let mut random = Random::of(self.seed, index);
         let film = maker::film(&mut random);
         let bytes = Bytes::copy(&mut random, &film);
         self.on(&format!("film {index}"), &film, |all| all.film(&mut random, &bytes, ROUNDS))?;
         let slip = slips::slip(&mut random);
-        self.on(&format!("slip {index}"), &slip, |all| all.slip(&mut random, &slip).map(drop))
+        self.on(&format!("slip {index}"), &slip, |all| all.slip(&mut random, &slip).map(drop))?;
+        let damaged = slips::damaged(&mut random, &slip);
+        self.on(&format!("damaged slip {index}"), &damaged, |all| all.slip(&mut random, &damaged).map(drop))
     }
 
     /// The films and slips at the limits.

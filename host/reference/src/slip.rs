@@ -1,7 +1,7 @@
-//! The slip, from document 01, "The slip".
+//! The slip, from document 01, "The slip", and document 02, Ask 5.
 //!
 //! Nothing here is quick or clever: the bytes are cut into pieces after each byte without the top bit, each piece is
-//! compared with the writing of the number that it counts, and the rules are then asked of the list of numbers.
+//! compared with the writing of the number that it counts, and each number is asked for its rule.
 
 /// Numbers of a slip are below this.
 pub const LIMIT: u128 = 1 << 32;
@@ -112,38 +112,53 @@ pub struct Head {
     pub pairs: u32,
 }
 
-/// Every number of a slip, in order, the form first; or nothing, where the bytes are malformed.
-fn accepted(bytes: &[u8]) -> Option<Vec<u128>> {
-    // "each number is so written"
-    let (pieces, remaining) = cut(bytes);
-    if !remaining.is_empty() {
-        return None;
-    }
-    let mut numbers = Vec::new();
-    for piece in &pieces {
-        numbers.push(value(piece)?);
-    }
-    // "1 (the form), track ID, scale, a, b, number of pairs, pairs"
-    if numbers.len() < 6 {
-        return None;
-    }
-    let (form, id, scale, a, b, pairs) = (numbers[0], numbers[1], numbers[2], numbers[3], numbers[4], numbers[5]);
-    // "the form is 1, ID and scale are not 0, a < b, there are 1 to 1,048,576 pairs"
-    let rules = form == 1 && id != 0 && scale != 0 && a < b && (1..=MOST_PAIRS).contains(&pairs);
-    // "all present, and nothing follows"
-    let all = u128::try_from(numbers.len()).unwrap() == 6 + 2 * pairs;
-    if rules && all {
-        Some(numbers)
-    } else {
-        None
+/// Whether a number keeps document 01's rule for it. So many stand before it in the slip, the form first.
+/// "the form is 1, ID and scale are not 0, a < b, there are 1 to 1,048,576 pairs"
+fn keeps(before: &[u128], n: u128) -> bool {
+    match before.len() {
+        0 => n == 1,
+        1 | 2 => n != 0,
+        // "b at or below a is b's fault"
+        4 => n > before[3],
+        5 => (1..=MOST_PAIRS).contains(&n),
+        _ => true,
     }
 }
 
-/// Reads a slip. Answers the refusal, 0 for none, and the numbers after the form, 0 on refusal; the pairs go to the room.
+/// Whether all numbers of a slip are there: six, and two for each pair.
+fn all_there(numbers: &[u128]) -> bool {
+    numbers.len() >= 6 && u128::try_from(numbers.len()).unwrap() == 6 + 2 * numbers[5]
+}
+
+/// Every number of a slip, in order, the form first; or the place of its first fault, from left to right: "the first byte of the first number
+/// that breaks a rule, the slip's length if it ends early, or the first surplus byte".
+fn accepted(bytes: &[u8]) -> Result<Vec<u128>, usize> {
+    let (pieces, remaining) = cut(bytes);
+    let mut numbers = Vec::new();
+    let mut place = 0;
+    for piece in &pieces {
+        match value(piece) {
+            Some(n) if !all_there(&numbers) && keeps(&numbers, n) => numbers.push(n),
+            // A surplus byte, a number that is not so written, or one that breaks its rule.
+            _ => return Err(place),
+        }
+        place += piece.len();
+    }
+    match (all_there(&numbers), remaining.len()) {
+        (true, 0) => Ok(numbers),
+        // "the first surplus byte"; "has the top bit set on its fifth byte"
+        (true, _) | (false, 5..) => Err(place),
+        // "the slip's length if it ends early"
+        (false, _) => Err(bytes.len()),
+    }
+}
+
+/// Reads a slip. Answers the refusal, 0 for none; the numbers after the form, 0 on refusal; and the place, 0 but with 17. The pairs go to the room.
 /// "in slip reading 17, then 16"; "lent buffers keep their contents"; "an accepted answer fills the first places and leaves the rest".
-pub fn read_slip(bytes: &[u8], room: &mut [u32]) -> (u32, Head) {
-    let Some(numbers) = accepted(bytes) else {
-        return (MALFORMED, Head::default());
+pub fn read_slip(bytes: &[u8], room: &mut [u32]) -> (u32, Head, usize) {
+    let numbers = match accepted(bytes) {
+        Ok(numbers) => numbers,
+        Err(place) => return (MALFORMED, Head::default(), place),
     };
     let mut short = Vec::new();
     for n in numbers {
@@ -151,10 +166,10 @@ pub fn read_slip(bytes: &[u8], room: &mut [u32]) -> (u32, Head) {
     }
     let pairs = &short[6..];
     if room.len() < pairs.len() {
-        return (NO_ROOM, Head::default());
+        return (NO_ROOM, Head::default(), 0);
     }
     room[..pairs.len()].copy_from_slice(pairs);
-    (0, Head { id: short[1], scale: short[2], a: short[3], b: short[4], pairs: short[5] })
+    (0, Head { id: short[1], scale: short[2], a: short[3], b: short[4], pairs: short[5] }, 0)
 }
 
 /// Stores bytes at a place where they fit whole and answers the place past them; otherwise stores none and answers the place.
@@ -208,7 +223,7 @@ mod tests {
     #[test]
     fn the_papers_slip_is_read() {
         let mut room = [9; 5];
-        assert_eq!(read_slip(&PAPER, &mut room), (0, HEAD));
+        assert_eq!(read_slip(&PAPER, &mut room), (0, HEAD, 0));
         assert_eq!(room, [1100, 50, 900, 70, 9]);
     }
 
@@ -225,9 +240,97 @@ mod tests {
     #[test]
     fn a_refusal_leaves_the_room() {
         let mut room = [9; 3];
-        assert_eq!(read_slip(&PAPER, &mut room), (NO_ROOM, Head::default()));
-        assert_eq!(read_slip(&PAPER[..12], &mut room), (MALFORMED, Head::default()));
+        assert_eq!(read_slip(&PAPER, &mut room), (NO_ROOM, Head::default(), 0));
+        assert_eq!(read_slip(&PAPER[..12], &mut room), (MALFORMED, Head::default(), 12));
         assert_eq!(room, [9; 3]);
+    }
+
+    /// The place of a malformed slip's fault.
+    fn place(bytes: &[u8]) -> usize {
+        let (refusal, head, place) = read_slip(bytes, &mut [0; 8]);
+        assert_eq!((refusal, head), (MALFORMED, Head::default()), "{bytes:02x?}");
+        place
+    }
+
+    /// The paper's slip with some of its bytes exchanged for others.
+    fn with(part: std::ops::Range<usize>, bytes: &[u8]) -> Vec<u8> {
+        [&PAPER[..part.start], bytes, &PAPER[part.end..]].concat()
+    }
+
+    /// Where each number of the paper's slip is.
+    const NUMBERS: [std::ops::Range<usize>; 10] = [0..1, 1..2, 2..4, 4..5, 5..6, 6..7, 7..9, 9..10, 10..12, 12..13];
+
+    #[test]
+    fn a_slip_that_ends_early_has_its_length() {
+        for end in 0..PAPER.len() {
+            assert_eq!(place(&PAPER[..end]), end);
+        }
+    }
+
+    #[test]
+    fn a_number_not_so_written_has_its_first_byte() {
+        for number in NUMBERS {
+            let start = number.start;
+            for wrong in [&[0x80, 0x00][..], &[0xff, 0xff, 0xff, 0xff, 0x10], &[0x81, 0x80, 0x80, 0x80, 0x80, 0x01]] {
+                assert_eq!(place(&with(number.clone(), wrong)), start);
+                // The slip ends early too.
+                assert_eq!(place(&[&PAPER[..start], wrong].concat()), start);
+            }
+        }
+    }
+
+    #[test]
+    fn five_top_bits_at_the_end_are_broken_and_four_are_cut_short() {
+        for number in NUMBERS {
+            let start = number.start;
+            assert_eq!(place(&[&PAPER[..start], &[0x80; 5]].concat()), start);
+            assert_eq!(place(&[&PAPER[..start], &[0xff; 6]].concat()), start);
+            assert_eq!(place(&[&PAPER[..start], &[0x80; 4]].concat()), start + 4);
+        }
+    }
+
+    #[test]
+    fn a_number_that_breaks_its_rule_has_its_first_byte() {
+        for form in [&[0x00][..], &[0x02], &[0x81, 0x01]] {
+            assert_eq!(place(&with(0..1, form)), 0);
+        }
+        assert_eq!(place(&with(1..2, &[0x00])), 1);
+        assert_eq!(place(&with(2..4, &[0x00])), 2);
+        // The number of pairs, also where the pairs are missing.
+        for pairs in [&[0x00][..], &[0x81, 0x80, 0x40]] {
+            assert_eq!(place(&with(6..7, pairs)), 6);
+            assert_eq!(place(&with(6..13, pairs)), 6);
+        }
+    }
+
+    #[test]
+    fn b_at_or_below_a_is_bs_fault() {
+        for b in [0x18, 0x17, 0x00] {
+            assert_eq!(place(&with(5..6, &[b])), 5);
+        }
+        for a in [&[0x49][..], &[0x4a], &[0xff, 0xff, 0xff, 0xff, 0x0f]] {
+            assert_eq!(place(&with(4..5, a)), 4 + a.len());
+        }
+    }
+
+    #[test]
+    fn surplus_has_its_first_byte() {
+        for surplus in [&[0x00][..], &[0x80], &[0xcc, 0x08], &[0x80; 4], &[0x80; 5], &PAPER] {
+            assert_eq!(place(&[&PAPER, surplus].concat()), 13);
+        }
+        // A pair, and half a pair, more than the number of pairs says.
+        assert_eq!(place(&with(6..7, &[0x01])), 10);
+        assert_eq!(place(&with(6..7, &[0x01])[..12]), 10);
+    }
+
+    #[test]
+    fn the_first_fault_counts() {
+        // An ID of 0 in a slip that ends with it; the same with surplus bytes; b before a padded number of pairs.
+        assert_eq!(place(&[0x01, 0x00]), 1);
+        assert_eq!(place(&[&with(1..2, &[0x00]), &[0x00][..]].concat()), 1);
+        assert_eq!(place(&with(5..7, &[0x18, 0x82, 0x00])), 5);
+        // The form before all that follows, which is no writing at all.
+        assert_eq!(place(&[0x02, 0x80, 0x80]), 0);
     }
 
     #[test]
@@ -268,12 +371,13 @@ mod tests {
     #[test]
     fn the_most_pairs_are_accepted() {
         // All pairs are (0,0) and there, so that only their number can be at fault.
-        for (pairs, refusal) in [(1_048_576, 0), (1_048_577, MALFORMED)] {
+        for (pairs, refusal, place) in [(1_048_576, 0, 0), (1_048_577, MALFORMED, 5)] {
             let mut slip = vec![0; 3_000_000];
             let at = put_head(&mut slip, Head { id: 1, scale: 1, a: 0, b: 1, pairs });
             slip.truncate(at + 2 * usize::try_from(pairs).unwrap());
             let mut room = vec![9; 2_097_152];
-            assert_eq!(read_slip(&slip, &mut room).0, refusal);
+            let (number, _, at) = read_slip(&slip, &mut room);
+            assert_eq!((number, at), (refusal, place));
         }
     }
 

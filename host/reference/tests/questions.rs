@@ -87,7 +87,7 @@ fn movie_times_and_media_times_have_their_own_scales() {
     let mut slip = [0; 20];
     let (_, length) = write_slip(&plain, 1, 24, 73, &mut slip);
     let mut room = [0; 4];
-    let (refusal, head) = read_slip(&slip[..usize::try_from(length).unwrap()], &mut room);
+    let (refusal, head, _) = read_slip(&slip[..usize::try_from(length).unwrap()], &mut room);
     assert_eq!((refusal, head), (0, Head { id: 1, scale: 900, a: 24, b: 73, pairs: 2 }));
     assert_eq!(room, [1100, 50, 900, 70]);
 }

@@ -1,10 +1,10 @@
-//! Stretches of film as byte ranges, and the slips that file them.
+//! Stretches of film as byte ranges, and the slips written of them.
 use super::{scale, seconds, Answer};
 use crate::failure::Failure;
 use crate::input::STANDARD;
 use crate::json::{document, Object};
 use crate::table::{self, number};
-use chaldoref::{ByteRange, MediaTime, Movie, Slip, TrackId};
+use chaldoref::{ByteRange, MediaTime, Movie, TrackId};
 use std::ffi::OsStr;
 use std::fs;
 use std::io::{self, Write};
@@ -67,28 +67,11 @@ fn same_file(name: &OsStr, other: &OsStr) -> bool {
     matches!((place(name), place(other)), (Ok(one), Ok(two)) if one == two)
 }
 
-pub fn read_slip(bytes: &[u8], to: Answer) -> Result<(), Failure> {
-    let slip = Slip::read(bytes)?;
-    if to.json {
-        return Ok(document(to.out, |o| {
-            o.put("track", slip.id.0)?.put("scale", slip.scale)?.put("a", slip.a.0)?.put("b", slip.b.0)?;
-            o.list("pairs", &slip.pairs, pair_fields)?.put("bytes", slip.bytes()).map(drop)
-        })?);
-    }
-    let columns = [number("track"), number("scale"), number("a"), number("b"), number("film time"), number("seconds")];
-    let film_time = MediaTime(slip.film_time());
-    let [track, scale, a, b, time] = [slip.id.0, slip.scale, slip.a.0, slip.b.0, film_time.0].map(|n| n.to_string());
-    let row = [track, scale, a, b, time, seconds(film_time, slip.scale)];
-    table::write(to.out, columns, &[row], |row| row.clone())?;
-    writeln!(to.out)?;
-    Ok(print_pairs(&slip.pairs, slip.bytes(), to.out)?)
-}
-
-fn pair_fields(o: &mut Object, pair: &ByteRange) -> io::Result<()> {
+pub fn pair_fields(o: &mut Object, pair: &ByteRange) -> io::Result<()> {
     o.put("offset", pair.offset)?.put("length", pair.length).map(drop)
 }
 
-fn print_pairs(pairs: &[ByteRange], bytes: u64, out: &mut dyn Write) -> io::Result<()> {
+pub fn print_pairs(pairs: &[ByteRange], bytes: u64, out: &mut dyn Write) -> io::Result<()> {
     let row = |pair: &ByteRange| [pair.offset.to_string(), pair.length.to_string()];
     table::write(out, [number("offset"), number("length")], pairs, row)?;
     let s = if pairs.len() == 1 { "" } else { "s" };

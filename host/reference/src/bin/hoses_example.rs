@@ -27,8 +27,8 @@ fn answered<T>((number, answer): (u32, T)) -> Result<T, u32> {
 fn filed(film: &[u8], id: u32, a: u32, b: u32) -> Result<u32, u32> {
     let mut out = [0; ROOM];
     let length = answered(write_slip(film, id, a, b, &mut out))?;
-    let head = answered(read_slip(&out[..usize::try_from(length).unwrap()], &mut [0; ROOM]))?;
-    Ok(head.b - head.a)
+    let (number, head, _) = read_slip(&out[..usize::try_from(length).unwrap()], &mut [0; ROOM]);
+    answered((number, head.b - head.a))
 }
 
 /// The track filed in two slips, which meet where its second sample starts; in one where no film time lies before that or after it.

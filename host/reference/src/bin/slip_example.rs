@@ -10,11 +10,12 @@ fn main() {
     let hex: Vec<String> = out[..at].iter().map(|b| format!("{b:02x}")).collect();
     println!("slip {}", hex.join(" "));
     let mut room = [0u32; 4];
-    let (_, head) = read_slip(&out[..at], &mut room);
+    let (_, head, _) = read_slip(&out[..at], &mut room);
     println!("track {}, {} units a second, media time {} up to {}", head.id, head.scale, head.a, head.b);
     println!("{} bytes of film from byte {} of the file", room[1], room[0]);
     println!("{} bytes of film from byte {} of the file", room[3], room[2]);
-    out[0] = 2;
-    let (refusal, _) = read_slip(&out[..at], &mut room);
-    println!("refused {refusal}");
+    // b is now a.
+    out[5] = 24;
+    let (refusal, _, place) = read_slip(&out[..at], &mut room);
+    println!("refused {refusal} at byte {place} of the slip");
 }

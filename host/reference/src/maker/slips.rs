@@ -82,6 +82,32 @@ pub fn slip(random: &mut Random) -> Vec<u8> {
     bytes
 }
 
+/// A slip as it comes back from whoever copied it: a byte lost, put in twice or changed, two exchanged, the end lost, or some more at the end.
+pub fn damaged(random: &mut Random, slip: &[u8]) -> Vec<u8> {
+    let mut bytes = slip.to_vec();
+    if bytes.is_empty() {
+        return vec![random.byte()];
+    }
+    let at = random.below(bytes.len());
+    match random.below(8) {
+        0 => drop(bytes.remove(at)),
+        1 => bytes.insert(at, bytes[at]),
+        2 => bytes[at] = random.byte(),
+        3 => bytes[at] ^= 1 << random.below(8),
+        4 => bytes[at] ^= 128,
+        5 => {
+            let other = random.below(bytes.len());
+            bytes.swap(at, other);
+        }
+        6 => bytes.truncate(at),
+        _ => {
+            let more = 1 + random.below(6);
+            bytes.extend(random.bytes(more));
+        }
+    }
+    bytes
+}
+
 /// A slip of so many pairs, all there.
 pub fn slip_of(random: &mut Random, pairs: u32) -> Vec<u8> {
     let mut bytes: Vec<u8> = [1, 1, 600, 0, 1, pairs].iter().flat_map(|n| writing(u128::from(*n))).collect();

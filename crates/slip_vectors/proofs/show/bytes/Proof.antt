@@ -1,4 +1,5 @@
--- `slip_vectors::show::bytes` is safe and ends. The loop stays within the slice, and its measure is how much of it is left. Assumes nothing.
+-- `slip_vectors::show::bytes` is safe and ends. The loop stays within the slice, and its measure is how much of it is left.
+-- Assumes nothing.
 use Prim.Native.Nat.{_≤_, _-_}
 use lib.ListN.{length}
 use borrow.Author.Needs.{needs}
@@ -6,19 +7,22 @@ use Rattle.slip_vectors.proofs.show.bytes.Statement.{statement}
 use Rattle.slip_vectors.proofs.show.bytes.Tie as tie
 
 abbrev Inv-loop : tie.InvT-loop
-Inv-loop s i₀ i = i ≤ length s
+Inv-loop words s i₀ i = i ≤ length s
 
 abbrev μ-loop : tie.MeasureT-loop
-μ-loop s i₀ i = length s - i
+μ-loop words s i₀ i = length s - i
+
+text-requires : tie.Need-text-requires Inv-loop μ-loop
+text-requires c κs = search needs
 
 loop-holds : tie.Need-loop-holds Inv-loop μ-loop
 loop-holds c = search needs
 
-shared-slice-read-byte : tie.Need-shared-slice-read-byte Inv-loop μ-loop
-shared-slice-read-byte c = search needs
+shared-slice-read-hex : tie.Need-shared-slice-read-hex Inv-loop μ-loop
+shared-slice-read-hex c = search needs
 
-byte-requires : tie.Need-byte-requires Inv-loop μ-loop
-byte-requires c κs = search needs
+hex-requires : tie.Need-hex-requires Inv-loop μ-loop
+hex-requires c κs = search needs
 
 add-i : tie.Need-add-i Inv-loop μ-loop
 add-i c = search needs
@@ -38,9 +42,10 @@ bytes-spec =
     (tie.spec
     Inv-loop
     μ-loop
+    text-requires
     loop-holds
-    shared-slice-read-byte
-    byte-requires
+    shared-slice-read-hex
+    hex-requires
     add-i
     loop-less
     loop-again

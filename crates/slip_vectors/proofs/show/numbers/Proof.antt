@@ -1,4 +1,5 @@
--- `slip_vectors::show::numbers` is safe and ends. The loop stays within the slice, and its measure is how much of it is left. Assumes nothing.
+-- `slip_vectors::show::numbers` is safe and ends. The loop stays within the slice, and its measure is how much of it is left.
+-- Assumes nothing.
 use Prim.Native.Nat.{_≤_, _-_}
 use lib.ListN.{length}
 use borrow.Author.Needs.{needs}
@@ -6,10 +7,13 @@ use Rattle.slip_vectors.proofs.show.numbers.Statement.{statement}
 use Rattle.slip_vectors.proofs.show.numbers.Tie as tie
 
 abbrev Inv-loop : tie.InvT-loop
-Inv-loop s i₀ i = i ≤ length s
+Inv-loop words s i₀ i = i ≤ length s
 
 abbrev μ-loop : tie.MeasureT-loop
-μ-loop s i₀ i = length s - i
+μ-loop words s i₀ i = length s - i
+
+text-requires : tie.Need-text-requires Inv-loop μ-loop
+text-requires c κs = search needs
 
 loop-holds : tie.Need-loop-holds Inv-loop μ-loop
 loop-holds c = search needs
@@ -41,6 +45,7 @@ numbers-spec =
     (tie.spec
     Inv-loop
     μ-loop
+    text-requires
     loop-holds
     mul-number-32
     shared-slice-read-number-32

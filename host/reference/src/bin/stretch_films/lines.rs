@@ -53,7 +53,7 @@ fn scale(film: &[u8], id: u32) -> u32 {
 fn reads_back(film: &[u8], id: u32, (a, b): Times, slip: &[u8]) -> bool {
     let places = usize::try_from(BYTES).unwrap();
     let (mut read, mut asked) = (vec![PLACE; places], vec![PLACE; places]);
-    let (number, head) = read_slip(slip, &mut read);
+    let (number, head, _) = read_slip(slip, &mut read);
     let (_, (count, _)) = stretch(film, id, a, b, &mut asked);
     let expected = Head { id, scale: scale(film, id), a, b, pairs: u32::try_from(count).unwrap() };
     number == 0 && head == expected && read == asked

@@ -1,0 +1,46 @@
+//! Slips that are read: what they say, or where they go wrong.
+use super::ranges::{pair_fields, print_pairs};
+use super::{refusal_fields, seconds, Answer};
+use crate::failure::Failure;
+use crate::fault::Fault;
+use crate::input;
+use crate::json::document;
+use crate::table::{self, number};
+use chaldoref::{MediaTime, Slip};
+use std::ffi::OsStr;
+use std::io::{self, Write};
+
+/// What a slip says; beside others its name comes first.
+pub fn read(bytes: &[u8], name: &OsStr, beside_others: bool, to: Answer) -> Result<(), Failure> {
+    let slip = Slip::read(bytes).map_err(|malformed| Failure::Malformed(Fault::of(bytes, malformed)))?;
+    if to.json {
+        return Ok(document(to.out, |o| {
+            o.put("file", name.to_string_lossy().into_owned())?.put("track", slip.id.0)?.put("scale", slip.scale)?;
+            o.put("a", slip.a.0)?.put("b", slip.b.0)?;
+            o.list("pairs", &slip.pairs, pair_fields)?.put("bytes", slip.bytes()).map(drop)
+        })?);
+    }
+    if beside_others {
+        writeln!(to.out, "{}:", input::called(name))?;
+    }
+    let columns = [number("track"), number("scale"), number("a"), number("b"), number("film time"), number("seconds")];
+    let film_time = MediaTime(slip.film_time());
+    let [track, scale, a, b, time] = [slip.id.0, slip.scale, slip.a.0, slip.b.0, film_time.0].map(|n| n.to_string());
+    let row = [track, scale, a, b, time, seconds(film_time, slip.scale)];
+    table::write(to.out, columns, &[row], |row| row.clone())?;
+    writeln!(to.out)?;
+    print_pairs(&slip.pairs, slip.bytes(), to.out)?;
+    if beside_others {
+        writeln!(to.out)?;
+    }
+    Ok(())
+}
+
+/// Where a slip goes wrong, for machines.
+pub fn refused(fault: &Fault, name: &OsStr, out: &mut dyn Write) -> io::Result<()> {
+    document(out, |o| {
+        o.put("file", name.to_string_lossy().into_owned())?;
+        refusal_fields(o, fault.refusal())?.put("place", u64::try_from(fault.place).unwrap_or(u64::MAX))?;
+        o.put("number", fault.number.clone())?.put("rule", fault.rule.clone()).map(drop)
+    })
+}
