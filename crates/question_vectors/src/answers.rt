@@ -3,7 +3,9 @@ use super::show;
 use edits::MediaTime;
 use edits::MovieTime;
 use questions::feature::FeatureAnswer;
+use questions::feature::PeakAnswer;
 use questions::feature::feature_by_code;
+use questions::feature::peak_by_code;
 use questions::samples::Sample;
 use questions::samples::SampleAnswer;
 use questions::samples::sample_by_number;
@@ -104,6 +106,8 @@ fn code_name(code: u32) {
         features::AVAB => show::text(b"avab"),
         features::TVSZ => show::text(b"tvsz"),
         features::VFPS => show::text(b"vfps"),
+        features::MVBR => show::text(b"mvbr"),
+        features::MABR => show::text(b"mabr"),
         _ => show::hex(code),
     }
 }
@@ -115,13 +119,33 @@ fn value(v: u32) {
     show::hex(v);
 }
 
-pub fn feature(film: &[u8], id: u32, code: u32) {
-    show::field(b"feature ", id);
+// The question, the track asked and the feature's code.
+fn asked_by_code(words: &[u8], id: u32, code: u32) {
+    show::field(words, id);
     show::text(b" ");
     code_name(code);
     show::text(b": ");
+}
+
+pub fn feature(film: &[u8], id: u32, code: u32) {
+    asked_by_code(b"feature ", id, code);
     match feature_by_code(film, id, code) {
         FeatureAnswer::Value(v) => value(v),
         FeatureAnswer::Refused(number) => refused(number),
+    }
+}
+
+// The number of the first sample, and how many there are.
+fn run(first: u32, count: u32) {
+    show::field(b"from ", first);
+    show::field(b" count ", count);
+}
+
+// Where the highest rate over a second is.
+pub fn peak(film: &[u8], id: u32, code: u32) {
+    asked_by_code(b"peak ", id, code);
+    match peak_by_code(film, id, code) {
+        PeakAnswer::Run(first, count) => run(first, count),
+        PeakAnswer::Refused(number) => refused(number),
     }
 }

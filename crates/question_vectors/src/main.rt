@@ -17,6 +17,8 @@ const FEATURE: u32 = 4;
 
 const PROFILE: u32 = 5;
 
+const PEAK: u32 = 6;
+
 // The bytes of a question: its kind, a track ID and the number asked, 32 bits each.
 const QUESTION: usize = 12;
 
@@ -28,6 +30,7 @@ fn line(film: &[u8], kind: u32, id: u32, n: u32) {
         MAP => answers::map(film, id, n),
         FEATURE => answers::feature(film, id, n),
         PROFILE => rooms::profile(film, id, n),
+        PEAK => answers::peak(film, id, n),
         _ => show::text(b"no question"),
     }
     show::text(b"\n");

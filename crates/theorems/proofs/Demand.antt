@@ -6,7 +6,7 @@ use mathlib.Core.Bool.{true}
 use mathlib.Core.List.{List, []}
 use native.Mathlib.Omega.{arith}
 use lib.ListN.{length, getD}
-use Rattle.lists.specs.Lists.{sum, before, between, holder, Holds}
+use Rattle.lists.specs.Lists.{sum, before, holder, Holds}
 use Rattle.lists.proofs.Places as places
 use Rattle.runs.specs.Runs.{perSample}
 use Rattle.words.specs.Words.{sizes, chunkOffsets}

@@ -13,7 +13,7 @@ use borrow.Author.Tests.{eq-eqb, ne-eqb}
 use Rattle.bigendian.specs.BigEndian.{u32At}
 use Rattle.bigendian.proofs.Laws.{beAt-take, beAt-drop}
 use Rattle.atoms.specs.Kinds.{stts, stsc, stsz, stco}
-use Rattle.lists.specs.Lists.{Run, sum, before, upTo, expand, holder, Holds}
+use Rattle.lists.specs.Lists.{Run, sum, before, expand, holder, Holds}
 use Rattle.lists.specs.Entries.{rowsOf, entries}
 use Rattle.lists.proofs.Laws.{length-run, sum-run, getD-in, getD-past}
 use Rattle.lists.proofs.Places.{before-suc, holder-holds, holds-below}

@@ -1,38 +1,27 @@
 -- The lists of a track that is asked and not refused: as many durations as sizes, as many samples dealt, as many chunks as offsets, and a sample in each chunk.
 -- Assumes nothing.
 use Prim.Native.Nat.{ℕ, _<_}
-use mathlib.Core.Path.{_≡_, refl, ap, _∙_}
+use mathlib.Core.Path.{_≡_, ap}
 use mathlib.Core.List.{List}
 use native.Mathlib.Omega.{arith}
-use native.Mathlib.Decide.{ℕ-discrete}
-use lib.ListN.{length, getD, drop, length-drop, length-replicate}
-use Rattle.bigendian.specs.BigEndian.{u32At}
-use Rattle.atoms.specs.Kinds.{stsc, stsz, stco}
+use lib.ListN.{length, getD, drop, length-drop}
+use Rattle.atoms.specs.Kinds.{stsc, stco}
 use Rattle.lists.specs.Lists.{sum}
 use Rattle.words.specs.Words.{sizes, chunkOffsets}
-use Rattle.words.proofs.Turns.{offsets-in, length-words, sizes-listed, sizes-common}
+use Rattle.words.proofs.Turns.{offsets-in, length-words}
 use Rattle.chunks.proofs.Agreed.{samples-length, samples-some}
 use Rattle.structure.specs.Track.{tableOf, samplesOf, chunksOf, descriptionsOf}
 use Rattle.structure.proofs.Shaped.{Shaped}
 use Rattle.track.specs.Track.{Track, trackOf}
 use Rattle.track.proofs.Agreed.{agreed-tables}
 use Rattle.questions.specs.Asked.{askRefusal, trackAsked}
-use Rattle.questions.proofs.Asking.{asked}
+use Rattle.questions.proofs.Asking.{asked, sizes-count}
 
 -- the lists of the track that is asked, one number for each sample or chunk
 abbrev pub tables : List ℕ → ℕ → Track
 tables s id = trackOf (trackAsked s id)
 
--- as many sizes as the table counts
-sizes-count : (t : List ℕ) → Shaped t → length (sizes (tableOf stsz t)) ≡ samplesOf t
-sizes-count t h =
-    let z = tableOf stsz t in
-    elim (ℕ-discrete (u32At z 12) 0) [
-      | yes e ↦ omega (arith, ap length (sizes-listed z refl e), length-words (drop 20 z), length-drop 20 z, h .stsz-size e)
-      | no e ↦ ap length (sizes-common z refl e) ∙ length-replicate (u32At z 16) (u32At z 12)
-    ]
-
--- and as many chunk offsets
+-- as many chunk offsets as the table counts
 offsets-count : (t : List ℕ) → Shaped t → length (chunkOffsets (tableOf stco t)) ≡ chunksOf t
 offsets-count t h =
     let o = tableOf stco t in

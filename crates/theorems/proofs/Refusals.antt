@@ -10,7 +10,7 @@ use lib.ListN.{length}
 use lib.Dec.{ltb, eqb·suc-zero}
 use borrow.Author.Tests.{ltb-true}
 use Rattle.atoms.proofs.Laws.{and-left, and-right}
-use Rattle.structure.specs.Rows.{Row, some, first, lowest, ofWhole, orElse, numbersRise}
+use Rattle.structure.specs.Rows.{Row, some, first, lowest, orElse, numbersRise}
 use Rattle.structure.specs.Movie.{moovOf, movieScale, tracksOf}
 use Rattle.structure.specs.Refusals.{fileRows}
 use Rattle.structure.proofs.Tracks.{file-rows-rise}

@@ -2,7 +2,7 @@
 -- are read so. The idea: the track is accepted, so that its numbers keep the rules of a slip.
 -- Assumes nothing.
 use Prim.Native.Nat.{ℕ, _+_, _-_, _*_, _^_, _≤_, _<_}
-use mathlib.Core.Path.{_≡_, refl, sym, ap, subst, _∙_}
+use mathlib.Core.Path.{_≡_, refl, sym, ap, _∙_}
 use mathlib.Core.Bool.{Bool, true, false, cond}
 use mathlib.Core.List.{List, _++_}
 use native.Mathlib.Omega.{arith}
@@ -18,7 +18,6 @@ use Rattle.pairs.specs.Pairs.{touched, flat}
 use Rattle.edits.specs.declared.MediaTime.{MediaTime}
 use Rattle.slip.specs.Slip.{slipBytes, Rules, Reads}
 use Rattle.slip.specs.declared.Head.{Head}
-use Rattle.slip.specs.declared.read.SlipRead.{SlipRead}
 use Rattle.slip.specs.declared.read.SlipRead.the-variants.{Accepted}
 use Rattle.slip.proofs.Promises.{reads-back, accepted-only}
 use Rattle.structure.specs.Track.{scaleOf, samplesOf}
@@ -27,8 +26,8 @@ use Rattle.track.specs.Track.{trackOf}
 use Rattle.track.specs.Refusals.{totalIn, chunkPastEnd}
 use Rattle.movie.specs.Rooms.{filledRoom, roomAfter}
 use Rattle.questions.specs.Asked.{askRefusal, trackAsked}
-use Rattle.stretch.specs.Stretches.{firstIn, pastIn, pairsIn, stretchPairs, Stretches}
-use Rattle.stretch.specs.Slips.{slipHead, slipOfStretch, slipRefusal, slipAnswer, Slips}
+use Rattle.stretch.specs.Stretches.{firstIn, pastIn, pairsIn, stretchPairs}
+use Rattle.stretch.specs.Slips.{slipHead, slipOfStretch, slipRefusal, slipAnswer}
 use Rattle.stretch.specs.declared.StretchAnswer.the-variants as stretch
 use Rattle.stretch.specs.declared.slips.SlipAnswer.the-variants as slip
 use Rattle.questions.proofs.Asking.{asked}
