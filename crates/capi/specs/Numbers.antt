@@ -15,7 +15,7 @@ use Rattle.questions.specs.declared.samples.SampleAnswer.the-variants.{Found, R
 use Rattle.questions.specs.Times.{atAnswer, numberNumbers, mapAnswer, timeNumbers}
 use Rattle.stretch.specs.Stretches.{stretchAnswer, stretchNumbers}
 use Rattle.stretch.specs.Slips.{slipAnswer, slipNumbers}
-use Rattle.questions.specs.Feature.{featureAnswer, featureNumbers}
+use Rattle.questions.specs.Feature.{featureAnswer, featureNumbers, peakAnswer, peakNumbers}
 use Rattle.profiles.specs.Profiles.{profileAnswer, profileAnswerNumbers}
 
 -- a number that a host gives as a time of the media, or of the movie
@@ -60,6 +60,10 @@ ofProfile s id room = profileAnswerNumbers (profileAnswer s id room)
 -- the feature's value
 abbrev pub ofFeature : List ℕ → ℕ → ℕ → List ℕ
 ofFeature s id code = featureNumbers (featureAnswer s id code)
+
+-- the number of the first sample of the peak's run, and how many samples it has
+abbrev pub ofPeak : List ℕ → ℕ → ℕ → List ℕ
+ofPeak s id code = peakNumbers (peakAnswer s id code)
 
 -- "the slip's length in bytes"
 abbrev pub ofSlipWriting : List ℕ → ℕ → ℕ → ℕ → List ℕ → List ℕ
