@@ -2,7 +2,7 @@
 -- them can't be computed it can't.
 -- Assumes nothing.
 use Prim.Native.Nat.{ℕ, zero, suc, _-_, _≤_, _<_, max}
-use mathlib.Core.Path.{_≡_, refl, sym, ap, _∙_}
+use mathlib.Core.Path.{_≡_, refl, ap, _∙_}
 use mathlib.Core.Bool.{Bool, true, false, cond}
 use mathlib.Core.List.{List, [], _∷_}
 use native.Mathlib.Omega.{arith}
@@ -52,37 +52,41 @@ at-most s [] zs v e i l h = absurd (omega arith)
 at-most s (d ∷ ds) zs v e zero l h =
     let r = both (rateAt s (d ∷ ds) zs 0) (highest s ds (drop 1 zs)) v (rw (le-leb s (sum (d ∷ ds)) h) at e) in
     (r .0, r .2, omega (arith, r .4))
-at-most s (d ∷ ds) zs v e (suc i) l h = go (leb s (sum (d ∷ ds))) e
+at-most s (d ∷ ds) zs v e (suc i) l h = go (leb s (sum (d ∷ ds))) e (λ y f. at-most s ds (drop 1 zs) y f i (omega arith) h)
   where
-    shift : (x : ℕ) × (rateAt s ds (drop 1 zs) i ≡ Value x) × (x ≤ v) → (x : ℕ) × (rateAt s (d ∷ ds) zs (suc i) ≡ Value x) × (x ≤ v)
-    shift r = (r .0, ap (runRate s (runLength s (drop i ds)) (drop i ds)) (sym (drop-one zs i)) ∙ r .1, r .2)
+    IH : Type 0
+    IH = (y : ℕ) → highest s ds (drop 1 zs) ≡ Value y → (x : ℕ) × (rateAt s ds (drop 1 zs) i ≡ Value x) × (x ≤ y)
 
-    go : (b : Bool) → cond b (higher (rateAt s (d ∷ ds) zs 0) (highest s ds (drop 1 zs))) (highest s ds (drop 1 zs)) ≡ Value v
+    shift : (x : ℕ) × (rateAt s ds (drop 1 zs) i ≡ Value x) × (x ≤ v) → (x : ℕ) × (rateAt s (d ∷ ds) zs (suc i) ≡ Value x) × (x ≤ v)
+    shift r = (r .0, ap (runRate s (runLength s (drop i ds)) (drop i ds)) (drop-one zs i) ∙ r .1, r .2)
+
+    go : (b : Bool) → cond b (higher (rateAt s (d ∷ ds) zs 0) (highest s ds (drop 1 zs))) (highest s ds (drop 1 zs)) ≡ Value v → IH
         → (x : ℕ) × (rateAt s (d ∷ ds) zs (suc i) ≡ Value x) × (x ≤ v)
-    go true f =
+    go true f ih =
         let r = both (rateAt s (d ∷ ds) zs 0) (highest s ds (drop 1 zs)) v f in
-        let t = at-most s ds (drop 1 zs) (r .1) (r .3) i (omega arith) h in
+        let t = ih (r .1) (r .3) in
         shift (t .0, t .1, omega (arith, t .2, r .4))
-    go false f = shift (at-most s ds (drop 1 zs) v f i (omega arith) h)
+    go false f ih = shift (ih v f)
 
 -- and where some run gets there, one of them has just that rate
 pub attained : (s : ℕ) (ds zs : List ℕ) (v : ℕ) → highest s ds zs ≡ Value v → 0 < v → (i : ℕ) × (i < length ds) × (s ≤ sum (drop i ds)) × (rateAt s ds zs i ≡ Value v)
 attained s [] zs v e p = let z : 0 ≡ v = cc in absurd (omega arith)
-attained s (d ∷ ds) zs v e p = go (leb s (sum (d ∷ ds))) refl e
+attained s (d ∷ ds) zs v e p = go (leb s (sum (d ∷ ds))) refl e (λ f. attained s ds (drop 1 zs) v f p)
   where
+    IH : Type 0
+    IH = highest s ds (drop 1 zs) ≡ Value v → (i : ℕ) × (i < length ds) × (s ≤ sum (drop i ds)) × (rateAt s ds (drop 1 zs) i ≡ Value v)
+
     Attains : Type 0
     Attains = (i : ℕ) × (i < length (d ∷ ds)) × (s ≤ sum (drop i (d ∷ ds))) × (rateAt s (d ∷ ds) zs i ≡ Value v)
 
-    later : highest s ds (drop 1 zs) ≡ Value v → Attains
-    later f =
-        let r = attained s ds (drop 1 zs) v f p in
-        (suc (r .0), omega (arith, r .1), r .2, ap (runRate s (runLength s (drop (r .0) ds)) (drop (r .0) ds)) (sym (drop-one zs (r .0)) ∙ refl) ∙ r .3)
+    later : (i : ℕ) × (i < length ds) × (s ≤ sum (drop i ds)) × (rateAt s ds (drop 1 zs) i ≡ Value v) → Attains
+    later r = (suc (r .0), omega (arith, r .1), r .2, ap (runRate s (runLength s (drop (r .0) ds)) (drop (r .0) ds)) (drop-one zs (r .0)) ∙ r .3)
 
-    go : (b : Bool) → leb s (sum (d ∷ ds)) ≡ b → cond b (higher (rateAt s (d ∷ ds) zs 0) (highest s ds (drop 1 zs))) (highest s ds (drop 1 zs)) ≡ Value v → Attains
-    go true q f =
+    go : (b : Bool) → leb s (sum (d ∷ ds)) ≡ b → cond b (higher (rateAt s (d ∷ ds) zs 0) (highest s ds (drop 1 zs))) (highest s ds (drop 1 zs)) ≡ Value v → IH → Attains
+    go true q f ih =
         let r = both (rateAt s (d ∷ ds) zs 0) (highest s ds (drop 1 zs)) v f in
         elim (decLe v (r .0)) [
           | yes l ↦ let w : r .0 ≡ v = omega (arith, r .4) in (0, omega arith, leb-true s (sum (d ∷ ds)) q, r .2 ∙ ap Value w)
-          | no l ↦ let w : r .1 ≡ v = omega (arith, r .4) in later (r .3 ∙ ap Value w)
+          | no l ↦ let w : r .1 ≡ v = omega (arith, r .4) in later (ih (r .3 ∙ ap Value w))
         ]
-    go false q f = later f
+    go false q f ih = later (ih f)
