@@ -48,8 +48,10 @@ cases =
     ∷ time 72 (times.Number 4)
     ∷ time 119 (times.Number 4)
     ∷ time 120 (times.Refused 15)
-    ∷ sample 3 (samples.Found (record { decode = 48; duration = 24; composition = pos 48; sync = true; description = 1; chunk = 1; offset = 1150; size = 0 }))
-    ∷ sample 4 (samples.Found (record { decode = 72; duration = 48; composition = pos 72; sync = true; description = 1; chunk = 2; offset = 900; size = 70 }))
+    ∷ sample 3
+    (samples.Found (record { decode = 48; duration = 24; composition = pos 48; sync = true; description = 1; chunk = 1; offset = 1150; size = 0 }))
+    ∷ sample 4
+    (samples.Found (record { decode = 72; duration = 48; composition = pos 72; sync = true; description = 1; chunk = 2; offset = 900; size = 70 }))
     ∷ sample 0 (samples.Refused 15)
     ∷ sample 5 (samples.Refused 15)
     ∷ stretch 24 73 (lent 4) (stretches.Pairs 2 120) (1100 ∷ 50 ∷ 900 ∷ 70 ∷ [])

@@ -12,7 +12,8 @@ pub record Least (n d r : ℕ) : Type 0 where
   pub reaches : n ≤ r * d
   pub least : (q : ℕ) → n ≤ q * d → r ≤ q
 
--- "Quotients are rounded up": the quotient, and one more if anything is left. `proofs/Quotients.antt` shows it the least number that reaches, and the only one
+-- "Quotients are rounded up": the quotient, and one more if anything is left. `proofs/Quotients.antt` shows it the least number that reaches, and
+-- the only one
 unfoldable pub roundUp : ℕ → ℕ → ℕ
 roundUp n d = cond (eqb (n % d) 0) (n / d) (n / d + 1)
 

@@ -10,7 +10,8 @@ use Rattle.lists.specs.Lists.{sum, before, holder, Holds}
 use Rattle.lists.proofs.Places as places
 use Rattle.runs.specs.Runs.{perSample}
 use Rattle.words.specs.Words.{sizes, chunkOffsets}
-use Rattle.chunks.specs.Chunks.{perChunk, dealsAgree, offsetOf}
+use Rattle.chunks.specs.Chunks.{perChunk, offsetOf}
+use Rattle.chunks.specs.Computed.{dealsAgree}
 use Rattle.edits.specs.declared.MediaTime.{MediaTime}
 use Rattle.atoms.specs.Kinds.{stts, stsc, stsz, stco}
 use Rattle.structure.specs.Track.{idOf, tableOf, samplesOf, chunksOf, descriptionsOf}

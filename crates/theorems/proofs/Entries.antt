@@ -22,7 +22,8 @@ use Rattle.lists.proofs.Cuts.{rows-drop}
 use Rattle.runs.specs.Runs.{runOf, runsOf, perSample}
 use Rattle.words.specs.Words.{sizes, chunkOffsets}
 use Rattle.words.proofs.Turns.{offsets-in, words-at, sizes-listed, sizes-common}
-use Rattle.chunks.specs.Chunks.{Deal, dealOf, deals, firstOf, dealt, perChunk, dealing, dealsAgree}
+use Rattle.chunks.specs.Chunks.{Deal, dealOf, deals, firstOf, dealt, perChunk}
+use Rattle.chunks.specs.Computed.{dealing, dealsAgree}
 use Rattle.chunks.proofs.Clauses.{dealing-cons, agreed}
 use Rattle.structure.specs.Track.{tableOf, samplesOf, chunksOf}
 use Rattle.structure.proofs.Shaped.{Shaped}

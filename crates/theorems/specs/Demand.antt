@@ -119,7 +119,8 @@ pub record OfTrack (s t : List ℕ) : Type 0 where
   pub answered : (a b : MediaTime) → a .0 < b .0 → b .0 ≤ mediaTotal t
       → (k : ℕ) × (bytes : ℕ) × ((room : List ℕ) → 2 * k ≤ length room → stretchAnswer s (idOf t) a b room ≡ stretch.Pairs k bytes)
       × ((room : List ℕ) → length room < 2 * k → stretchAnswer s (idOf t) a b room ≡ stretch.Refused 16)
-  pub refused : (a b : MediaTime) → ((a .0 < b .0) × (b .0 ≤ mediaTotal t) → ⊥) → (room : List ℕ) → stretchAnswer s (idOf t) a b room ≡ stretch.Refused 15
+  pub refused : (a b : MediaTime) → ((a .0 < b .0) × (b .0 ≤ mediaTotal t) → ⊥) → (room : List ℕ)
+      → stretchAnswer s (idOf t) a b room ≡ stretch.Refused 15
   -- "One pair (offset, length) for each chunk touched": from the chunk of the sample at a to that of the sample at b - 1
   pub pairs : (a b z : MediaTime) (room : List ℕ) (k total first last : ℕ) (x y : Sample) → stretchAnswer s (idOf t) a b room ≡ stretch.Pairs k total
       → z .0 ≡ b .0 - 1 → atAnswer s (idOf t) a ≡ number.Number first → atAnswer s (idOf t) z ≡ number.Number last
@@ -128,8 +129,8 @@ pub record OfTrack (s t : List ℕ) : Type 0 where
   pub bytes : (a b z : MediaTime) (room : List ℕ) (k total first last : ℕ) → stretchAnswer s (idOf t) a b room ≡ stretch.Pairs k total
       → z .0 ≡ b .0 - 1 → atAnswer s (idOf t) a ≡ number.Number first → atAnswer s (idOf t) z ≡ number.Number last
       → total ≡ added s (idOf t) sizeIn first last
-  -- "a stretch cut at a sample's start gives bytes that add up": the cut m is the start of a sample, strictly inside, and each of the three has room.
-  -- A sample of zero duration that stands at m would be in the whole and in neither part, so that there may be none there
+  -- "a stretch cut at a sample's start gives bytes that add up": the cut m is the start of a sample, strictly inside, and each of the three has
+  -- room. A sample of zero duration that stands at m would be in the whole and in neither part, so that there may be none there
   pub cut : (a m b : MediaTime) → NoZeroDuration s (idOf t) (m .0) → (n : ℕ) (x : Sample) → sampleAnswer s (idOf t) n ≡ Found x → m .0 ≡ x .decode
       → a .0 < m .0 → m .0 < b .0 → (room₁ room₂ room : List ℕ) (k₁ k₂ k bytes₁ bytes₂ bytes : ℕ)
       → stretchAnswer s (idOf t) a m room₁ ≡ stretch.Pairs k₁ bytes₁ → stretchAnswer s (idOf t) m b room₂ ≡ stretch.Pairs k₂ bytes₂

@@ -1,5 +1,5 @@
--- The order of the refusals of a file as a claim: "The answer is the lowest number that applies". Each condition is defined of every file, so that it
--- need not be "judged on files that pass all lower ones" to have a meaning.
+-- The order of the refusals of a file as a claim: "The answer is the lowest number that applies". Each condition is defined of every file, so that
+-- it need not be "judged on files that pass all lower ones" to have a meaning.
 use Prim.Native.Nat.{ℕ, _≤_, _<_}
 use mathlib.Core.Path.{_≡_}
 use mathlib.Core.Logic.{_⊎_}

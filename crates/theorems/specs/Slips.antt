@@ -24,9 +24,9 @@ Bytes s = (i : ℕ) → getD s i 0 < 256
 abbrev pub headOf : List ℕ → ℕ → MediaTime → MediaTime → ℕ → Head
 headOf s id a b k = record { id = id; scale = scaleOf (trackAsked s id); a = a .0; b = b .0; pairs = k }
 
--- The file s holds bytes. A slip question on it has written n bytes, and a stretch question of the same stretch, in a room of its own, has answered k pairs. Then
--- those n bytes, read into any room of 2 * k places or more, are accepted as the ID, the track's scale, a, b and k; the first 2 * k places are what
--- the stretch question put into its room, and the rest of the room is as it was
+-- The file s holds bytes. A slip question on it has written n bytes, and a stretch question of the same stretch, in a room of its own, has answered
+-- k pairs. Then those n bytes, read into any room of 2 * k places or more, are accepted as the ID, the track's scale, a, b and k; the first 2 * k
+-- places are what the stretch question put into its room, and the rest of the room is as it was
 pub record ReadsBack (s : List ℕ) (id : ℕ) (a b : MediaTime) : Type 0 where
   pub same : Bytes s → (out after : List ℕ) (n : ℕ) → Slips s id a b out (slip.Written n) after
       → (room put : List ℕ) (k total : ℕ) → Stretches s id a b room (stretch.Pairs k total) put
