@@ -1,4 +1,4 @@
--- Each number below the sum of the widths is held by exactly one of them; the parts of a stretch add up to its length; sums cut at a start add up.
+-- Each number below the sum of the widths is held by exactly one of them; the parts of a stretch add up to its length; sums cut in two add up.
 -- Assumes nothing.
 use Prim.Native.Nat.{ℕ, zero, suc, _+_, _-_, _≤_, _<_, min, max}
 use mathlib.Core.Path.{_≡_, refl, sym, ap, _∙_}
@@ -140,21 +140,6 @@ between-one zs i = let e : suc i - i ≡ 1 = omega arith in rw e (first-of zs i)
     first-of [] (suc k) = refl
     first-of (x ∷ l) zero = omega arith
     first-of (x ∷ l) (suc k) = first-of l k
-
--- the sizes of all samples from the one at a to the one at b - 1
-abbrev pub bytesIn : List ℕ → List ℕ → ℕ → ℕ → ℕ
-bytesIn ds zs a b = between zs (holder ds a) (holder ds (b - 1) + 1)
-
--- a stretch cut at the start of a sample strictly inside, no sample having zero duration
-pub cut : (ds zs : List ℕ) (a b m : ℕ) → ((i : ℕ) → i < length ds → 0 < getD ds i 0) → m < length ds → a < before ds m → before ds m < b →
-    bytesIn ds zs a b ≡ bytesIn ds zs a (before ds m) + bytesIn ds zs (before ds m) b
-cut ds zs a b zero pos few l k = absurd (omega arith)
-cut ds zs a b (suc m) pos few l k =
-    let c = before ds (suc m) in
-    let here : suc m ≡ holder ds c = holder-only ds c (suc m) (record { from = omega arith; to = omega (arith, pos (suc m) few) }) in
-    let last : m ≡ holder ds (c - 1) = holder-only ds (c - 1) m (record { from = omega (arith, before-suc ds m, pos m (omega arith)); to = omega (arith, before-suc ds m) }) in
-    let e : holder ds (c - 1) + 1 ≡ holder ds c = omega arith in
-    rw e (between-split zs (holder ds a) (holder ds c) (holder ds (b - 1) + 1) (holder-mono ds a c (omega arith)) (omega (arith, holder-mono ds c (b - 1) (omega arith))))
 
 -- ---- a number for each index
 
