@@ -100,11 +100,11 @@ static bool ask_sample_at(const struct film *f, const struct track_facts *t, dou
 
 static bool ask_write_slip(const struct film *f, const struct track_facts *t, double *ms)
 {
-    uint64_t len, places[5];
+    uint64_t len, places[CHALDOREF_READ_SLIP_PLACES];
     double begin = now_ms();
     uint32_t refused = chaldoref_write_slip(f->bytes, f->len, t->id, 0, t->total, out, OUT, &len, 1);
     *ms = now_ms() - begin;
-    return refused == 0 && chaldoref_read_slip(out, len, room, ROOM, places, 5) == 0
+    return refused == 0 && chaldoref_read_slip(out, len, room, ROOM, places, CHALDOREF_READ_SLIP_PLACES) == 0
         && places[3] == t->total && places[4] == t->chunks;
 }
 
