@@ -7,10 +7,10 @@ use mathlib.Core.List.{List}
 use native.Mathlib.Omega.{arith}
 use native.Mathlib.Decide.{decLe, decLt}
 use lib.ListN.{length}
-use lib.Dec.{eqb, ltb, leb}
+use lib.Dec.{eqb, ltb, leb, lit<}
 use borrow.Author.Tests.{lt-ltb, le-ltb, le-leb, lt-leb, ltb-true, leb-true, eqb-true}
 use Rattle.lists.specs.Lists.{sum, holder}
-use Rattle.lists.proofs.Booleans.{and-left, and-right}
+use Rattle.lists.proofs.Booleans.{and-left, and-right, cond-zero}
 use Rattle.pairs.specs.Pairs.{flat}
 use Rattle.edits.specs.declared.MediaTime.{MediaTime}
 use Rattle.structure.specs.Track.{samplesOf}
@@ -118,15 +118,11 @@ module _ (s : List ℕ) (id : ℕ) (e : askRefusal s id ≡ 0) where
 
 -- ---- what the answer of a stretch tells
 
-span-test : (b : Bool) → _≡_ {A = ℕ} (cond b 0 15) 0 → b ≡ true
-span-test true e = refl
-span-test false e = absurd (omega arith)
-
 pub span-known : (s : List ℕ) (id : ℕ) (a b : MediaTime) → spanRefusal s id a b ≡ 0 → Span s id a b
 unfolding spanRefusal totalIn trackOf
 span-known s id a b e =
     let n = none-else _ _ e in
-    let r = span-test _ (n .1) in
+    let r = cond-zero _ 15 (lit< tt) (n .1) in
     record { ask = n .0; order = ltb-true (a .0) (b .0) (and-left _ _ r); within = leb-true _ _ (and-right (ltb (a .0) (b .0)) _ r) }
 
 pub pairs-known : (s : List ℕ) (id : ℕ) (a b : MediaTime) (room : List ℕ) (k bytes : ℕ) → stretchAnswer s id a b room ≡ stretch.Pairs k bytes → Answered s id a b room k bytes

@@ -9,7 +9,7 @@ use native.Mathlib.Omega.{arith}
 use lib.ListN.{length}
 use lib.Dec.{ltb, eqb·suc-zero}
 use borrow.Author.Tests.{ltb-true}
-use Rattle.atoms.proofs.Laws.{and-left, and-right}
+use Rattle.lists.proofs.Booleans.{and-left, and-right}
 use Rattle.structure.specs.Rows.{Row, some, first, lowest, orElse, numbersRise}
 use Rattle.structure.specs.Movie.{moovOf, movieScale, tracksOf}
 use Rattle.structure.specs.Refusals.{fileRows}

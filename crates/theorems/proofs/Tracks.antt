@@ -12,7 +12,7 @@ use Rattle.words.specs.Words.{listed}
 use Rattle.structure.specs.Rows.{orElse}
 use Rattle.structure.specs.Track.{idOf}
 use Rattle.structure.specs.Movie.{moovOf, tracksOf}
-use Rattle.structure.proofs.Callers.{or-left, or-right}
+use Rattle.lists.proofs.Booleans.{or-left, or-right}
 use Rattle.movie.specs.Refusals.{fileRefusal}
 use Rattle.movie.specs.Tracks.{repeats, withId, hasTrack, trackWith}
 use Rattle.movie.proofs.Accepted.{accepted}
