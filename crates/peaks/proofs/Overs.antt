@@ -86,26 +86,26 @@ module _ (zs : List ℕ) (i j n bytes most : ℕ) (m : MaySlide zs i j n bytes m
   heads-length : length (take n (drop j zs)) ≡ n
   heads-length = omega (arith, length-take n (drop j zs), length-drop j zs, m .few)
 
-  pub stays : Stays (drop i zs) (take n (drop j zs)) bytes most
+  pub stays : Stays (take n (drop i zs)) (take n (drop j zs)) bytes most
   stays = record {
     held = λ k l.
         let g : k ≤ n = omega (arith, heads-length) in
         let e : i + suc k ≡ suc (i + k) = omega arith in
-        omega (arith, before-drop zs i (suc k), before-take (drop j zs) n k g, before-drop zs j k, m .sizes, before-mono zs (i + suc k) (j + k) (omega (arith, m .order)));
+        omega (arith, before-drop zs i (suc k), before-take (drop i zs) n (suc k) (omega (arith, heads-length)), before-take (drop j zs) n k g, before-drop zs j k, m .sizes, before-mono zs (i + suc k) (j + k) (omega (arith, m .order)));
     low = m .low;
     fits = m .fits;
     few = omega (arith, heads-length, m .small);
   }
 
-  pub slid-listed : (r : Slide) → SlidOver (drop i zs) (take n (drop j zs)) bytes most r → Slid zs i j n bytes most r
+  pub slid-listed : (r : Slide) → SlidOver (take n (drop i zs)) (take n (drop j zs)) bytes most r → Slid zs i j n bytes most r
   slid-listed r o =
       let w : r .moved ≤ n = omega (arith, heads-length, o .within) in
       record {
         within = w;
-        sizes = omega (arith, o .total, before-drop zs i (r .moved), before-take (drop j zs) n (r .moved) w, before-drop zs j (r .moved), m .sizes);
+        sizes = omega (arith, o .total, before-drop zs i (r .moved), before-take (drop i zs) n (r .moved) w, before-take (drop j zs) n (r .moved) w, before-drop zs j (r .moved), m .sizes);
         low = λ k g.
             let v : k ≤ n = omega arith in
-            omega (arith, o .low k g, before-drop zs i k, before-take (drop j zs) n k v, before-drop zs j k, m .sizes);
+            omega (arith, o .low k g, before-drop zs i k, before-take (drop i zs) n k v, before-take (drop j zs) n k v, before-drop zs j k, m .sizes);
         step = o .step;
       }
 
@@ -143,17 +143,20 @@ module _ (s part tails heads : List ℕ) (i j n bytes most : ℕ) (common : ℕ)
   pub heads-enough : n * 4 ≤ length heads
   heads-enough = omega (arith, enough-bytes, ap length b, length-drop (j * 4) part)
 
-  tails-words : wordsIn tails ≡ drop i (sizes s)
-  tails-words = ap wordsIn a ∙ words-drop i part ∙ ap (drop i) all-words
+  pub tails-enough : n * 4 ≤ length tails
+  tails-enough = omega (arith, enough-bytes, ap length a, length-drop (i * 4) part, m .order)
+
+  tails-words : wordsIn (take (n * 4) tails) ≡ take n (drop i (sizes s))
+  tails-words = words-take n tails ∙ ap (take n) (ap wordsIn a ∙ words-drop i part ∙ ap (drop i) all-words)
 
   heads-words : wordsIn (take (n * 4) heads) ≡ take n (drop j (sizes s))
   heads-words = words-take n heads ∙ ap (take n) (ap wordsIn b ∙ words-drop j part ∙ ap (drop j) all-words)
 
-  pub parts-stay : Stays (wordsIn tails) (wordsIn (take (n * 4) heads)) bytes most × (length (take (n * 4) heads) ≤ length tails)
+  pub parts-stay : Stays (wordsIn (take (n * 4) tails)) (wordsIn (take (n * 4) heads)) bytes most × (length (take (n * 4) heads) ≤ length (take (n * 4) tails))
   parts-stay = (
     rw (tails-words, heads-words) (stays (sizes s) i j n bytes most m),
-    omega (arith, enough-bytes, ap length a, length-drop (i * 4) part, length-take (n * 4) heads, m .order),
+    omega (arith, tails-enough, length-take (n * 4) tails, length-take (n * 4) heads),
   )
 
-  pub parts-slid : (r : Slide) → SlidOver (wordsIn tails) (wordsIn (take (n * 4) heads)) bytes most r → Slid (sizes s) i j n bytes most r
+  pub parts-slid : (r : Slide) → SlidOver (wordsIn (take (n * 4) tails)) (wordsIn (take (n * 4) heads)) bytes most r → Slid (sizes s) i j n bytes most r
   parts-slid r o = slid-listed (sizes s) i j n bytes most m r (rw (tails-words, heads-words) at o)

@@ -217,14 +217,10 @@ fn slide_over(stsz: &[u8], first: u32, stop: u32, steps: u32, bytes: u64, most: 
         };
     }
     let part = after(stsz, 20);
+    let tails = after(part, (first as usize) * 4);
     let heads = after(part, (stop as usize) * 4);
     let end = (steps as usize) * 4;
-    slide_listed(
-        after(part, (first as usize) * 4),
-        &heads[..end],
-        bytes,
-        most,
-    )
+    slide_listed(&tails[..end], &heads[..end], bytes, most)
 }
 
 // The most bytes in so long that are no more a second than a run's; 0 where that is not told in 64 bits.
