@@ -10,7 +10,7 @@ use native.Mathlib.Decide.{ℕ-discrete}
 use lib.ListN.{length, getD, take, drop}
 use Rattle.lists.specs.Lists.{sum, before, between, upTo, holder, part, parts}
 use Rattle.lists.proofs.Laws.{sum-append}
-use Rattle.lists.proofs.Places.{before-suc, holder-only, holder-mono, between-split, between-one, parts-sum}
+use Rattle.lists.proofs.Places.{before-suc, before-all, holder-only, holder-mono, between-split, between-one, parts-sum}
 
 steps : (f g : ℕ → ℕ) (n : ℕ) → ((i : ℕ) → i < n → f i + g i ≡ g (suc i)) → sum (map f (upTo n)) + g 0 ≡ g n
 steps f g zero h = zero-add (g 0)
@@ -30,11 +30,6 @@ same-sums f g (suc n) h = omega (arith, last f, last g, same-sums f g n (λ k l.
 -- the first k numbers of a list
 pub before-up : (xs : List ℕ) (k : ℕ) → sum (map (λ j. getD xs j 0) (upTo k)) ≡ before xs k
 before-up xs k = omega (arith, steps (λ j. getD xs j 0) (before xs) k (λ j h. omega (arith, before-suc xs j)))
-
--- all of them
-pub before-all : (xs : List ℕ) → before xs (length xs) ≡ sum xs
-before-all [] = refl
-before-all (x ∷ xs) = omega (arith, before-all xs)
 
 -- ---- sizes
 
@@ -74,7 +69,7 @@ parts-added ds f a b n o w c h =
     same-sums f (λ j. getD ps j 0) n (λ j l. let e : 0 + before ds j ≡ before ds j = omega arith in h j l ∙ sym (part-at a b 0 ds j ∙ ap (λ (x : ℕ). part a b x (getD ds j 0)) e))
     ∙ before-up ps n
     ∙ ap (before ps) (sym (parts-length a b 0 ds ∙ c))
-    ∙ before-all ps
+    ∙ before-all ps (length ps) (omega arith)
     ∙ parts-sum a b ds o w
 
 -- ---- a stretch cut at the start of the sample with index i, where no sample of zero duration stands

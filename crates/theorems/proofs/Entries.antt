@@ -16,7 +16,7 @@ use Rattle.atoms.specs.Kinds.{stts, stsc, stsz, stco}
 use Rattle.lists.specs.Lists.{Run, sum, before, expand, holder, Holds}
 use Rattle.lists.specs.Entries.{rowsOf, entries}
 use Rattle.lists.proofs.Laws.{length-run, sum-run, getD-in, getD-past}
-use Rattle.lists.proofs.Places.{before-suc, holder-holds, holds-below}
+use Rattle.lists.proofs.Places.{before-suc, before-all, holder-holds, holds-below}
 use Rattle.lists.proofs.Rows.{rows-next, length-rows}
 use Rattle.lists.proofs.Cuts.{rows-drop}
 use Rattle.runs.specs.Runs.{runOf, runsOf, perSample}
@@ -29,7 +29,7 @@ use Rattle.structure.specs.Track.{tableOf, samplesOf, chunksOf}
 use Rattle.structure.proofs.Shaped.{Shaped}
 use Rattle.theorems.specs.Entries.{sttsEntries, sampleCount, sampleDuration, stscEntries, firstChunk, samplesPerChunk, chunkOffset, sampleSize, countedBy, mediaTotal}
 use Rattle.theorems.specs.Demand.{Counts, HoldsFor}
-use Rattle.theorems.proofs.Added.{same-sums, before-up, before-all}
+use Rattle.theorems.proofs.Added.{same-sums, before-up}
 
 -- ---- numbers by their index
 
@@ -139,7 +139,7 @@ module _ (t : List ℕ) (h : Shaped t) where
   total-is =
       let n = sttsEntries t in
       run-sum runs
-      ∙ sym (before-all (products runs))
+      ∙ sym (before-all (products runs) (length (products runs)) (omega arith))
       ∙ ap (before (products runs)) products-length
       ∙ sym (before-up (products runs) n)
       ∙ same-sums (λ j. getD (products runs) j 0) (λ k. sampleCount t k * sampleDuration t k) n
@@ -147,7 +147,7 @@ module _ (t : List ℕ) (h : Shaped t) where
 
   pub count-is : length (perSample (tableOf stts t)) ≡ countedBy t (sttsEntries t)
   unfolding perSample runs
-  count-is = run-length runs ∙ sym (before-all (counts runs)) ∙ ap (before (counts runs)) counts-length ∙ sym (counted-is (sttsEntries t) (omega arith))
+  count-is = run-length runs ∙ sym (before-all (counts runs) (length (counts runs)) (omega arith)) ∙ ap (before (counts runs)) counts-length ∙ sym (counted-is (sttsEntries t) (omega arith))
 
   -- each is that of the entry which counts it
   pub entry-counts : (n i : ℕ) → n ≡ suc i → i < length (perSample (tableOf stts t))
