@@ -40,8 +40,8 @@ pub fn run(request: &Request, name: &OsStr, out: &mut dyn Write) -> Result<(), F
             ranges::write_out(&slip, slip_name, name, to)
         }
         Ask::ReadSlip { hex } => {
-            let bytes = if *hex { input::from_hex(&file)? } else { input::slip(file)? };
-            slips::read(&bytes, name, request.files.len() > 1, to)
+            let bytes = if *hex { input::from_hex(&file) } else { input::slip(file) };
+            slips::read(&bytes.map_err(Failure::Input)?, name, request.files.len() > 1, to)
         }
     }
 }

@@ -39,8 +39,13 @@ impl Fault {
 
     /// The lines that people are told, after the one with the refusal.
     pub fn lines(&self) -> String {
+        format!("{}{}\n", self.picture, self.line())
+    }
+
+    /// The last of these alone: the place, the number and the rule.
+    pub fn line(&self) -> String {
         let number = self.number.as_ref().map_or(String::new(), |number| format!(", {number}"));
-        format!("{}place {}{number}: {}\n", self.picture, self.place, self.rule)
+        format!("place {}{number}: {}", self.place, self.rule)
     }
 
     pub fn refusal(&self) -> Refusal {

@@ -1,5 +1,4 @@
 //! Reading files and standard input.
-use crate::failure::Failure;
 use chaldoref::MAX_FILE_BYTES;
 use std::ffi::OsStr;
 use std::fs::File;
@@ -45,7 +44,7 @@ fn open(name: &OsStr) -> io::Result<File> {
 
 /// The bytes of a slip. The file has them, or it has hex text that says them: a slip begins with the byte 01, and hex text with the digit 0.
 /// A file that begins otherwise is taken for text if it is nothing else.
-pub fn slip(file: Vec<u8>) -> Result<Vec<u8>, Failure> {
+pub fn slip(file: Vec<u8>) -> io::Result<Vec<u8>> {
     let first = file.iter().find(|byte| !byte.is_ascii_whitespace());
     if first == Some(&b'0') || file.iter().all(|byte| byte.is_ascii_graphic() || byte.is_ascii_whitespace()) {
         return from_hex(&file);
@@ -54,7 +53,7 @@ pub fn slip(file: Vec<u8>) -> Result<Vec<u8>, Failure> {
 }
 
 /// The bytes that hex text says: pairs of digits, and white space before and after them.
-pub fn from_hex(text: &[u8]) -> Result<Vec<u8>, Failure> {
+pub fn from_hex(text: &[u8]) -> io::Result<Vec<u8>> {
     let mut bytes = Vec::with_capacity(text.len() / 2);
     let mut at = 0;
     while let Some(c) = text.get(at) {
@@ -69,12 +68,12 @@ pub fn from_hex(text: &[u8]) -> Result<Vec<u8>, Failure> {
 }
 
 /// Says where the text has no pair of digits: lines and columns count from 1.
-fn not_hex(text: &[u8], at: usize) -> Failure {
+fn not_hex(text: &[u8], at: usize) -> io::Error {
     let before = &text[..at];
     let line = 1 + before.iter().filter(|c| **c == b'\n').count();
     let column = 1 + before.iter().rev().take_while(|c| **c != b'\n').count();
     let words = format!("line {line}, column {column}: not a pair of hex digits");
-    Failure::Input(io::Error::new(io::ErrorKind::InvalidData, words))
+    io::Error::new(io::ErrorKind::InvalidData, words)
 }
 
 /// The byte of two hex digits.
@@ -102,9 +101,8 @@ mod tests {
         for (text, line, column) in
             [("0x", 1, 1), ("01 0", 1, 4), ("01\r\n02 0g", 2, 4), ("\n\n 1", 3, 2), ("010", 1, 3)]
         {
-            let failure = from_hex(text.as_bytes()).err().unwrap();
             let said = format!("line {line}, column {column}: not a pair of hex digits");
-            assert!(failure.message("-").contains(&said), "{text}");
+            assert_eq!(from_hex(text.as_bytes()).unwrap_err().to_string(), said, "{text}");
         }
     }
 
