@@ -29,6 +29,7 @@ pub enum Ask {
     Stretch { track: TrackId, time: Range<MediaTime>, bytes: bool },
     Slip { track: TrackId, time: Range<MediaTime>, out: Option<OsString> },
     ReadSlip { hex: bool },
+    Check { slips: Vec<OsString> },
     Features { track: TrackId, code: Option<FourCC> },
     Profile { track: Option<TrackId> },
 }
@@ -99,7 +100,7 @@ impl Words {
     fn request(mut self) -> Result<Request, Failure> {
         let most = self.command.operands.len();
         let least = self.command.operands.iter().filter(|name| !name.starts_with('[')).count();
-        if let Some(surplus) = self.operands.get(most).filter(|_| !self.command.takes_files()) {
+        if let Some(surplus) = self.operands.get(most).filter(|_| !self.command.takes_several()) {
             return Err(self.wrong(format!("{} is one argument too many", quoted(surplus))));
         }
         if self.operands.len() < least {
@@ -144,6 +145,14 @@ impl Words {
 
     pub fn code(&self, place: usize) -> Result<FourCC, Failure> {
         code(&self.operands[place]).ok_or_else(|| self.misfit(place, "four characters, or a number after 0x"))
+    }
+
+    /// The names of files from a place on, beside those before it. Standard input has the bytes of one file only.
+    pub fn files(&self, place: usize) -> Result<Vec<OsString>, Failure> {
+        if self.operands.iter().filter(|name| *name == input::STANDARD).count() > 1 {
+            return Err(self.wrong("standard input can be one file only".into()));
+        }
+        Ok(self.operands[place..].to_vec())
     }
 
     /// An operand that may be left out.

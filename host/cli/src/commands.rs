@@ -1,4 +1,5 @@
 //! What each command prints, for people and for machines.
+mod check;
 mod features;
 mod questions;
 mod ranges;
@@ -43,6 +44,7 @@ pub fn run(request: &Request, name: &OsStr, out: &mut dyn Write) -> Result<(), F
             let bytes = if *hex { input::from_hex(&file) } else { input::slip(file) };
             slips::read(&bytes.map_err(Failure::Input)?, name, request.files.len() > 1, to)
         }
+        Ask::Check { slips } => check::check(&movie()?, slips, to),
     }
 }
 

@@ -23,6 +23,8 @@ pub enum Failure {
     NotWritten(OsString, io::Error),
     /// Standard output could not be written.
     Output(io::Error),
+    /// Slips were checked, and not all is good: the report says why. Whether some could not be read.
+    NotAllGood { unread: bool },
 }
 
 impl From<Refusal> for Failure {
@@ -45,7 +47,7 @@ impl Failure {
 
     pub fn status(&self) -> u8 {
         match self {
-            Failure::Refused(..) | Failure::Malformed(_) => REFUSED,
+            Failure::Refused(..) | Failure::Malformed(_) | Failure::NotAllGood { unread: false } => REFUSED,
             _ if self.is_broken_pipe() => SUCCESS,
             _ => BAD_USAGE,
         }
@@ -61,7 +63,16 @@ impl Failure {
             Failure::NotWritten(name, error) => format!("chaldoref: {}: {error}\n", input::shown(name)),
             Failure::Output(_) if self.is_broken_pipe() => String::new(),
             Failure::Output(error) => format!("chaldoref: standard output: {error}\n"),
+            Failure::NotAllGood { .. } => String::new(),
         }
+    }
+}
+
+/// Of two failures the one with the greater status, so that output that no one reads to the end changes no verdict.
+pub fn worse(one: Result<(), Failure>, other: Result<(), Failure>) -> Result<(), Failure> {
+    match (one, other) {
+        (Err(one), Err(other)) if one.status() <= other.status() => Err(other),
+        (one, other) => one.and(other),
     }
 }
 

@@ -2,14 +2,15 @@
 use crate::syntax::{Command, Opt, COMMANDS};
 
 const OPERANDS: &str = "\
-FILE is a whole film, and for read-slip a slip, as raw bytes or as hex text; - is standard input. TRACK is a track ID.
-Numbers are decimal, or hex after 0x, and below 2^32. Media times count in the track's own time scale, movie times in
-the movie's. CODE is four characters, or hex after 0x.
+FILE is a whole film, and for read-slip a slip; - is standard input. SLIP is a slip. A slip is raw bytes or hex text.
+TRACK is a track ID. Numbers are decimal, or hex after 0x, and below 2^32. Media times count in the track's own time
+scale, movie times in the movie's. CODE is four characters, or hex after 0x.
 ";
 
 const REST: &str = "\
---json prints one JSON document, for each slip. chaldoref COMMAND --help tells the options of a command; the page chaldoref(1) tells
-all. Exit status: 0 answered; 1 refused, for the reason on standard error; 2 bad usage or unreadable file.
+--json prints one JSON document, and read-slip one for each slip. chaldoref COMMAND --help tells the options of a
+command; the page chaldoref(1) tells all. Exit status: 0 answered; 1 refused, for the reason on standard error, or
+something that check found is not good; 2 bad usage or unreadable file.
 ";
 
 impl Command {

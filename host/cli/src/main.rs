@@ -2,9 +2,11 @@
 #![forbid(unsafe_code)]
 
 mod args;
+mod checked;
 mod commands;
 mod failure;
 mod fault;
+mod filed;
 mod help;
 mod input;
 mod json;
@@ -12,7 +14,7 @@ mod syntax;
 mod table;
 
 use args::{Parsed, Request};
-use failure::{Failure, SUCCESS};
+use failure::{worse, Failure, SUCCESS};
 use std::ffi::OsStr;
 use std::io::{self, BufWriter, Write};
 use std::process::ExitCode;
@@ -37,11 +39,11 @@ fn answer(request: &Request, file: &OsStr) -> Result<(), Failure> {
     answered
 }
 
-/// Runs something that writes to standard output, and sees to it that all of it is written.
+/// Runs something that writes to standard output, and sees to it that all of it is written, also before a failure.
 fn print(write: impl FnOnce(&mut dyn Write) -> Result<(), Failure>) -> Result<(), Failure> {
     let mut out = BufWriter::new(io::stdout().lock());
-    write(&mut out)?;
-    Ok(out.flush()?)
+    let done = write(&mut out);
+    worse(done, out.flush().map_err(Failure::from))
 }
 
 /// The exit status; what went wrong with the file of that name goes to standard error.

@@ -23,7 +23,7 @@ pub const BYTES: Opt = Opt { flag: "--bytes", value: None, about: "write the fil
 pub const HEX: Opt = Opt { flag: "--hex", value: None, about: "read hex text, whatever it begins with" };
 pub const OUT: Opt = Opt { flag: "-o", value: Some("OUT"), about: "write raw bytes to OUT; - is standard output" };
 
-pub static COMMANDS: [Command; 9] = [
+pub static COMMANDS: [Command; 10] = [
     Command {
         name: "tracks",
         operands: &["FILE"],
@@ -74,6 +74,13 @@ pub static COMMANDS: [Command; 9] = [
         ask: |words| Ok(Ask::ReadSlip { hex: words.has(&HEX) }),
     },
     Command {
+        name: "check",
+        operands: &["FILE", "SLIP..."],
+        options: &[&JSON],
+        about: "whether slips are the film's, and the film time that they file adds up",
+        ask: |words| Ok(Ask::Check { slips: words.files(1)? }),
+    },
+    Command {
         name: "features",
         operands: &["FILE", "TRACK", "[CODE]"],
         options: &[&JSON],
@@ -94,8 +101,13 @@ impl Command {
         COMMANDS.iter().find(|command| command.name == name)
     }
 
-    /// Whether all its operands are files.
+    /// Whether all its operands are files, each of which is answered alone.
     pub fn takes_files(&self) -> bool {
         self.operands[0].ends_with("...")
+    }
+
+    /// Whether its last operand may be given several times.
+    pub fn takes_several(&self) -> bool {
+        self.operands.last().is_some_and(|name| name.ends_with("..."))
     }
 }

@@ -92,7 +92,7 @@ fn bad_usage(line: &str, wrong: &str, usage: &str) {
 
 #[test]
 fn usage() {
-    let all = "tracks|sample|at|map|stretch|slip|read-slip|features|profile FILE ...\n       chaldoref --help";
+    let all = "tracks|sample|at|map|stretch|slip|read-slip|check|features|profile FILE ...\n       chaldoref --help";
     bad_usage("", "no command is named", all);
     bad_usage("track films/w.mov", "there is no command 'track'", all);
     bad_usage("--json", "there is no command '--json'", all);
@@ -105,6 +105,12 @@ fn usage() {
     bad_usage("sample a 1 1 --json --bytes", both, "sample FILE TRACK N [--bytes] [--json]");
     bad_usage("slip a 1 0 1 --json -o b", both, "slip FILE TRACK A B [-o OUT] [--json]");
     bad_usage("slip a 1 0 1 -o", "-o needs OUT", "slip FILE TRACK A B [-o OUT] [--json]");
+    bad_usage("check", "FILE is missing", "check FILE SLIP... [--json]");
+    bad_usage("check a", "SLIP is missing", "check FILE SLIP... [--json]");
+    bad_usage("check a b --hex", "check has no option '--hex'", "check FILE SLIP... [--json]");
+    for line in ["check - -", "check a - -", "check - a -"] {
+        bad_usage(line, "standard input can be one file only", "check FILE SLIP... [--json]");
+    }
     let codes = "CODE is four characters, or a number after 0x, and not 'avv'";
     bad_usage("features a 1 avv", codes, "features FILE TRACK [CODE] [--json]");
 }

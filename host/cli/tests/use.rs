@@ -9,7 +9,8 @@ use std::fs::File;
 use std::os::unix::ffi::OsStringExt;
 use std::process::Stdio;
 
-const COMMANDS: [&str; 9] = ["tracks", "sample", "at", "map", "stretch", "slip", "read-slip", "features", "profile"];
+const COMMANDS: [&str; 10] =
+    ["tracks", "sample", "at", "map", "stretch", "slip", "read-slip", "check", "features", "profile"];
 
 #[test]
 fn version() {
@@ -40,9 +41,9 @@ fn one_help_in_full() {
          Prints the slip of a track from media time A up to B, in hex.\n\n  \
            -o OUT    write raw bytes to OUT; - is standard output\n  \
            --json    print one JSON document\n\n\
-         FILE is a whole film, and for read-slip a slip, as raw bytes or as hex text; - is standard input. TRACK is a track ID.\n\
-         Numbers are decimal, or hex after 0x, and below 2^32. Media times count in the track's own time scale, movie times in\n\
-         the movie's. CODE is four characters, or hex after 0x.\n",
+         FILE is a whole film, and for read-slip a slip; - is standard input. SLIP is a slip. A slip is raw bytes or hex text.\n\
+         TRACK is a track ID. Numbers are decimal, or hex after 0x, and below 2^32. Media times count in the track's own time\n\
+         scale, movie times in the movie's. CODE is four characters, or hex after 0x.\n",
     );
 }
 

@@ -80,6 +80,11 @@ impl Folder {
     }
 }
 
+/// A command line, run in that folder.
+pub fn run_in(folder: &Folder, line: &str) -> Ran {
+    Ran::new(program(&words(line)).current_dir(&folder.0).output().unwrap())
+}
+
 impl Drop for Folder {
     fn drop(&mut self) {
         let _ = std::fs::remove_dir_all(&self.0);
