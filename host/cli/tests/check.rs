@@ -180,6 +180,9 @@ fn overlaps() {
     let ran = desk.slip("1c.slip", 1, 48, 144).check("1a.slip 1a.slip 1c.slip 2a.slip 2b.slip --json");
     let both = "\"filed\":120,\"total\":144,\"gaps\":[{\"a\":24,\"b\":48}],\"overlaps\":[{\"a\":0,\"b\":24}],";
     assert!(ran.out.contains(both), "{}", ran.out);
+    // A slip that is not good files nothing there.
+    let out = desk.slip("1d.slip", 1, 20, 30).typed("w", OF_W).check("w 1b.slip 1d.slip").out;
+    assert!(out.contains(", film time 6 (0.010 seconds), filed by 1b.slip, 1d.slip\n"), "{out}");
 }
 
 /// W's slip of 24 to 73, and others made of it.
