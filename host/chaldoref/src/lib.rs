@@ -44,7 +44,8 @@
 //!
 //! A [`Movie`] borrows the file and copies none of it. [`Movie::stretch`], [`Movie::write_slip`], [`Movie::profile`]
 //! and [`Slip::read`] allocate their answers; [`Movie::stretch_into`] and [`Movie::write_slip_into`] fill lent room
-//! instead. A file that is mapped into memory must not change while it is borrowed, as for every `&[u8]`.
+//! instead. Without memory for it the answer of the first two is [`Refusal::NoRoom`], and [`Slip::try_read`] tells of the
+//! lack. A file that is mapped into memory must not change while it is borrowed, as for every `&[u8]`.
 //!
 //! # Building
 //!
@@ -59,6 +60,7 @@ mod movie;
 #[allow(missing_docs)]
 pub mod raw;
 mod refusal;
+mod room;
 mod slip;
 mod units;
 

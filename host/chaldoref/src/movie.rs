@@ -1,6 +1,7 @@
 //! Movies and the questions about them.
 use crate::ffi::{self, broken, promised};
 use crate::refusal::Refusal;
+use crate::room::room;
 use crate::units::{ByteRange, FourCC, MediaTime, MovieTime, TrackId};
 use std::fmt;
 use std::ops::{Range, RangeInclusive};
@@ -277,9 +278,10 @@ impl<'a> Movie<'a> {
     }
 
     /// The bytes of a track from one media time up to another: all samples from the one at the start to the one just
-    /// before the end. Refusals 14, 15.
+    /// before the end. Refusals 14, 15; 16 where there is no memory for a range for each of the track's chunks.
     pub fn stretch(&self, id: TrackId, time: Range<MediaTime>) -> Result<Stretch, Refusal> {
-        let mut pairs = vec![ByteRange::default(); self.chunks(id)];
+        // Without memory no room is lent, and the library says so.
+        let mut pairs = room::<ByteRange>(self.chunks(id)).unwrap_or_default();
         let size = self.stretch_into(id, time, &mut pairs)?;
         pairs.truncate(size.pairs);
         pairs.shrink_to_fit();
@@ -312,9 +314,10 @@ impl<'a> Movie<'a> {
         Ok(StretchSize { pairs: promised(pairs), bytes })
     }
 
-    /// The slip of a stretch. Refusals 14, 15.
+    /// The slip of a stretch. Refusals 14, 15; 16 where there is no memory for [`Track::slip_room`] bytes.
     pub fn write_slip(&self, id: TrackId, time: Range<MediaTime>) -> Result<Vec<u8>, Refusal> {
-        let mut out = vec![0; self.track(id).map_or(0, Track::slip_room)];
+        // Without memory no bytes are lent, and the library says so.
+        let mut out = room::<u8>(self.track(id).map_or(0, Track::slip_room)).unwrap_or_default();
         let length = self.write_slip_into(id, time, &mut out)?;
         out.truncate(length);
         out.shrink_to_fit();

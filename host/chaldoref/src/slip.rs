@@ -1,7 +1,9 @@
 //! Slips, which know nothing of movies.
 use crate::ffi::{self, broken, promised};
 use crate::refusal::Refusal;
+use crate::room::room;
 use crate::units::{ByteRange, MediaTime, TrackId};
+use std::collections::TryReserveError;
 use std::error::Error;
 use std::fmt;
 
@@ -62,9 +64,23 @@ impl Error for MalformedSlip {}
 
 impl Slip {
     /// Reads a slip, which must take up all of the bytes.
+    ///
+    /// # Panics
+    ///
+    /// Where there is no memory for its pairs, which [`Slip::try_read`] tells.
     pub fn read(bytes: &[u8]) -> Result<Slip, MalformedSlip> {
+        Slip::try_read(bytes).expect("there is memory for a slip's pairs")
+    }
+
+    /// The same; the outer error is that there is no memory for its pairs.
+    pub fn try_read(bytes: &[u8]) -> Result<Result<Slip, MalformedSlip>, TryReserveError> {
         // Each number of a pair takes a byte at least.
-        let mut pairs = vec![ByteRange::default(); (bytes.len() / 2).min(MAX_PAIRS)];
+        let pairs = room((bytes.len() / 2).min(MAX_PAIRS))?;
+        Ok(Slip::read_into(bytes, pairs))
+    }
+
+    /// The same into room that is enough.
+    fn read_into(bytes: &[u8], mut pairs: Vec<ByteRange>) -> Result<Slip, MalformedSlip> {
         let (answered, [id, scale, a, b, count, place]) = ffi::read_slip(bytes, &mut pairs);
         match answered {
             Ok(()) => pairs.truncate(promised(count)),

@@ -38,14 +38,31 @@ pub fn parse(words: impl IntoIterator<Item = OsString>) -> Result<Parsed, Failur
     let mut words = words.into_iter();
     let first = words.next().ok_or_else(|| Failure::Usage("no command is named".into(), help::usage()))?;
     match first.to_str() {
-        Some("-h" | "--help") => Ok(Parsed::Text(help::help())),
-        Some("-V" | "--version") => Ok(Parsed::Text(help::version())),
-        Some("help") => match words.next() {
-            Some(name) => Ok(Parsed::Text(command(&name)?.help())),
-            None => Ok(Parsed::Text(help::help())),
-        },
+        Some("-h" | "--help" | "help") => help_on(words),
+        Some("-V" | "--version") => alone(help::version(), words),
         _ => Words::sort(command(&first)?, words),
     }
+}
+
+/// The help on the command named, or on all.
+fn help_on(mut words: impl Iterator<Item = OsString>) -> Result<Parsed, Failure> {
+    let text = match words.next() {
+        Some(name) if !["help", "-h", "--help"].iter().any(|all| name == *all) => command(&name)?.help(),
+        _ => help::help(),
+    };
+    alone(text, words)
+}
+
+/// A text after whose words no other may stand.
+fn alone(text: String, mut words: impl Iterator<Item = OsString>) -> Result<Parsed, Failure> {
+    match words.next() {
+        Some(surplus) => Err(Failure::Usage(too_many(&surplus), help::usage())),
+        None => Ok(Parsed::Text(text)),
+    }
+}
+
+fn too_many(surplus: &OsStr) -> String {
+    format!("{} is one argument too many", quoted(surplus))
 }
 
 fn command(name: &OsStr) -> Result<&'static Command, Failure> {
@@ -76,6 +93,7 @@ impl Words {
                 Some("--") => words.operands.extend(rest.by_ref()),
                 // A dash alone is standard input or output.
                 Some("-") => words.operands.push(word),
+                _ if words.wants_number() && is_negative(&word) => words.operands.push(word),
                 _ if word.as_encoded_bytes().starts_with(b"-") => words.option(&word, &mut rest)?,
                 _ => words.operands.push(word),
             }
@@ -101,7 +119,7 @@ impl Words {
         let most = self.command.operands.len();
         let least = self.command.operands.iter().filter(|name| !name.starts_with('[')).count();
         if let Some(surplus) = self.operands.get(most).filter(|_| !self.command.takes_several()) {
-            return Err(self.wrong(format!("{} is one argument too many", quoted(surplus))));
+            return Err(self.wrong(too_many(surplus)));
         }
         if self.operands.len() < least {
             return Err(self.wrong(format!("{} is missing", self.name(self.operands.len()))));
@@ -115,6 +133,12 @@ impl Words {
             self.operands.truncate(1);
         }
         Ok(Request { files: self.operands, ask, json })
+    }
+
+    /// Whether the next operand, or the last one if there is no other, is no file. One that may be given several times is.
+    fn wants_number(&self) -> bool {
+        let name = self.command.operands.get(self.operands.len()).or(self.command.operands.last());
+        name.is_some_and(|name| *name != "FILE" && !name.ends_with("..."))
     }
 
     pub fn has(&self, option: &Opt) -> bool {
@@ -177,6 +201,11 @@ impl Words {
     fn wrong(&self, message: String) -> Failure {
         Failure::Usage(message, self.command.usage())
     }
+}
+
+/// Whether a word that begins with a dash is meant as a number.
+fn is_negative(word: &OsStr) -> bool {
+    matches!(word.as_encoded_bytes(), [b'-', digit, ..] if digit.is_ascii_digit())
 }
 
 /// A number below 2^32: decimal digits, or hex digits after 0x.

@@ -29,6 +29,10 @@ pub enum Failure {
 
 impl From<Refusal> for Failure {
     fn from(refusal: Refusal) -> Failure {
+        // The room lent is enough, unless there was no memory for it.
+        if refusal == Refusal::NoRoom {
+            return Failure::Input(io::ErrorKind::OutOfMemory.into());
+        }
         Failure::Refused(refusal, of_ffmpeg(refusal))
     }
 }
@@ -60,7 +64,7 @@ impl Failure {
             Failure::Input(error) => format!("chaldoref: {file}: {error}\n"),
             Failure::Refused(refusal, more) => refused(file, *refusal, more),
             Failure::Malformed(fault) => refused(file, fault.refusal(), &fault.lines()),
-            Failure::NotWritten(name, error) => format!("chaldoref: {}: {error}\n", input::shown(name)),
+            Failure::NotWritten(name, error) => format!("chaldoref: {}: {error}\n", input::named(name)),
             Failure::Output(_) if self.is_broken_pipe() => String::new(),
             Failure::Output(error) => format!("chaldoref: standard output: {error}\n"),
             Failure::NotAllGood { .. } => String::new(),

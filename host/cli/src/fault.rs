@@ -24,15 +24,17 @@ impl Fault {
     pub fn of(slip: &[u8], malformed: MalformedSlip) -> Fault {
         let place = malformed.place;
         // Every number before the place is good, and ends with a byte that has no top bit.
-        let ends: Vec<usize> = (0..place).filter(|i| slip[*i] < 128).collect();
-        let values = |i: usize| value(&slip[i.checked_sub(1).map_or(0, |before| ends[before] + 1)..=ends[i]]);
+        let ends = || (0..place).filter(|i| slip[*i] < 128);
+        let (before, start) = (ends().count(), ends().next_back().map_or(0, |last| last + 1));
+        let head: Vec<usize> = ends().take(HEAD.len()).collect();
+        let values = |i: usize| value(&slip[i.checked_sub(1).map_or(0, |before| head[before] + 1)..=head[i]]);
         let (number, rule) = if place == slip.len() {
-            (Some(called(ends.len())), ends_early(ends.last().map_or(0, |last| last + 1), place))
-        } else if ends.len() >= HEAD.len() && Ok(ends.len()) == usize::try_from(6 + 2 * values(5)) {
+            (Some(called(before)), ends_early(start, place))
+        } else if before >= HEAD.len() && Ok(before) == usize::try_from(6 + 2 * values(5)) {
             (None, surplus(slip.len() - place))
         } else {
-            let a = if ends.len() == 4 { values(3) } else { 0 };
-            (Some(called(ends.len())), broken(ends.len(), &slip[place..], a))
+            let a = if before == 4 { values(3) } else { 0 };
+            (Some(called(before)), broken(before, &slip[place..], a))
         };
         Fault { place, number, rule, picture: picture(slip, place) }
     }

@@ -10,7 +10,7 @@ scale, movie times in the movie's. CODE is four characters, or hex after 0x.
 const REST: &str = "\
 --json prints one JSON document, and read-slip one for each slip. chaldoref COMMAND --help tells the options of a
 command; the page chaldoref(1) tells all. Exit status: 0 answered; 1 refused, for the reason on standard error, or
-something that check found is not good; 2 bad usage or unreadable file.
+something that check found is not good; 2 bad usage, unreadable file or no memory.
 ";
 
 impl Command {

@@ -1,7 +1,8 @@
 //! Reading files and standard input.
+use crate::closed;
 use chaldoref::MAX_FILE_BYTES;
 use std::ffi::OsStr;
-use std::fs::File;
+use std::fs::{File, Metadata};
 use std::io::{self, Read};
 use std::os::fd::AsFd;
 
@@ -15,6 +16,14 @@ const MOST_BYTES: u64 = MAX_FILE_BYTES + 1;
 pub fn called(name: &OsStr) -> String {
     if name == STANDARD {
         return "standard input".into();
+    }
+    named(name)
+}
+
+/// A file's name in messages.
+pub fn named(name: &OsStr) -> String {
+    if name.is_empty() {
+        return "an empty name".into();
     }
     shown(name)
 }
@@ -37,9 +46,20 @@ pub fn read(name: &OsStr) -> io::Result<Vec<u8>> {
 
 fn open(name: &OsStr) -> io::Result<File> {
     if name == STANDARD {
+        if closed::input() {
+            return Err(closed::error());
+        }
         return Ok(File::from(io::stdin().as_fd().try_clone_to_owned()?));
     }
     File::open(name)
+}
+
+/// What the system tells of a file to be read.
+pub fn metadata(name: &OsStr) -> io::Result<Metadata> {
+    if name == STANDARD {
+        return open(name)?.metadata();
+    }
+    std::fs::metadata(name)
 }
 
 /// The bytes of a slip. The file has them, or it has hex text that says them: a slip begins with the byte 01, and hex text with the digit 0.
@@ -54,7 +74,8 @@ pub fn slip(file: Vec<u8>) -> io::Result<Vec<u8>> {
 
 /// The bytes that hex text says: pairs of digits, and white space before and after them.
 pub fn from_hex(text: &[u8]) -> io::Result<Vec<u8>> {
-    let mut bytes = Vec::with_capacity(text.len() / 2);
+    let mut bytes = Vec::new();
+    bytes.try_reserve_exact(text.len() / 2)?;
     let mut at = 0;
     while let Some(c) = text.get(at) {
         if c.is_ascii_whitespace() {

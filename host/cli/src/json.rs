@@ -8,6 +8,8 @@ pub enum Value {
     Bool(bool),
     Number(i128),
     Text(String),
+    /// Bytes, as a string of two hex digits each.
+    Hex(Vec<u8>),
 }
 
 impl From<bool> for Value {
@@ -53,6 +55,7 @@ impl fmt::Display for Value {
             Value::Bool(value) => value.fmt(f),
             Value::Number(value) => value.fmt(f),
             Value::Text(text) => quoted(text, f),
+            Value::Hex(bytes) => hex(bytes, f),
         }
     }
 }
@@ -67,6 +70,13 @@ fn quoted(text: &str, f: &mut fmt::Formatter<'_>) -> fmt::Result {
             _ => write!(f, "{c}")?,
         }
     }
+    f.write_str("\"")
+}
+
+/// The digits are written as they are made, as lists are.
+fn hex(bytes: &[u8], f: &mut fmt::Formatter<'_>) -> fmt::Result {
+    f.write_str("\"")?;
+    bytes.iter().try_for_each(|byte| write!(f, "{byte:02x}"))?;
     f.write_str("\"")
 }
 
@@ -164,6 +174,7 @@ mod tests {
     #[test]
     fn text_is_escaped() {
         let text = Value::from(String::from("a\"b\\c\n\0\u{7f}é"));
+        assert_eq!(Value::Hex(vec![0, 0xd8]).to_string(), "\"00d8\"");
         assert_eq!(text.to_string(), "\"a\\\"b\\\\c\\u000a\\u0000\u{7f}é\"");
     }
 }

@@ -1,8 +1,10 @@
 //! The command line of Chaldoref: each command puts one question of document 01 to a film, or writes or reads slips.
-#![forbid(unsafe_code)]
+#![deny(unsafe_code)]
 
 mod args;
 mod checked;
+#[allow(unsafe_code)]
+mod closed;
 mod commands;
 mod failure;
 mod fault;
@@ -10,6 +12,7 @@ mod filed;
 mod help;
 mod input;
 mod json;
+mod output;
 mod syntax;
 mod table;
 
@@ -41,7 +44,7 @@ fn answer(request: &Request, file: &OsStr) -> Result<(), Failure> {
 
 /// Runs something that writes to standard output, and sees to it that all of it is written, also before a failure.
 fn print(write: impl FnOnce(&mut dyn Write) -> Result<(), Failure>) -> Result<(), Failure> {
-    let mut out = BufWriter::new(io::stdout().lock());
+    let mut out = BufWriter::new(output::standard()?);
     let done = write(&mut out);
     worse(done, out.flush().map_err(Failure::from))
 }

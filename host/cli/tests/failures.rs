@@ -97,6 +97,9 @@ fn usage() {
     bad_usage("track films/w.mov", "there is no command 'track'", all);
     bad_usage("--json", "there is no command '--json'", all);
     bad_usage("help track", "there is no command 'track'", all);
+    for line in ["help tracks x", "help help x", "--help -h x", "--version x"] {
+        bad_usage(line, "'x' is one argument too many", all);
+    }
     bad_usage("tracks", "FILE is missing", "tracks FILE [--json]");
     bad_usage("tracks a b", "'b' is one argument too many", "tracks FILE [--json]");
     bad_usage("tracks a --bytes", "tracks has no option '--bytes'", "tracks FILE [--json]");
@@ -126,9 +129,20 @@ fn numbers() {
     }
     // The greatest number is a good one.
     assert_eq!(run(&["at", W, "0xffffffff", "4294967295"]).status, 1);
-    // A number with a sign looks like an option.
-    assert_eq!(run(&["at", W, "1", "-1"]).err.lines().next(), Some("chaldoref: at has no option '-1'"));
-    assert_eq!(run(&["at", "--", W, "1", "-1"]).status, 2);
+}
+
+#[test]
+fn numbers_with_a_sign() {
+    let time = "MEDIA-TIME is a number from 0 to 4294967295, and not '-1'";
+    bad_usage("at films/w.mov 1 -1", time, "at FILE TRACK MEDIA-TIME [--json]");
+    bad_usage("at -- films/w.mov 1 -1", time, "at FILE TRACK MEDIA-TIME [--json]");
+    let track = "TRACK is a number from 0 to 4294967295, and not '-0x1'";
+    bad_usage("profile films/w.mov -0x1", track, "profile FILE [TRACK] [--json]");
+    let surplus = "'-1' is one argument too many";
+    bad_usage("at films/w.mov 1 0 -1", surplus, "at FILE TRACK MEDIA-TIME [--json]");
+    // Where a file is named, it looks like an option.
+    bad_usage("tracks -1", "tracks has no option '-1'", "tracks FILE [--json]");
+    bad_usage("read-slip a -1", "read-slip has no option '-1'", "read-slip FILE... [--hex] [--json]");
 }
 
 #[test]
@@ -136,6 +150,9 @@ fn unreadable_files() {
     let failed =
         |name: &str, reason: &str| Ran { out: String::new(), err: format!("chaldoref: {name}: {reason}\n"), status: 2 };
     assert_eq!(run(&["tracks", "films/none.mov"]), failed("films/none.mov", "No such file or directory (os error 2)"));
+    assert_eq!(run(&["tracks", ""]), failed("an empty name", "No such file or directory (os error 2)"));
+    let nameless = run(&["slip", W, "1", "0", "1", "-o", ""]);
+    assert_eq!(nameless, failed("an empty name", "No such file or directory (os error 2)"));
     assert_eq!(run(&["tracks", "films", "--json"]), failed("films", "Is a directory (os error 21)"));
     assert_eq!(run(&["read-slip", "--hex", HOSES]), failed(HOSES, "line 1, column 1: not a pair of hex digits"));
     let typed = run_on(b"01 01 D8\n04 1B 4", &["read-slip", "-"]);

@@ -24,6 +24,7 @@ fn help() {
     let all = run(&["--help"]);
     assert_eq!((all.status, all.err.as_str()), (0, ""));
     assert_eq!((&all, &all), (&run(&["-h"]), &run(&["help"])));
+    assert_eq!((&all, &all), (&run(&["help", "help"]), &run(&["--help", "--help"])));
     for name in COMMANDS {
         assert!(all.out.lines().any(|line| line.starts_with(&format!("  {name} FILE"))), "{name}");
         let one = run(&[name, "--help"]);

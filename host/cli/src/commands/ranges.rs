@@ -1,8 +1,9 @@
 //! Stretches of film as byte ranges, and the slips written of them.
 use super::{scale, seconds, Answer};
 use crate::failure::Failure;
-use crate::input::STANDARD;
-use crate::json::{document, Object};
+use crate::input::{self, STANDARD};
+use crate::json::{document, Object, Value};
+use crate::output;
 use crate::table::{self, number};
 use chaldoref::{ByteRange, MediaTime, Movie, TrackId};
 use std::ffi::OsStr;
@@ -37,9 +38,9 @@ pub fn stretch_bytes(movie: &Movie, track: TrackId, time: &Range<MediaTime>, to:
 pub fn slip(movie: &Movie, track: TrackId, time: &Range<MediaTime>, to: Answer) -> Result<(), Failure> {
     let slip = movie.write_slip(track, time.clone())?;
     if to.json {
-        let hex: String = slip.iter().map(|byte| format!("{byte:02x}")).collect();
         return Ok(document(to.out, |o| {
-            o.put("track", track.0)?.put("a", time.start.0)?.put("b", time.end.0)?.put("slip", hex).map(drop)
+            o.put("track", track.0)?.put("a", time.start.0)?.put("b", time.end.0)?;
+            o.put("slip", Value::Hex(slip)).map(drop)
         })?);
     }
     for (i, byte) in slip.iter().enumerate() {
@@ -56,15 +57,16 @@ pub fn write_out(slip: &[u8], name: &OsStr, film: &OsStr, to: Answer) -> Result<
     let written = if same_file(name, film) {
         Err(io::Error::new(io::ErrorKind::AlreadyExists, "this is the film itself"))
     } else {
-        fs::write(name, slip)
+        output::replace(name.as_ref(), slip)
     };
     written.map_err(|error| Failure::NotWritten(name.to_owned(), error))
 }
 
-/// Whether two names are names of one file. A file that is not there yet is no other's.
-fn same_file(name: &OsStr, other: &OsStr) -> bool {
-    let place = |name| fs::metadata(name).map(|file| (file.dev(), file.ino()));
-    matches!((place(name), place(other)), (Ok(one), Ok(two)) if one == two)
+/// Whether a name is one of the film's, which may be standard input. A file that is not there yet is no other's.
+fn same_file(name: &OsStr, film: &OsStr) -> bool {
+    let place = |file: fs::Metadata| (file.dev(), file.ino());
+    let (one, other) = (fs::metadata(name).map(place), input::metadata(film).map(place));
+    matches!((one, other), (Ok(one), Ok(other)) if one == other)
 }
 
 pub fn pair_fields(o: &mut Object, pair: &ByteRange) -> io::Result<()> {

@@ -12,7 +12,8 @@ use std::io::{self, Write};
 
 /// What a slip says; beside others its name comes first.
 pub fn read(bytes: &[u8], name: &OsStr, beside_others: bool, to: Answer) -> Result<(), Failure> {
-    let slip = Slip::read(bytes).map_err(|malformed| Failure::Malformed(Fault::of(bytes, malformed)))?;
+    let read = Slip::try_read(bytes).map_err(|no_memory| Failure::Input(no_memory.into()))?;
+    let slip = read.map_err(|malformed| Failure::Malformed(Fault::of(bytes, malformed)))?;
     if to.json {
         return Ok(document(to.out, |o| {
             o.put("file", name.to_string_lossy().into_owned())?.put("track", slip.id.0)?.put("scale", slip.scale)?;

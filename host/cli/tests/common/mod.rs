@@ -15,6 +15,14 @@ pub fn program<A: AsRef<OsStr>>(args: &[A]) -> Command {
     command
 }
 
+/// The program with those arguments, run by a shell after it has done something to itself: a limit, or a redirection of what is executed.
+pub fn program_after<A: AsRef<OsStr>>(setup: &str, args: &[A], redirection: &str) -> Command {
+    let mut command = Command::new("sh");
+    command.arg("-c").arg(format!("{setup}\nexec \"$@\" {redirection}")).arg("sh").arg(env!("CARGO_BIN_EXE_chaldoref"));
+    command.args(args).current_dir("../..").stdin(Stdio::null()).stdout(Stdio::piped()).stderr(Stdio::piped());
+    command
+}
+
 /// What a run wrote, and its exit status.
 #[derive(Debug, PartialEq)]
 pub struct Ran {
@@ -24,7 +32,7 @@ pub struct Ran {
 }
 
 impl Ran {
-    fn new(output: Output) -> Ran {
+    pub fn new(output: Output) -> Ran {
         let text = |bytes| String::from_utf8(bytes).unwrap();
         Ran { out: text(output.stdout), err: text(output.stderr), status: output.status.code().unwrap() }
     }
