@@ -90,7 +90,7 @@ impl Checked<'_> {
 
 fn read(name: &OsStr) -> Result<Slip, Wrong> {
     let bytes = input::slip(input::read(name)?)?;
-    Slip::read(&bytes).map_err(|malformed| Fault::of(&bytes, malformed).into())
+    Slip::try_read(&bytes).map_err(io::Error::from)?.map_err(|malformed| Fault::of(&bytes, malformed).into())
 }
 
 /// The track is there, the scale is its own, and the pairs are those of the stretch from a to b.

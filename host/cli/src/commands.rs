@@ -9,6 +9,7 @@ use crate::args::{Ask, Request};
 use crate::failure::Failure;
 use crate::input;
 use crate::json::{document, Object};
+use crate::warnings;
 use chaldoref::{MediaTime, Movie, Refusal, TrackId};
 use std::ffi::OsStr;
 use std::io::{self, Write};
@@ -38,6 +39,7 @@ pub fn run(request: &Request, name: &OsStr, out: &mut dyn Write) -> Result<(), F
         Ask::Slip { track, time, out: None } => ranges::slip(&movie()?, *track, time, to),
         Ask::Slip { track, time, out: Some(slip_name) } => {
             let slip = movie()?.write_slip(*track, time.clone())?;
+            warnings::tell(&warnings::of_stretch(&file, *track));
             ranges::write_out(&slip, slip_name, name, to)
         }
         Ask::ReadSlip { hex } => {

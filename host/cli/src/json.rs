@@ -138,6 +138,14 @@ impl Object<'_> {
         Ok(self)
     }
 
+    /// A field that is a list of strings.
+    pub fn texts(&mut self, key: &'static str, texts: &[String]) -> io::Result<&mut Self> {
+        self.key(key)?;
+        let texts: Vec<String> = texts.iter().map(|text| Value::from(text.clone()).to_string()).collect();
+        write!(self.out, "[{}]", texts.join(","))?;
+        Ok(self)
+    }
+
     fn key(&mut self, key: &'static str) -> io::Result<()> {
         let comma = if self.empty { "" } else { "," };
         self.empty = false;
@@ -169,6 +177,15 @@ mod tests {
             "{\"a\":-1,\"b\":18446744073709551615,\"c\":true,\"d\":null,\"e\":[{\"n\":1},{\"n\":2}],\"f\":[],\
              \"g\":{\"n\":3},\"h\":null}\n"
         );
+    }
+
+    #[test]
+    fn lists_of_strings() {
+        let all = written(|o| {
+            o.texts("a", &[])?.texts("b", &["c".into()])?.texts("d", &["e\"".into(), String::new()])?;
+            Ok(())
+        });
+        assert_eq!(all, "{\"a\":[],\"b\":[\"c\"],\"d\":[\"e\\\"\",\"\"]}\n");
     }
 
     #[test]

@@ -2,6 +2,7 @@
 #![deny(unsafe_code)]
 
 mod args;
+mod atoms;
 mod checked;
 #[allow(unsafe_code)]
 mod closed;
@@ -15,6 +16,7 @@ mod json;
 mod output;
 mod syntax;
 mod table;
+mod warnings;
 
 use args::{Parsed, Request};
 use failure::{worse, Failure, SUCCESS};

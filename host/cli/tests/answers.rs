@@ -28,7 +28,7 @@ fn tracks() {
     answers(
         "tracks films/w.mov --json",
         "{\"tracks\":[{\"id\":1,\"subtype\":\"vide\",\"scale\":600,\"total\":120,\"samples\":4,\"chunks\":2,\
-         \"edits\":0}]}\n",
+         \"edits\":0}],\"warnings\":[]}\n",
     );
 }
 
@@ -52,7 +52,7 @@ fn tracks_with_odd_subtypes() {
 #[test]
 fn no_tracks() {
     answers_on(&film_of(vec![]), &["tracks", "-"], "id  subtype  scale  total  seconds  samples  chunks  edits\n");
-    answers_on(&film_of(vec![]), &["tracks", "-", "--json"], "{\"tracks\":[]}\n");
+    answers_on(&film_of(vec![]), &["tracks", "-", "--json"], "{\"tracks\":[],\"warnings\":[]}\n");
 }
 
 #[test]
@@ -113,7 +113,7 @@ fn stretches() {
     answers(
         "stretch films/w.mov 1 0 120 --json",
         "{\"track\":1,\"a\":0,\"b\":120,\"pairs\":[{\"offset\":1000,\"length\":150},{\"offset\":900,\"length\":70}],\
-         \"bytes\":220}\n",
+         \"bytes\":220,\"warnings\":[]}\n",
     );
 }
 
@@ -122,7 +122,7 @@ fn slips() {
     answers("slip films/w.mov 1 24 73", SLIP);
     answers(
         "slip films/w.mov 1 24 73 --json",
-        "{\"track\":1,\"a\":24,\"b\":73,\"slip\":\"0101d804184902cc0832840746\"}\n",
+        "{\"track\":1,\"a\":24,\"b\":73,\"slip\":\"0101d804184902cc0832840746\",\"warnings\":[]}\n",
     );
     let folder = Folder::new("slips");
     let path = folder.path("w.slip");

@@ -3,12 +3,17 @@ use super::{scale, seconds, Answer};
 use crate::failure::Failure;
 use crate::json::{document, Object, Value};
 use crate::table::{self, number, text};
+use crate::warnings;
 use chaldoref::{MediaTime, Movie, MovieTime, ProfileRecord, Shown, Track, TrackId};
 use std::io;
 
 pub fn tracks(movie: &Movie, to: Answer) -> Result<(), Failure> {
+    let warnings = warnings::of_tracks(movie.file());
+    warnings::tell(&warnings);
     if to.json {
-        return Ok(document(to.out, |o| o.list("tracks", movie.tracks(), track_fields).map(drop))?);
+        return Ok(document(to.out, |o| {
+            o.list("tracks", movie.tracks(), track_fields)?.texts("warnings", &warnings).map(drop)
+        })?);
     }
     let columns = [
         number("id"),

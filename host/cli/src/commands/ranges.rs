@@ -5,6 +5,7 @@ use crate::input::{self, STANDARD};
 use crate::json::{document, Object, Value};
 use crate::output;
 use crate::table::{self, number};
+use crate::warnings;
 use chaldoref::{ByteRange, MediaTime, Movie, TrackId};
 use std::ffi::OsStr;
 use std::fs;
@@ -14,10 +15,13 @@ use std::os::unix::fs::MetadataExt;
 
 pub fn stretch(movie: &Movie, track: TrackId, time: &Range<MediaTime>, to: Answer) -> Result<(), Failure> {
     let stretch = movie.stretch(track, time.clone())?;
+    let warnings = warnings::of_stretch(movie.file(), track);
+    warnings::tell(&warnings);
     if to.json {
         return Ok(document(to.out, |o| {
             o.put("track", track.0)?.put("a", time.start.0)?.put("b", time.end.0)?;
-            o.list("pairs", &stretch.pairs, pair_fields)?.put("bytes", stretch.bytes).map(drop)
+            o.list("pairs", &stretch.pairs, pair_fields)?.put("bytes", stretch.bytes)?;
+            o.texts("warnings", &warnings).map(drop)
         })?);
     }
     print_pairs(&stretch.pairs, stretch.bytes, to.out)?;
@@ -28,7 +32,9 @@ pub fn stretch(movie: &Movie, track: TrackId, time: &Range<MediaTime>, to: Answe
 
 /// The film's own bytes, range after range.
 pub fn stretch_bytes(movie: &Movie, track: TrackId, time: &Range<MediaTime>, to: Answer) -> Result<(), Failure> {
-    for pair in movie.stretch(track, time.clone())?.pairs {
+    let stretch = movie.stretch(track, time.clone())?;
+    warnings::tell(&warnings::of_stretch(movie.file(), track));
+    for pair in stretch.pairs {
         // A film in which a chunk passes the end is refused 12.
         to.out.write_all(pair.of(movie.file()).expect("the ranges of a stretch lie within its film"))?;
     }
@@ -37,10 +43,12 @@ pub fn stretch_bytes(movie: &Movie, track: TrackId, time: &Range<MediaTime>, to:
 
 pub fn slip(movie: &Movie, track: TrackId, time: &Range<MediaTime>, to: Answer) -> Result<(), Failure> {
     let slip = movie.write_slip(track, time.clone())?;
+    let warnings = warnings::of_stretch(movie.file(), track);
+    warnings::tell(&warnings);
     if to.json {
         return Ok(document(to.out, |o| {
             o.put("track", track.0)?.put("a", time.start.0)?.put("b", time.end.0)?;
-            o.put("slip", Value::Hex(slip)).map(drop)
+            o.put("slip", Value::Hex(slip))?.texts("warnings", &warnings).map(drop)
         })?);
     }
     for (i, byte) in slip.iter().enumerate() {
