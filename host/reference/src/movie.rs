@@ -4,12 +4,15 @@
 //! Nothing here is quick or clever. The tree is built whole, each refusal is a function of its own, and the tables
 //! are written out sample by sample before a question is asked. Sums are taken in 64 and 128 bits, where nothing wraps.
 pub mod atoms;
+pub mod explain;
+pub mod fault;
 pub mod features;
 pub mod peaks;
 pub mod questions;
 pub mod refusals;
 pub mod tables;
 
+pub use explain::explain;
 pub use questions::{
     feature, listing, media_time, peak, sample, sample_at, sample_bytes, stored_profile, stretch, track_list,
     write_slip, MediaTime,

@@ -1,6 +1,6 @@
 //! A few films for each refusal of a file.
 use reference::film::*;
-use reference::movie::atoms::{Leaf, MovieLeaves};
+use reference::movie::atoms::{Leaf, MovieLeaves, Place};
 use reference::movie::refusal;
 use reference::movie::refusals::{refused_1, refused_6};
 
@@ -22,8 +22,8 @@ fn track(change: impl Fn(&mut Track)) -> u32 {
 
 #[test]
 fn number_1() {
-    assert!(!refused_1(2_147_483_647));
-    assert!(refused_1(2_147_483_648));
+    assert_eq!(refused_1(2_147_483_647), None);
+    assert!(refused_1(2_147_483_648).is_some());
 }
 
 #[test]
@@ -100,7 +100,7 @@ fn number_6() {
     assert_eq!(refusal(&movie.file().bytes()), 6);
     // Chunks, without the rest of a file.
     let chunks = |n: u32| {
-        let leaf = |node: Node| Leaf { body: node.body };
+        let leaf = |node: Node| Leaf { place: Place { kind: node.kind, at: 0 }, body: node.body };
         let track = reference::movie::atoms::TrackLeaves {
             prfl: None,
             tkhd: leaf(tkhd(1)),
@@ -115,10 +115,10 @@ fn number_6() {
             stco: leaf(stco(&vec![0; usize::try_from(n).unwrap()])),
             stss: None,
         };
-        MovieLeaves { prfl: None, mvhd: leaf(mvhd(1, 1)), tracks: vec![track] }
+        MovieLeaves { moov: Place { kind: *b"moov", at: 0 }, prfl: None, mvhd: leaf(mvhd(1, 1)), tracks: vec![track] }
     };
-    assert!(!refused_6(&chunks(1_048_576)));
-    assert!(refused_6(&chunks(1_048_577)));
+    assert_eq!(refused_6(&chunks(1_048_576)), None);
+    assert!(refused_6(&chunks(1_048_577)).is_some());
 }
 
 #[test]

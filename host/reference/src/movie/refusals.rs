@@ -1,356 +1,160 @@
-//! "Refusals of a file": a function for each number, and their order.
-use super::atoms::{atoms, leaves, of_kind, Atom, Leaf, MovieLeaves, TrackLeaves, FILE};
-use super::tables::{
-    chunks, code, descriptions, movie_tables, written_out, Edit, Movie, MovieTables, Track, TrackTables,
-};
+//! "Refusals of a file": a function for each number, and their order. Where a clause applies it says why, in words.
+mod contradictions;
+mod counts;
+mod edits;
+mod sizes;
+
+use super::atoms::{leaves, tree, Leaf, MovieLeaves, TrackLeaves};
+use super::fault::{in_tracks, many, Fault, Refused};
+use super::tables::{movie_tables, written_out, Movie, MovieTables, Track};
+pub use contradictions::refused_9;
+pub use counts::refused_3;
+pub use edits::{in_media_scale, refused_13};
+pub use sizes::refused_5;
 
 /// "the file is longer than 2,147,483,647 bytes"
-pub fn refused_1(length: usize) -> bool {
-    length > 2_147_483_647
-}
-
-fn count(atoms: &[Atom], kind: &[u8; 4]) -> usize {
-    of_kind(atoms, kind).len()
-}
-
-/// "Exactly one each" of the first types, "at most one" of the second, in every container of that kind.
-fn counts_are_wrong(parent: &[Atom], exactly_one: &[&[u8; 4]], at_most_one: &[&[u8; 4]]) -> bool {
-    exactly_one.iter().any(|kind| count(parent, kind) != 1) || at_most_one.iter().any(|kind| count(parent, kind) > 1)
-}
-
-/// The children of each child of that type.
-fn inside<'a, 'f>(parent: &'a [Atom<'f>], kind: &[u8; 4]) -> Vec<&'a [Atom<'f>]> {
-    of_kind(parent, kind).into_iter().map(|atom| &atom.children[..]).collect()
-}
-
-fn trak_counts_are_wrong(trak: &[Atom]) -> bool {
-    // "tkhd and mdia in trak"; "edts in trak"
-    if counts_are_wrong(trak, &[b"tkhd", b"mdia"], &[b"edts"]) {
-        return true;
-    }
-    // "elst in edts"
-    for edts in inside(trak, b"edts") {
-        if counts_are_wrong(edts, &[b"elst"], &[]) {
-            return true;
-        }
-    }
-    for mdia in inside(trak, b"mdia") {
-        // "mdhd, hdlr and minf in mdia"
-        if counts_are_wrong(mdia, &[b"mdhd", b"hdlr", b"minf"], &[]) {
-            return true;
-        }
-        for minf in inside(mdia, b"minf") {
-            // "stbl in minf"
-            if counts_are_wrong(minf, &[b"stbl"], &[]) {
-                return true;
-            }
-            for stbl in inside(minf, b"stbl") {
-                // "stsd, stts, stsc, stsz and stco in stbl"; "ctts and stss in stbl"
-                if counts_are_wrong(stbl, &[b"stsd", b"stts", b"stsc", b"stsz", b"stco"], &[b"ctts", b"stss"]) {
-                    return true;
-                }
-            }
-        }
-    }
-    false
-}
-
-/// "an atom is absent or occurs too often"
-pub fn refused_3(file: &[Atom]) -> bool {
-    // "moov in the file"
-    if counts_are_wrong(file, &[b"moov"], &[]) {
-        return true;
-    }
-    for moov in inside(file, b"moov") {
-        // "mvhd in moov"
-        if counts_are_wrong(moov, &[b"mvhd"], &[]) {
-            return true;
-        }
-        for trak in inside(moov, b"trak") {
-            if trak_counts_are_wrong(trak) {
-                return true;
-            }
-        }
-    }
-    false
-}
-
-/// The read leaves of a track.
-fn read_leaves(track: &TrackLeaves) -> Vec<&Leaf> {
-    let TrackLeaves { prfl: _, tkhd, elst, mdhd, hdlr, stsd, stts, ctts, stsc, stsz, stco, stss } = track;
-    let mut all = vec![tkhd, mdhd, hdlr, stsd, stts, stsc, stsz, stco];
-    for optional in [elst, ctts, stss] {
-        all.extend(optional);
-    }
-    all
+pub fn refused_1(length: usize) -> Option<String> {
+    // Whoever stopped reading after one byte too many has not seen the end.
+    (length > 2_147_483_647).then(|| format!("the file has at least {length} bytes, and may have 2147483647"))
 }
 
 /// "a read leaf has a body whose first byte is not 0": an empty body has no first byte
-pub fn refused_4(movie: &MovieLeaves) -> bool {
-    let mut all = vec![&movie.mvhd];
-    for track in &movie.tracks {
-        all.extend(read_leaves(track));
-    }
-    all.iter().any(|leaf| !leaf.body.is_empty() && leaf.body[0] != 0)
+pub fn refused_4(movie: &MovieLeaves) -> Option<Fault> {
+    let other_version = |leaf: &Leaf| {
+        let version = *leaf.body.first()?;
+        let words = || format!("has version {version}, and must have 0");
+        (version != 0).then(|| Fault::of(&leaf.place.kind, words()))
+    };
+    other_version(&movie.mvhd)
+        .or_else(|| in_tracks(&movie.tracks, |track| track.read().into_iter().find_map(other_version)))
 }
 
-/// "16+12n", "16+8n" or "16+4n", "n at 12": a leaf of under 16 bytes holds no n and has no such size
-fn has_table_size(leaf: &Leaf, width: u64) -> bool {
-    leaf.size() >= 16 && leaf.size() == 16 + width * leaf.number(12)
-}
-
-/// "20+4n, or 20 | common size 12, n at 16; sizes only if the common size is 0"
-fn has_stsz_size(stsz: &Leaf) -> bool {
-    if stsz.size() < 20 {
-        return false;
-    }
-    if stsz.number(12) == 0 {
-        stsz.size() == 20 + 4 * stsz.number(16)
-    } else {
-        stsz.size() == 20
-    }
-}
-
-/// "filled exactly by n descriptions"; "In a track of subtype 'vide' a description is at least 36 bytes (else refused 5)"
-fn has_stsd_size(stsd: &Leaf, subtype: u64) -> bool {
-    match descriptions(stsd) {
-        None => false,
-        Some(all) => subtype != code(b"vide") || all.iter().all(|(begin, end)| end - begin >= 36),
-    }
-}
-
-/// "Version not 0: there is none. Otherwise its size is 16+16n, n at 12"; "An empty body is refused 5."
-fn has_profile_size(prfl: &Leaf) -> bool {
-    match prfl.body.first() {
-        None => false,
-        Some(0) => has_table_size(prfl, 16),
-        Some(_) => true,
-    }
-}
-
-fn track_has_sizes(track: &TrackLeaves) -> bool {
-    track.prfl.as_ref().is_none_or(has_profile_size)
-        && track.tkhd.size() == 92
-        && track.mdhd.size() == 32
-        && track.hdlr.size() >= 32
-        && track.elst.as_ref().is_none_or(|elst| has_table_size(elst, 12))
-        && has_table_size(&track.stts, 8)
-        && track.ctts.as_ref().is_none_or(|ctts| has_table_size(ctts, 8))
-        && has_table_size(&track.stsc, 12)
-        && has_stsz_size(&track.stsz)
-        && has_table_size(&track.stco, 4)
-        && track.stss.as_ref().is_none_or(|stss| has_table_size(stss, 4))
-        && has_stsd_size(&track.stsd, track.hdlr.number(16))
-}
-
-/// "a read leaf or profile hasn't its size"
-pub fn refused_5(movie: &MovieLeaves) -> bool {
-    let movie_has_sizes = movie.prfl.as_ref().is_none_or(has_profile_size) && movie.mvhd.size() == 108;
-    !movie_has_sizes || movie.tracks.iter().any(|track| !track_has_sizes(track))
+/// The number that the leaf states at a place is above the most that there may be.
+fn over(leaf: &Leaf, at: usize, things: &str, most: u64) -> Option<Fault> {
+    let n = leaf.number(at);
+    (n > most).then(|| Fault::of(&leaf.place.kind, format!("states {n} {things}, and {most} are the most")))
 }
 
 /// "in one profile over 64 records": a profile of another version is none
-fn has_too_many_records(prfl: &Option<Leaf>) -> bool {
-    match prfl {
-        Some(prfl) => prfl.body[0] == 0 && prfl.number(12) > 64,
-        None => false,
-    }
+fn over_records(prfl: &Option<Leaf>) -> Option<Fault> {
+    prfl.as_ref().filter(|prfl| prfl.body[0] == 0).and_then(|prfl| over(prfl, 12, "records", 64))
+}
+
+fn track_over(track: &TrackLeaves) -> Option<Fault> {
+    over(&track.stsz, 16, "samples", 1_048_576)
+        .or_else(|| over(&track.stco, 12, "chunks", 1_048_576))
+        .or_else(|| over(track.elst.as_ref()?, 12, "edits", 256))
+        .or_else(|| over(&track.stsd, 12, "descriptions", 64))
+        .or_else(|| over_records(&track.prfl))
 }
 
 /// "over 16 tracks, or in one track over 1,048,576 samples or chunks, 256 edits or 64 descriptions; in one profile over 64 records"
-pub fn refused_6(movie: &MovieLeaves) -> bool {
-    if movie.tracks.len() > 16 || has_too_many_records(&movie.prfl) {
-        return true;
+pub fn refused_6(movie: &MovieLeaves) -> Option<Fault> {
+    let tracks = movie.tracks.len();
+    if tracks > 16 {
+        return Some(Fault::of(b"moov", format!("has {tracks} tracks, and 16 are the most")));
     }
-    movie.tracks.iter().any(|track| {
-        track.stsz.number(16) > 1_048_576
-            || track.stco.number(12) > 1_048_576
-            || track.elst.as_ref().is_some_and(|elst| elst.number(12) > 256)
-            || track.stsd.number(12) > 64
-            || has_too_many_records(&track.prfl)
-    })
+    over_records(&movie.prfl).or_else(|| in_tracks(&movie.tracks, track_over))
 }
 
 /// "a track ID is 0 or occurs twice"
-pub fn refused_7(movie: &MovieTables) -> bool {
-    let mut seen = vec![0];
-    for track in &movie.tracks {
-        if seen.contains(&track.id) {
-            return true;
-        }
-        seen.push(track.id);
+pub fn refused_7(movie: &MovieTables) -> Option<Fault> {
+    let ids: Vec<u64> = movie.tracks.iter().map(|track| track.id).collect();
+    for (i, id) in ids.iter().enumerate() {
+        let words = match ids[..i].iter().position(|before| before == id) {
+            _ if *id == 0 => "the track ID is 0, and must not be".to_string(),
+            Some(before) => format!("the track ID is {id}, as that of track {} is", before + 1),
+            None => continue,
+        };
+        return Some(Fault { track: Some(i), ..Fault::of(b"tkhd", words) });
     }
-    false
+    None
 }
 
 /// "a movie or media time scale is 0"
-pub fn refused_8(movie: &MovieTables) -> bool {
-    movie.scale == 0 || movie.tracks.iter().any(|track| track.scale == 0)
-}
-
-fn is_strictly_rising(numbers: &[u64]) -> bool {
-    numbers.windows(2).all(|two| two[0] < two[1])
-}
-
-fn tables_contradict(track: &TrackTables) -> bool {
-    let n = u64::try_from(track.sizes.len()).unwrap();
-    let c = u64::try_from(track.stco.len()).unwrap();
-    let first_chunks: Vec<u64> = track.stsc.iter().map(|run| run.first_chunk).collect();
-    // "an stts or ctts entry counts 0 samples"
-    let ctts_counts: Option<Vec<u64>> = track.ctts.as_ref().map(|ctts| ctts.iter().map(|entry| entry.0).collect());
-    let stts_counts: Vec<u64> = track.stts.iter().map(|entry| entry.0).collect();
-    if stts_counts.contains(&0) || ctts_counts.as_ref().is_some_and(|counts| counts.contains(&0)) {
-        return true;
-    }
-    // "stts, or a present ctts, doesn't total N"
-    if stts_counts.iter().sum::<u64>() != n || ctts_counts.is_some_and(|counts| counts.iter().sum::<u64>() != n) {
-        return true;
-    }
-    // "C is 0 with stsc not empty or N not 0"
-    if c == 0 && (!track.stsc.is_empty() || n != 0) {
-        return true;
-    }
-    // "C is above 0 and stsc is empty, doesn't start at chunk 1, isn't strictly rising, or passes C"
-    if c > 0
-        && (track.stsc.is_empty()
-            || first_chunks[0] != 1
-            || !is_strictly_rising(&first_chunks)
-            || first_chunks.iter().any(|first| *first > c))
-    {
-        return true;
-    }
-    // "an entry has 0 samples per chunk"
-    if track.stsc.iter().any(|run| run.samples_per_chunk == 0) {
-        return true;
-    }
-    // "an ID is 0 or above the number of descriptions"
-    if track.stsc.iter().any(|run| run.description_id == 0 || run.description_id > track.descriptions) {
-        return true;
-    }
-    // "samples dealt to the C chunks don't total N"
-    if chunks(track).iter().map(|chunk| chunk.samples).sum::<u64>() != n {
-        return true;
-    }
-    // "stss isn't strictly rising within 1 to N"
-    match &track.stss {
-        Some(stss) => !is_strictly_rising(stss) || stss.iter().any(|sample| *sample < 1 || *sample > n),
-        None => false,
-    }
-}
-
-/// "sample tables contradict each other (below)"
-pub fn refused_9(movie: &MovieTables) -> bool {
-    movie.tracks.iter().any(tables_contradict)
+pub fn refused_8(movie: &MovieTables) -> Option<Fault> {
+    let zero = |atom, scale| (scale == 0).then(|| Fault::of(atom, "the time scale is 0, and must not be".to_string()));
+    zero(b"mvhd", movie.scale).or_else(|| in_tracks(&movie.tracks, |track| zero(b"mdhd", track.scale)))
 }
 
 /// "the sample durations, or a track's edit durations, total over 4,294,967,295"
-pub fn refused_10(movie: &Movie) -> bool {
-    movie.tracks.iter().any(|track| {
+pub fn refused_10(movie: &Movie) -> Option<Fault> {
+    let over = |atom, things: &str, total: u64| {
+        let words = || format!("the durations of its {things} total {total}, and 4294967295 is the most");
+        (total > 4_294_967_295).then(|| Fault::of(atom, words()))
+    };
+    in_tracks(&movie.tracks, |track| {
         let edits = track.tables.edits.iter().flatten().map(|edit| edit.duration).sum::<u64>();
-        track.total > 4_294_967_295 || edits > 4_294_967_295
+        over(b"stts", "samples", track.total).or_else(|| over(b"elst", "edits", edits))
     })
 }
 
 /// "the mdhd duration is not the total of the sample durations"
-pub fn refused_11(movie: &Movie) -> bool {
-    movie.tracks.iter().any(|track| track.tables.mdhd_duration != track.total)
+pub fn refused_11(movie: &Movie) -> Option<Fault> {
+    in_tracks(&movie.tracks, |track| {
+        let (stored, total) = (track.tables.mdhd_duration, track.total);
+        (stored != total)
+            .then(|| Fault::of(b"mdhd", format!("has duration {stored}, the samples of stts total {total}")))
+    })
+}
+
+fn chunk_past_end(track: &Track, length: u64) -> Option<Fault> {
+    let mut bytes = vec![0; track.chunks.len()];
+    for sample in &track.samples {
+        bytes[usize::try_from(sample.chunk - 1).unwrap()] += sample.size;
+    }
+    let i = track.chunks.iter().zip(&bytes).position(|(chunk, bytes)| chunk.offset + bytes > length)?;
+    let (offset, has) = (track.chunks[i].offset, many(bytes[i], "byte", "bytes"));
+    let end = offset + bytes[i];
+    let words = format!("chunk {} begins at {offset}, has {has} and ends at {end}, the file at {length}", i + 1);
+    Some(Fault::of(b"stco", words))
 }
 
 /// "a chunk's offset plus the sizes of its samples passes the file's end"
-pub fn refused_12(movie: &Movie, length: usize) -> bool {
+pub fn refused_12(movie: &Movie, length: usize) -> Option<Fault> {
     let length = u64::try_from(length).unwrap();
-    for track in &movie.tracks {
-        let mut bytes = vec![0; track.chunks.len()];
-        for sample in &track.samples {
-            bytes[usize::try_from(sample.chunk - 1).unwrap()] += sample.size;
-        }
-        for (chunk, bytes) in track.chunks.iter().zip(bytes) {
-            if chunk.offset + bytes > length {
-                return true;
-            }
-        }
-    }
-    false
+    in_tracks(&movie.tracks, |track| chunk_past_end(track, length))
 }
 
-/// "floor(x × media scale / movie scale)"
-pub fn in_media_scale(x: u64, media_scale: u64, movie_scale: u64) -> u128 {
-    u128::from(x) * u128::from(media_scale) / u128::from(movie_scale)
+/// Refuses with the number where there are words why.
+fn refuse(number: u32, why: Option<String>) -> Result<(), Refused> {
+    why.map_or(Ok(()), |words| Err((number, words)))
 }
 
-fn edits_are_wrong(edits: &[Edit], track: &Track, movie_scale: u64) -> bool {
-    // "no entry"
-    if edits.is_empty() {
-        return true;
-    }
-    edits.iter().any(|edit| {
-        // "a duration 0; a rate other than 65536 (1.0); a media time below -1"
-        if edit.duration == 0 || edit.rate != 65536 || edit.media_time < -1 {
-            return true;
-        }
-        // "or an entry with media time m ≥ 0 and duration d where m + floor((d-1) × media scale / movie scale) is not below the sample total"
-        match u128::try_from(edit.media_time) {
-            Ok(m) => m + in_media_scale(edit.duration - 1, track.tables.scale, movie_scale) >= u128::from(track.total),
-            Err(_) => false,
-        }
-    })
-}
-
-/// "an edit list is wrong (below)"
-pub fn refused_13(movie: &Movie) -> bool {
-    movie.tracks.iter().any(|track| match &track.tables.edits {
-        Some(edits) => edits_are_wrong(edits, track, movie.scale),
-        None => false,
-    })
-}
-
-/// A file that is not refused, or the number. "The answer is the lowest number that applies; each condition is judged on files that pass
-/// all lower ones."
-pub fn read(file: &[u8]) -> Result<Movie, u32> {
-    if refused_1(file.len()) {
-        return Err(1);
-    }
+/// The leaves and the tables of a file that is not refused 1 to 9. "The answer is the lowest number that applies; each condition is judged on files that
+/// pass all lower ones."
+pub fn read_tables(file: &[u8]) -> Result<(MovieLeaves, MovieTables), Refused> {
+    refuse(1, refused_1(file.len()))?;
     // "an atom's size is wrong, passes its parent's end, or 1 to 7 bytes (under 16 for a 64-bit size) remain"
-    let Some(tree) = atoms(FILE, file) else {
-        return Err(2);
-    };
-    if refused_3(&tree) {
-        return Err(3);
-    }
+    let tree = tree(file).map_err(|words| (2, words))?;
+    refuse(3, refused_3(&tree))?;
     let found = leaves(&tree).unwrap();
-    if refused_4(&found) {
-        return Err(4);
-    }
-    if refused_5(&found) {
-        return Err(5);
-    }
-    if refused_6(&found) {
-        return Err(6);
-    }
+    let refuse = |number, fault: Option<Fault>| refuse(number, fault.map(|fault| fault.said(&found)));
+    refuse(4, refused_4(&found))?;
+    refuse(5, refused_5(&found))?;
+    refuse(6, refused_6(&found))?;
     let tables = movie_tables(&found);
-    if refused_7(&tables) {
-        return Err(7);
-    }
-    if refused_8(&tables) {
-        return Err(8);
-    }
-    if refused_9(&tables) {
-        return Err(9);
-    }
+    refuse(7, refused_7(&tables))?;
+    refuse(8, refused_8(&tables))?;
+    refuse(9, refused_9(&tables))?;
+    Ok((found, tables))
+}
+
+/// The movie of these tables, written out, if it is not refused 10 to 13.
+pub fn read_movie(found: &MovieLeaves, tables: MovieTables, length: usize) -> Result<Movie, Refused> {
     let movie = written_out(tables);
-    if refused_10(&movie) {
-        return Err(10);
-    }
-    if refused_11(&movie) {
-        return Err(11);
-    }
-    if refused_12(&movie, file.len()) {
-        return Err(12);
-    }
-    if refused_13(&movie) {
-        return Err(13);
-    }
+    let refuse = |number, fault: Option<Fault>| refuse(number, fault.map(|fault| fault.said(found)));
+    refuse(10, refused_10(&movie))?;
+    refuse(11, refused_11(&movie))?;
+    refuse(12, refused_12(&movie, length))?;
+    refuse(13, refused_13(&movie))?;
     Ok(movie)
+}
+
+/// A file that is not refused, or the number.
+pub fn read(file: &[u8]) -> Result<Movie, u32> {
+    let movie = read_tables(file).and_then(|(found, tables)| read_movie(&found, tables, file.len()));
+    movie.map_err(|(number, _)| number)
 }
 
 /// The number with which a file is refused, 0 for none.

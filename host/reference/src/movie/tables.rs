@@ -110,30 +110,35 @@ fn places(n: u64, width: usize) -> Vec<usize> {
     (0..usize::try_from(n).unwrap()).map(|i| 16 + width * i).collect()
 }
 
-/// Where each description begins and ends; or nothing, where they do not fill the atom exactly.
+/// Where each description begins and ends; or how they do not fill the atom exactly.
 /// "filled exactly by n descriptions | n at 12; each: size (at least 16), format"
-pub fn descriptions(stsd: &Leaf) -> Option<Vec<(u64, u64)>> {
-    if stsd.size() < 16 {
-        return None;
+pub fn descriptions(stsd: &Leaf) -> Result<Vec<(u64, u64)>, String> {
+    let size = stsd.size();
+    if size < 16 {
+        return Err(format!("has {size} bytes, and must have at least 16"));
     }
     let mut found = Vec::new();
     let mut at = 16;
-    for _ in 0..stsd.number(12) {
-        if at + 16 > stsd.size() {
-            return None;
+    let n = stsd.number(12);
+    for i in 1..=n {
+        let remaining = size - at;
+        if remaining < 16 {
+            return Err(format!("states {n} descriptions, and has {remaining} bytes left for description {i}"));
         }
-        let size = stsd.number(usize::try_from(at).unwrap());
-        if size < 16 || at + size > stsd.size() {
-            return None;
+        let says = stsd.number(usize::try_from(at).unwrap());
+        if says < 16 {
+            return Err(format!("description {i} says {says} bytes, and must say at least 16"));
         }
-        found.push((at, at + size));
-        at += size;
+        if says > remaining {
+            return Err(format!("description {i} says {says} bytes, the stsd ends after {remaining}"));
+        }
+        found.push((at, at + says));
+        at += says;
     }
-    if at == stsd.size() {
-        Some(found)
-    } else {
-        None
+    if at != size {
+        return Err(format!("has {size} bytes, and its {n} descriptions end after {at}"));
     }
+    Ok(found)
 }
 
 /// "width at 32 and height at 34, 16 bits each", of the description that begins at the place.

@@ -1,0 +1,57 @@
+//! Why a file is refused, in words for people: the track, the atom, its place in the file and the numbers that disagree. The clauses are those of the
+//! refusals, in their order.
+use super::atoms::{visit, TOP};
+use super::fault::Refused;
+use super::refusals::{read_movie, read_tables};
+
+/// The reference writes all out, and takes some 64 bytes for each atom and each sample, which a file can state in far fewer. No film of a few days
+/// comes near these; what passes them is not explained, so that words cost no more memory than a program has.
+const MOST_ATOMS: usize = 1 << 22;
+const MOST_SAMPLES: usize = 1 << 22;
+const MOST_MOOV_BYTES: usize = 1 << 28;
+
+/// What a movie has at top level. A file that has none of it is something else.
+const AT_TOP_LEVEL: [&[u8; 4]; 8] = [b"moov", b"mdat", b"ftyp", b"free", b"skip", b"wide", b"pnot", b"moof"];
+
+/// What is seen of a file before it is read.
+#[derive(Default)]
+struct Survey {
+    atoms: usize,
+    moov_bytes: usize,
+    is_movie: bool,
+}
+
+fn survey(file: &[u8]) -> Survey {
+    let mut seen = Survey::default();
+    visit(TOP, 0, file, &mut |parent, place, size| {
+        seen.atoms += 1;
+        seen.is_movie |= parent == TOP && AT_TOP_LEVEL.contains(&&place.kind);
+        if parent == TOP && place.kind == *b"moov" {
+            seen.moov_bytes += size;
+        }
+    });
+    seen
+}
+
+/// Says of a file that has nothing of a movie that it is none.
+fn of_no_movie(file: &[u8], words: &str) -> String {
+    let why = if file.is_empty() { "the file is empty" } else { words };
+    format!("this is no QuickTime movie: {why}")
+}
+
+/// The number with which a file is refused, and why; nothing where it is accepted, or has too much to be written out.
+pub fn explain(file: &[u8]) -> Option<Refused> {
+    let seen = survey(file);
+    if seen.atoms > MOST_ATOMS || seen.moov_bytes > MOST_MOOV_BYTES {
+        return None;
+    }
+    let (found, tables) = match read_tables(file) {
+        Ok(read) => read,
+        Err((number @ 2..=3, words)) if !seen.is_movie => return Some((number, of_no_movie(file, &words))),
+        Err(refused) => return Some(refused),
+    };
+    if tables.tracks.iter().map(|track| track.sizes.len()).sum::<usize>() > MOST_SAMPLES {
+        return None;
+    }
+    read_movie(&found, tables, file.len()).err()
+}

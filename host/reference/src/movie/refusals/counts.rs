@@ -1,0 +1,72 @@
+//! Refusal 3: the atoms that must be there, and those that may be there once.
+use crate::movie::atoms::{of_kind, Atom, Place, TOP};
+use crate::movie::fault::trak_name;
+
+/// Atoms that other films have in place of one that is read.
+const IN_PLACE: [(&[u8; 4], &[u8; 4]); 3] = [(b"stco", b"co64"), (b"stsz", b"stz2"), (b"mvhd", b"cmov")];
+
+fn name(kind: &[u8; 4]) -> String {
+    String::from_utf8_lossy(kind).into_owned()
+}
+
+fn absent(kind: &[u8; 4], parent: &Place, atoms: &[Atom]) -> String {
+    let other =
+        IN_PLACE.iter().find(|(absent, _)| *absent == kind).map_or(Vec::new(), |(_, other)| of_kind(atoms, other));
+    let instead = other.first().map_or(String::new(), |atom| format!("; {} is there, and is not read", atom.place));
+    format!("{} is absent from {parent}{instead}", name(kind))
+}
+
+/// "Exactly one each" of the first types, "at most one" of the second, in every container of that kind.
+fn wrong_count(parent: &Place, atoms: &[Atom], exactly_one: &[&[u8; 4]], at_most_one: &[&[u8; 4]]) -> Option<String> {
+    let count = |kind: &[u8; 4]| of_kind(atoms, kind).len();
+    if let Some(kind) = exactly_one.iter().find(|kind| count(kind) == 0) {
+        return Some(absent(kind, parent, atoms));
+    }
+    let kind = exactly_one.iter().chain(at_most_one).find(|kind| count(kind) > 1)?;
+    Some(format!("{} occurs {} times in {parent}, and may occur once", name(kind), count(kind)))
+}
+
+/// The same in an atom.
+fn wrong_in(parent: &Atom, exactly_one: &[&[u8; 4]], at_most_one: &[&[u8; 4]]) -> Option<String> {
+    wrong_count(&parent.place, &parent.children, exactly_one, at_most_one)
+}
+
+/// The first child of that type in which something is wrong.
+fn inside(parent: &Atom, kind: &[u8; 4], wrong: impl Fn(&Atom) -> Option<String>) -> Option<String> {
+    of_kind(&parent.children, kind).into_iter().find_map(wrong)
+}
+
+fn wrong_mdia(mdia: &Atom) -> Option<String> {
+    // "mdhd, hdlr and minf in mdia"
+    let wrong = wrong_in(mdia, &[b"mdhd", b"hdlr", b"minf"], &[]);
+    // "stbl in minf"
+    let wrong = wrong.or_else(|| inside(mdia, b"minf", |minf| wrong_in(minf, &[b"stbl"], &[])));
+    // "stsd, stts, stsc, stsz and stco in stbl"; "ctts and stss in stbl"
+    let tables: [&[u8; 4]; 5] = [b"stsd", b"stts", b"stsc", b"stsz", b"stco"];
+    let in_stbl = |stbl: &Atom| wrong_in(stbl, &tables, &[b"ctts", b"stss"]);
+    wrong.or_else(|| inside(mdia, b"minf", |minf| inside(minf, b"stbl", in_stbl)))
+}
+
+fn wrong_trak(trak: &Atom) -> Option<String> {
+    // "tkhd and mdia in trak"; "edts in trak"
+    wrong_in(trak, &[b"tkhd", b"mdia"], &[b"edts"])
+        // "elst in edts"
+        .or_else(|| inside(trak, b"edts", |edts| wrong_in(edts, &[b"elst"], &[])))
+        .or_else(|| inside(trak, b"mdia", wrong_mdia))
+}
+
+fn wrong_moov(moov: &Atom) -> Option<String> {
+    // "mvhd in moov"
+    if let Some(wrong) = wrong_in(moov, &[b"mvhd"], &[]) {
+        return Some(wrong);
+    }
+    let traks = of_kind(&moov.children, b"trak");
+    let said = |(at, trak): (usize, &&Atom)| Some(format!("{}: {}", trak_name(at, trak), wrong_trak(trak)?));
+    traks.iter().enumerate().find_map(said)
+}
+
+/// "an atom is absent or occurs too often"
+pub fn refused_3(file: &[Atom]) -> Option<String> {
+    // "moov in the file"
+    wrong_count(TOP, file, &[b"moov"], &[]).or_else(|| of_kind(file, b"moov").into_iter().find_map(wrong_moov))
+}
