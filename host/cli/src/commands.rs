@@ -23,7 +23,7 @@ struct Answer<'w> {
 /// Answers a request of the file of that name on standard output.
 pub fn run(request: &Request, name: &OsStr, out: &mut dyn Write) -> Result<(), Failure> {
     let file = input::read(name).map_err(Failure::Input)?;
-    let movie = || Movie::open(&file);
+    let movie = || Movie::open(&file).map_err(|refusal| Failure::of_film(&file, refusal));
     let to = Answer { out, json: request.json };
     match &request.ask {
         Ask::Tracks => questions::tracks(&movie()?, to),
@@ -53,10 +53,15 @@ pub fn run(request: &Request, name: &OsStr, out: &mut dyn Write) -> Result<(), F
 /// A refusal, for machines. What else went wrong gives no document.
 pub fn refused(failure: &Failure, name: &OsStr, out: &mut dyn Write) -> io::Result<()> {
     match failure {
-        Failure::Refused(refusal, _) => document(out, |o| refusal_fields(o, *refusal).map(drop)),
+        Failure::Film(refusal, why) => explained(*refusal, why.clone(), out),
+        Failure::Refused(refusal, _) => explained(*refusal, None, out),
         Failure::Malformed(fault) => slips::refused(fault, name, out),
         _ => Ok(()),
     }
+}
+
+fn explained(refusal: Refusal, why: Option<String>, out: &mut dyn Write) -> io::Result<()> {
+    document(out, |o| refusal_fields(o, refusal)?.put("explanation", why).map(drop))
 }
 
 fn refusal_fields<'o, 'w>(o: &'o mut Object<'w>, refusal: Refusal) -> io::Result<&'o mut Object<'w>> {

@@ -1,4 +1,5 @@
 //! What ends a command without an answer: its message and its exit status.
+use crate::explain::explanation;
 use crate::fault::Fault;
 use crate::input;
 use chaldoref::Refusal;
@@ -15,7 +16,9 @@ pub enum Failure {
     Usage(String, String),
     /// The film or slip could not be read.
     Input(io::Error),
-    /// The film or the question was refused; what more there is to say of it is a line of its own.
+    /// The film was refused, and why, if that is known.
+    Film(Refusal, Option<String>),
+    /// The question was refused; what more there is to say of it is a line of its own.
     Refused(Refusal, String),
     /// The slip is malformed.
     Malformed(Fault),
@@ -33,7 +36,7 @@ impl From<Refusal> for Failure {
         if refusal == Refusal::NoRoom {
             return Failure::Input(io::ErrorKind::OutOfMemory.into());
         }
-        Failure::Refused(refusal, of_ffmpeg(refusal))
+        Failure::Refused(refusal, String::new())
     }
 }
 
@@ -44,6 +47,11 @@ impl From<io::Error> for Failure {
 }
 
 impl Failure {
+    /// Refuses the film of these bytes.
+    pub fn of_film(film: &[u8], refusal: Refusal) -> Failure {
+        Failure::Film(refusal, explanation(film, refusal))
+    }
+
     /// Whoever reads standard output has seen enough, which is no failure.
     fn is_broken_pipe(&self) -> bool {
         matches!(self, Failure::Output(error) if error.kind() == io::ErrorKind::BrokenPipe)
@@ -51,7 +59,10 @@ impl Failure {
 
     pub fn status(&self) -> u8 {
         match self {
-            Failure::Refused(..) | Failure::Malformed(_) | Failure::NotAllGood { unread: false } => REFUSED,
+            Failure::Film(..)
+            | Failure::Refused(..)
+            | Failure::Malformed(_)
+            | Failure::NotAllGood { unread: false } => REFUSED,
             _ if self.is_broken_pipe() => SUCCESS,
             _ => BAD_USAGE,
         }
@@ -62,6 +73,7 @@ impl Failure {
         match self {
             Failure::Usage(wrong, usage) => format!("chaldoref: {wrong}\n{usage}"),
             Failure::Input(error) => format!("chaldoref: {file}: {error}\n"),
+            Failure::Film(refusal, why) => refused(file, *refusal, &(not_proved(why) + &of_ffmpeg(*refusal))),
             Failure::Refused(refusal, more) => refused(file, *refusal, more),
             Failure::Malformed(fault) => refused(file, fault.refusal(), &fault.lines()),
             Failure::NotWritten(name, error) => format!("chaldoref: {}: {error}\n", input::named(name)),
@@ -88,6 +100,11 @@ fn refused(file: &str, refusal: Refusal, more: &str) -> String {
 /// A second line for a refusal.
 pub fn hint(words: &str) -> String {
     format!("chaldoref: hint: {words}\n")
+}
+
+/// The line that says why. It is told apart from what the proved library says.
+fn not_proved(why: &Option<String>) -> String {
+    why.as_ref().map_or(String::new(), |words| format!("chaldoref: not proved: {words}\n"))
 }
 
 /// The hint for the refusals that films from ffmpeg meet.

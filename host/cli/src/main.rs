@@ -7,6 +7,7 @@ mod checked;
 #[allow(unsafe_code)]
 mod closed;
 mod commands;
+mod explain;
 mod failure;
 mod fault;
 mod filed;

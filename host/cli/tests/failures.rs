@@ -2,7 +2,7 @@
 mod common;
 
 use common::{program, refuses, run, run_on, words, Folder, Ran, HOSES, W};
-use reference::film::{w, w_movie, w_track, Movie};
+use reference::film::{w, w_movie, w_track, Movie, Track};
 use reference::made::spoiled;
 use std::fs::File;
 use std::process::Stdio;
@@ -41,7 +41,7 @@ fn questions_refused() {
 #[test]
 fn a_refusal_is_a_document_too() {
     let expected = Ran {
-        out: "{\"refused\":14,\"reason\":\"no track has that ID\"}\n".into(),
+        out: "{\"refused\":14,\"reason\":\"no track has that ID\",\"explanation\":null}\n".into(),
         err: "chaldoref: films/w.mov: refused 14: no track has that ID\n".into(),
         status: 1,
     };
@@ -56,9 +56,39 @@ fn films_refused() {
         let reason = chaldoref::Refusal::from_number(number).unwrap();
         let first = format!("chaldoref: standard input: refused {number}: {reason}");
         assert_eq!((ran.out.as_str(), ran.status, ran.err.lines().next()), ("", 1, Some(first.as_str())), "{name}");
+        let (_, words) = reference::movie::explain(&film.bytes()).unwrap();
+        assert_eq!(ran.err.lines().nth(1), Some(format!("chaldoref: not proved: {words}").as_str()));
         let hinted = number == 4 || number == 13;
-        assert_eq!(ran.err.lines().count(), if hinted { 2 } else { 1 }, "{}", ran.err);
+        assert_eq!(ran.err.lines().count(), if hinted { 3 } else { 2 }, "{}", ran.err);
     }
+}
+
+#[test]
+fn a_refused_film_is_explained() {
+    let second = Track { id: 2, stts: vec![(5, 24)], ..w_track() };
+    let film = Movie { tracks: vec![w_track(), second], ..w_movie() }.file_of(4096).bytes();
+    let words = "track 2 (ID 2), stts at byte 728: counts 5 samples, stsz 4";
+    let expected = Ran {
+        out: format!("{{\"refused\":9,\"reason\":\"sample tables contradict each other\",\"explanation\":\"{words}\"}}\n"),
+        err: format!(
+            "chaldoref: standard input: refused 9: sample tables contradict each other\nchaldoref: not proved: {words}\n"
+        ),
+        status: 1,
+    };
+    assert_eq!(run_on(&film, &["tracks", "-", "--json"]), expected);
+    // Whatever is asked of the film.
+    assert_eq!(run_on(&film, &["sample", "-", "9", "9", "--json"]), expected);
+    assert_eq!(run_on(&film, &["slip", "-", "1", "0", "1"]), Ran { out: String::new(), ..expected });
+}
+
+#[test]
+fn a_film_cut_short() {
+    let film = std::fs::read("../../films/two-hoses.mov").unwrap();
+    let cut = film.len() - 100;
+    let err = run_on(&film[..cut], &["tracks", "-"]).err;
+    let at = film.windows(4).position(|four| four == b"mdat").unwrap() - 4;
+    let words = format!("mdat at byte {at} says {} bytes, the file ends after {}", film.len() - at, cut - at);
+    assert_eq!(err.lines().nth(1), Some(format!("chaldoref: not proved: {words}").as_str()));
 }
 
 #[test]
@@ -72,12 +102,15 @@ fn hints() {
     assert_eq!(
         said(13),
         "chaldoref: standard input: refused 13: an edit list is wrong\n\
+         chaldoref: not proved: track 1 (ID 1), elst at byte 224: entry 2 has media time 61 and duration 60 and reaches \
+         media time 120, the samples end at 120\n\
          chaldoref: hint: for films with B-frames ffmpeg writes an edit list that ends past their samples; \
          with -use_editlist 0 it writes none\n"
     );
     assert_eq!(
         said(4),
         "chaldoref: standard input: refused 4: a read leaf has a body whose first byte is not 0\n\
+         chaldoref: not proved: track 1 (ID 1), stsd at byte 304: has version 1, and must have 0\n\
          chaldoref: hint: atoms are read in version 0 alone; ffmpeg writes a ctts of version 1 with \
          -movflags negative_cts_offsets\n"
     );
@@ -181,7 +214,9 @@ fn a_file_of_one_byte_too_many() {
     let path = folder.path("long.mov");
     File::create(&path).unwrap().set_len(2_147_483_648).unwrap();
     let ran = run(&["tracks".as_ref(), path.as_os_str()]);
-    assert!(ran.err.ends_with(": refused 1: the file is longer than 2,147,483,647 bytes\n"), "{}", ran.err);
+    let said = ": refused 1: the file is longer than 2,147,483,647 bytes\n\
+                chaldoref: not proved: the file has at least 2147483648 bytes, and may have 2147483647\n";
+    assert!(ran.err.ends_with(said), "{}", ran.err);
     assert_eq!((ran.out.as_str(), ran.status), ("", 1));
 }
 

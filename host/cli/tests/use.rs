@@ -100,6 +100,7 @@ fn standard_input() {
     assert_eq!(String::from_utf8(redirected.stdout).unwrap(), run(&["tracks", W]).out);
     assert_eq!(common::run_on(&w().bytes(), &["tracks", "-"]), run(&["tracks", W]));
     let empty = program(&["tracks", "-"]).stdin(Stdio::null()).output().unwrap();
-    let said = "chaldoref: standard input: refused 3: an atom is absent or occurs too often\n";
+    let said = "chaldoref: standard input: refused 3: an atom is absent or occurs too often\n\
+                chaldoref: not proved: this is no QuickTime movie: the file is empty\n";
     assert_eq!(String::from_utf8(empty.stderr).unwrap(), said);
 }

@@ -89,9 +89,12 @@ fn files_that_are_no_movies() {
     says(&[], 3, "this is no QuickTime movie: the file is empty");
     let words = "this is no QuickTime movie: moov is absent from the file";
     says(&[0; 64], 3, words);
-    let words = "this is no QuickTime movie: 0x0D0A1A0A at byte 0 says 2303741511 bytes, the file ends after 12";
+    let words =
+        "this is no QuickTime movie; read as one, 0x0D0A1A0A at byte 0 says 2303741511 bytes, the file ends after 12";
     says(b"\x89PNG\r\n\x1a\n\0\0\0\x0d", 2, words);
-    says(b"Hello", 2, "this is no QuickTime movie: the file has 5 bytes left at byte 0, and an atom has at least 8");
+    let words =
+        "this is no QuickTime movie; read as one, the file has 5 bytes left at byte 0, and an atom has at least 8";
+    says(b"Hello", 2, words);
     // One without its moov may be the beginning of a movie.
     says(&atom("mdat", &[7; 5]).bytes(), 3, "moov is absent from the file");
 }
@@ -321,4 +324,14 @@ fn what_takes_too_much_memory_is_not_explained() {
     };
     let movie = Movie { tracks: (1..=16).map(many).collect(), ..w_movie() };
     assert_eq!(explain(&movie.file().bytes()), None);
+    // Atoms of 8 bytes, and a great moov.
+    let atoms = |n: usize| atom("free", &[]).bytes().repeat(n);
+    says(&atoms(1000), 3, "moov is absent from the file");
+    assert_eq!(explain(&atoms((1 << 22) + 1)), None);
+    let mut moov = vec![0; 1 << 28];
+    moov[..16].copy_from_slice(b"\x10\0\0\0moov\x0f\xff\xff\xf8free");
+    says(&moov, 3, "mvhd is absent from moov@");
+    moov.extend([0; 8]);
+    moov[..12].copy_from_slice(b"\x10\0\0\x08moov\x10\0\0\0");
+    assert_eq!(explain(&moov), None);
 }

@@ -34,9 +34,13 @@ fn survey(file: &[u8]) -> Survey {
 }
 
 /// Says of a file that has nothing of a movie that it is none.
-fn of_no_movie(file: &[u8], words: &str) -> String {
-    let why = if file.is_empty() { "the file is empty" } else { words };
-    format!("this is no QuickTime movie: {why}")
+fn of_no_movie(file: &[u8], (number, words): Refused) -> Refused {
+    let why = match number {
+        _ if file.is_empty() => ": the file is empty".to_string(),
+        2 => format!("; read as one, {words}"),
+        _ => format!(": {words}"),
+    };
+    (number, format!("this is no QuickTime movie{why}"))
 }
 
 /// The number with which a file is refused, and why; nothing where it is accepted, or has too much to be written out.
@@ -47,7 +51,7 @@ pub fn explain(file: &[u8]) -> Option<Refused> {
     }
     let (found, tables) = match read_tables(file) {
         Ok(read) => read,
-        Err((number @ 2..=3, words)) if !seen.is_movie => return Some((number, of_no_movie(file, &words))),
+        Err(refused @ (2..=3, _)) if !seen.is_movie => return Some(of_no_movie(file, refused)),
         Err(refused) => return Some(refused),
     };
     if tables.tracks.iter().map(|track| track.sizes.len()).sum::<usize>() > MOST_SAMPLES {

@@ -1,0 +1,38 @@
+//! The reference explains each film that the library refuses, and with the same number.
+use chaldoref::{Movie, Refusal};
+use reference::maker::damage::damage_bytes;
+use reference::maker::{film, valid, Random};
+use reference::movie::{explain, refusal};
+
+/// The number of each refusal of a film, 0 for none: the library's, which the explanation and the reference share.
+#[track_caller]
+fn number(film: &[u8]) -> usize {
+    let number = Movie::open(film).err().map_or(0, Refusal::number);
+    let explained = explain(film);
+    assert_eq!(explained.as_ref().map_or(0, |refused| refused.0), number, "{explained:?}");
+    assert_eq!(refusal(film), number);
+    number.try_into().unwrap()
+}
+
+#[test]
+fn films_of_every_kind() {
+    let mut met = [0; 14];
+    for index in 0..1000 {
+        met[number(&film(&mut Random::of(6, index)))] += 1;
+    }
+    // Refusal 1 takes 2 GiB.
+    met[1] += 1;
+    assert!(!met.contains(&0), "{met:?}");
+}
+
+#[test]
+fn films_with_damage() {
+    let mut refused = 0;
+    for index in 0..500 {
+        let mut random = Random::of(7, index);
+        let mut bytes = valid(&mut random);
+        damage_bytes(&mut random, &mut bytes);
+        refused += usize::from(number(&bytes) != 0);
+    }
+    assert!(refused > 100, "{refused}");
+}

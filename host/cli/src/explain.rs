@@ -1,0 +1,41 @@
+//! Why a film is refused, in the words of the reference. No one has proved them, so they are kept only where the reference refuses with the number of
+//! the library, which is proved.
+use chaldoref::Refusal;
+use std::panic::{self, UnwindSafe};
+
+/// What a function answers, or nothing where it stops at an error of its own: that must not take the place of the refusal, nor write anything.
+fn unless_it_stops<T>(function: impl FnOnce() -> T + UnwindSafe) -> Option<T> {
+    let hook = panic::take_hook();
+    panic::set_hook(Box::new(|_| ()));
+    let answer = panic::catch_unwind(function);
+    panic::set_hook(hook);
+    answer.ok()
+}
+
+pub fn explanation(film: &[u8], refusal: Refusal) -> Option<String> {
+    let (number, words) = unless_it_stops(|| reference::movie::explain(film))??;
+    (number == refusal.number()).then_some(words)
+}
+
+#[cfg(test)]
+mod tests {
+    use super::*;
+    use reference::film::w;
+
+    #[test]
+    fn words_are_kept_for_the_same_number_alone() {
+        let mut film = w();
+        film.remove("moov mvhd");
+        let film = film.bytes();
+        assert_eq!(explanation(&film, Refusal::AtomCount).as_deref(), Some("mvhd is absent from moov at byte 0"));
+        assert_eq!(explanation(&film, Refusal::AtomSize), None);
+        assert_eq!(explanation(&w().bytes(), Refusal::AtomCount), None);
+    }
+
+    #[test]
+    fn an_error_of_the_reference_is_no_error_of_the_program() {
+        let none: Vec<u8> = vec![];
+        assert_eq!(unless_it_stops(|| none[0]), None);
+        assert_eq!(unless_it_stops(|| 7), Some(7));
+    }
+}
