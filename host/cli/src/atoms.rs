@@ -73,7 +73,7 @@ mod tests {
     use reference::film::{atom, w, w_movie, w_track, Movie, Size, Track};
     use reference::made::moov_last;
     use reference::maker::{valid, Random};
-    use reference::movie::atoms::{atoms, leaves};
+    use reference::movie::atoms::{leaves, tree};
 
     fn types(atoms: Atoms) -> Vec<String> {
         atoms.map(|(found, _)| String::from_utf8(found.to_vec()).unwrap()).collect()
@@ -125,7 +125,7 @@ mod tests {
         for n in 0..300 {
             let film = valid(&mut Random::of(24, n));
             assert!(!has_fragments(&film), "{n}");
-            for track in leaves(&atoms(b"file", &film).unwrap()).unwrap().tracks {
+            for track in leaves(&tree(&film).unwrap()).unwrap().tracks {
                 let id = u32::try_from(track.tkhd.number(20)).unwrap();
                 assert_eq!(has_ctts(&film, id), track.ctts.is_some(), "{n}, track {id}");
                 found[usize::from(track.ctts.is_some())] += 1;

@@ -294,10 +294,11 @@ fn unreadable_files() {
 fn a_film_that_is_refused() {
     let desk = Desk::of_tracks("refused", vec![w_with(|track| track.duration = 121)]);
     let reason = "the mdhd duration is not the total of the sample durations";
-    let err = format!("chaldoref: film.mov: refused 11: {reason}\n");
+    let why = "track 1 (ID 1), mdhd at byte 224: has duration 121, the samples of stts total 120";
+    let err = format!("chaldoref: film.mov: refused 11: {reason}\nchaldoref: not proved: {why}\n");
     desk.typed("w", OF_W);
     assert_eq!(desk.check("w"), Ran { out: String::new(), err: err.clone(), status: 1 });
-    let out = format!("{{\"refused\":11,\"reason\":\"{reason}\"}}\n");
+    let out = format!("{{\"refused\":11,\"reason\":\"{reason}\",\"explanation\":\"{why}\"}}\n");
     assert_eq!(desk.check("--json w"), Ran { out, err, status: 1 });
 }
 
