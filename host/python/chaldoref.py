@@ -1,0 +1,444 @@
+"""Chaldoref: a verified reader of QuickTime movie tables, over the shared library libchaldoref.so.0.
+
+    >>> from chaldoref import Movie, read_slip
+    >>> movie = Movie(open("films/two-hoses.mov", "rb").read())
+    >>> movie.sample_bytes(2, movie.sample_at(2, 24))
+    b'hose 2 picture 2'
+    >>> read_slip(movie.write_slip(2, 24, 96)).film_time
+    72
+
+Each question is put to the library, whose functions are proved to meet their contracts. This module is not proved: it
+lends the library its bytes and rooms, and names the numbers that come back. What the library refuses is raised as
+Refused, with the refusal's number and words. The numbers asked are whole numbers of 32 bits without a sign; any other
+is a ValueError, since the library cannot be asked it.
+
+The loader finds the library: where the package puts it, or in a folder of LD_LIBRARY_PATH. Any number of threads may
+ask the same Movie at once.
+"""
+from __future__ import annotations
+
+import ctypes
+import enum
+import operator
+from dataclasses import dataclass
+from typing import Any, Dict, Optional, Tuple, Union
+
+__all__ = [
+    "FEATURES", "ByteRange", "MalformedSlip", "Movie", "Peak", "ProfileRecord", "Refusal", "Refused", "Sample", "Slip",
+    "Stretch", "Track", "read_slip",
+]
+
+#: What the library and this module take as bytes. All but bytes are copied, since nothing may write to them in a call.
+Bytes = Union[bytes, bytearray, memoryview]
+
+#: The features that can be computed, by their codes, and the name of each.
+FEATURES = {
+    "avvb": "average video bit rate",
+    "avab": "average audio bit rate",
+    "tvsz": "greatest picture",
+    "vfps": "highest frame rate",
+    "mvbr": "highest video bit rate over one second",
+    "mabr": "highest audio bit rate over one second",
+}
+
+# As include/chaldoref.h has them.
+_TRACK_NUMBERS, _PAIR_NUMBERS, _RECORD_NUMBERS = 7, 2, 3
+_MAX_TRACKS, _MAX_PAIRS, _MAX_RECORDS = 16, 1_048_576, 64
+_SLIP_HEAD_BYTES, _SLIP_PAIR_BYTES = 24, 10
+
+
+class Refusal(enum.IntEnum):
+    """The refusals, by their numbers in document 01."""
+
+    FILE_TOO_LONG = 1
+    ATOM_SIZE = 2
+    ATOM_COUNT = 3
+    LEAF_VERSION = 4
+    LEAF_SIZE = 5
+    OVER_LIMIT = 6
+    TRACK_IDS = 7
+    TIME_SCALE = 8
+    TABLES = 9
+    TOTAL_DURATION = 10
+    STORED_DURATION = 11
+    PAST_END = 12
+    EDIT_LIST = 13
+    NO_TRACK = 14
+    OUTSIDE = 15
+    NO_ROOM = 16
+    MALFORMED_SLIP = 17
+    NOT_COMPUTED = 18
+
+    @property
+    def words(self) -> str:
+        """When document 01 gives this refusal, in its own words."""
+        return _WORDS[self]
+
+
+_WORDS = {
+    Refusal.FILE_TOO_LONG: "the file is longer than 2,147,483,647 bytes",
+    Refusal.ATOM_SIZE:
+        "an atom's size is wrong, passes its parent's end, or 1 to 7 bytes (under 16 for a 64-bit size) remain",
+    Refusal.ATOM_COUNT: "an atom is absent or occurs too often",
+    Refusal.LEAF_VERSION: "a read leaf has a body whose first byte is not 0",
+    Refusal.LEAF_SIZE: "a read leaf or profile hasn't its size",
+    Refusal.OVER_LIMIT:
+        "over 16 tracks, or in one track over 1,048,576 samples or chunks, 256 edits or 64 descriptions; "
+        "in one profile over 64 records",
+    Refusal.TRACK_IDS: "a track ID is 0 or occurs twice",
+    Refusal.TIME_SCALE: "a movie or media time scale is 0",
+    Refusal.TABLES: "sample tables contradict each other",
+    Refusal.TOTAL_DURATION: "the sample durations, or a track's edit durations, total over 4,294,967,295",
+    Refusal.STORED_DURATION: "the mdhd duration is not the total of the sample durations",
+    Refusal.PAST_END: "a chunk's offset plus the sizes of its samples passes the file's end",
+    Refusal.EDIT_LIST: "an edit list is wrong",
+    Refusal.NO_TRACK: "no track has that ID",
+    Refusal.OUTSIDE: "the sample number is not in 1 to N, or the time or stretch lies outside",
+    Refusal.NO_ROOM: "the lent room is shorter than the answer",
+    Refusal.MALFORMED_SLIP: "a slip is malformed",
+    Refusal.NOT_COMPUTED: "the feature cannot be computed",
+}
+
+
+class Refused(Exception):
+    """A question that the library refuses, or a file."""
+
+    #: The refusal's number in document 01, 1 to 18.
+    number: Refusal
+
+    def __init__(self, number: int) -> None:
+        super().__init__(number)
+        self.number = Refusal(number)
+
+    @property
+    def words(self) -> str:
+        """When document 01 gives this refusal, in its own words."""
+        return self.number.words
+
+    def __str__(self) -> str:
+        return f"refused {int(self.number)}: {self.words}"
+
+
+class MalformedSlip(Refused):
+    """Refusal 17 of bytes that are no slip, and where they go wrong."""
+
+    #: The first fault, counted in bytes from 0: the first byte of the first number that breaks a rule, the slip's
+    #: length if it ends early, or the first surplus byte.
+    place: int
+
+    def __init__(self, place: int) -> None:
+        super().__init__(Refusal.MALFORMED_SLIP)
+        self.args = (place,)
+        self.place = place
+
+    def __str__(self) -> str:
+        return f"{super().__str__()}, at place {self.place}"
+
+
+@dataclass(frozen=True)
+class Track:
+    """A track of the track list."""
+
+    #: Its ID, which no other track of the movie has.
+    id: int
+    #: What its handler says it is, such as "vide" or "soun": four characters, one for each byte (Latin-1).
+    subtype: str
+    #: The time scale of its media: units a second.
+    scale: int
+    #: The total of its samples' durations, which is where its media ends.
+    total: int
+    #: The number of its samples.
+    samples: int
+    #: The number of its chunks.
+    chunks: int
+    #: The number of its edits; 0 without an edit list.
+    edits: int
+
+
+@dataclass(frozen=True)
+class Sample:
+    """A sample of a track."""
+
+    #: Where it starts: the total of the durations before it.
+    decode: int
+    #: How long it lasts; it may be 0.
+    duration: int
+    #: When it is shown: the decode time plus the sample's offset, which may be negative.
+    composition: int
+    #: Whether it is a sync sample.
+    sync: bool
+    #: The ID of its sample description, from 1.
+    description: int
+    #: The number of its chunk, from 1.
+    chunk: int
+    #: The place of its first byte in the file.
+    offset: int
+    #: The number of its bytes; it may be 0.
+    size: int
+
+
+@dataclass(frozen=True)
+class ByteRange:
+    """Some bytes of a film: as many as length from offset on, counted from the file's first byte."""
+
+    #: The first byte's place in the file.
+    offset: int
+    #: The number of bytes; it may be 0.
+    length: int
+
+
+@dataclass(frozen=True)
+class Stretch:
+    """The bytes of a stretch of a track."""
+
+    #: One range for each chunk touched, in chunk order.
+    pairs: Tuple[ByteRange, ...]
+    #: The total of their lengths.
+    bytes: int
+
+
+@dataclass(frozen=True)
+class ProfileRecord:
+    """A record of a stored profile."""
+
+    #: The part-ID.
+    part: int
+    #: The feature's code: four characters, one for each byte (Latin-1).
+    code: str
+    #: The feature's value as the file has it; nothing checks it.
+    value: int
+
+
+@dataclass(frozen=True)
+class Peak:
+    """Where a track has its highest bit rate over one second: a run of samples."""
+
+    #: The number of its first sample, from 1.
+    first: int
+    #: The number of its samples.
+    samples: int
+
+
+@dataclass(frozen=True)
+class Slip:
+    """A slip: the receipt that files which bytes of film belong to a stretch of a track."""
+
+    #: The ID of the track that is filed. It is not 0.
+    track: int
+    #: The time scale of a and b: units a second. It is not 0.
+    scale: int
+    #: Where the stretch starts.
+    a: int
+    #: Where it ends: the first time after it. It is above a.
+    b: int
+    #: The bytes, at least one range. Nothing ties them to a film or to each other.
+    pairs: Tuple[ByteRange, ...]
+
+    @property
+    def film_time(self) -> int:
+        """The film time that is filed, from a to b, in units of the slip's time scale."""
+        return self.b - self.a
+
+    @property
+    def bytes(self) -> int:
+        """The total of the pairs' lengths."""
+        return sum(pair.length for pair in self.pairs)
+
+
+class Movie:
+    """A movie file that the library has accepted. Times and totals of a track are in its own time scale.
+
+    Each question judges the whole file again, in time that grows with the movie's tables.
+    """
+
+    def __init__(self, file: Bytes) -> None:
+        """Judges a whole movie file and reads its track list. Refusals 1 to 13."""
+        self._file = _lent(file)
+        room = _room(ctypes.c_uint32, _TRACK_NUMBERS * _MAX_TRACKS)
+        count, = self._ask("track_list", 1, room=room)
+        rows = _rows(room, count, _TRACK_NUMBERS)
+        self._tracks = tuple(Track(row[0], _characters(row[1]), *row[2:]) for row in rows)
+
+    @property
+    def file(self) -> bytes:
+        """The file's bytes."""
+        return self._file
+
+    def tracks(self) -> Tuple[Track, ...]:
+        """The tracks, in file order. There may be none, and there are 16 at most."""
+        return self._tracks
+
+    def sample(self, track: int, n: int) -> Sample:
+        """Sample n of a track, numbered from 1. Refusals 14, 15."""
+        decode, duration, composition, sync, *rest = self._ask("sample", 8, track, n, place=ctypes.c_int64)
+        return Sample(decode, duration, composition, sync == 1, *rest)
+
+    def sample_bytes(self, track: int, n: int) -> bytes:
+        """The bytes of sample n of a track, numbered from 1. Refusals 14, 15."""
+        offset, length = self._ask("sample_bytes", 2, track, n)
+        return self._file[offset:offset + length]
+
+    def sample_at(self, track: int, t: int) -> int:
+        """The number of the sample at media time t: decode time <= t < decode time + duration. Refusals 14, 15."""
+        n, = self._ask("sample_at", 1, track, t)
+        return n
+
+    def media_time(self, track: int, t: int) -> Optional[int]:
+        """The media time that a track shows at movie time t, in the movie's time scale; None where nothing is shown.
+        Refusals 14, 15."""
+        shown, media = self._ask("media_time", 2, track, t)
+        return media if shown else None
+
+    def stretch(self, track: int, a: int, b: int) -> Stretch:
+        """The bytes of a track from media time a to b (a < b <= total): all samples from the one at a to the one at
+        b - 1. Refusals 14, 15."""
+        room = _room(ctypes.c_uint32, _PAIR_NUMBERS * self._chunks(track))
+        count, total = self._ask("stretch", 2, track, a, b, room=room)
+        return Stretch(_pairs(room, count), total)
+
+    def write_slip(self, track: int, a: int, b: int) -> bytes:
+        """The slip of a track's stretch from media time a to b. Refusals 14, 15."""
+        out = _room(ctypes.c_uint8, _SLIP_HEAD_BYTES + _SLIP_PAIR_BYTES * self._chunks(track))
+        length, = self._ask("write_slip", 1, track, a, b, room=out)
+        return bytes(memoryview(out)[:length])
+
+    def profile(self, track: int) -> Tuple[ProfileRecord, ...]:
+        """The stored profile of a track, or for 0 of the movie: its records with a code other than 0; none where there
+        is no profile. Refusal 14 (not for 0)."""
+        room = _room(ctypes.c_uint32, _RECORD_NUMBERS * _MAX_RECORDS)
+        count, = self._ask("profile", 1, track, room=room)
+        rows = _rows(room, count, _RECORD_NUMBERS)
+        return tuple(ProfileRecord(part, _characters(code), value) for part, code, value in rows)
+
+    def feature(self, track: int, code: str) -> int:
+        """A feature computed from a track's tables, by its code: bits a second for avvb, avab, mvbr and mabr; width *
+        65536 + height for tvsz; frames a second * 65536 for vfps. Refusals 14, 18; every code that is not in FEATURES
+        is refused 18."""
+        value, = self._ask("feature", 1, track, _code(code))
+        return value
+
+    def features(self, track: int) -> Dict[str, int]:
+        """The features that can be computed of a track, by their codes; those that are refused 18 are left out.
+        Refusal 14."""
+        values = {}
+        for code in FEATURES:
+            try:
+                values[code] = self.feature(track, code)
+            except Refused as refused:
+                if refused.number != Refusal.NOT_COMPUTED:
+                    raise
+        return values
+
+    def peak(self, track: int, code: str) -> Peak:
+        """Where a track has its highest bit rate over one second, by its code, mvbr or mabr: the first run of samples
+        that has the greatest. Refused as that feature is; every other code is refused 18."""
+        return Peak(*self._ask("peak", 2, track, _code(code)))
+
+    def _chunks(self, track: int) -> int:
+        """How many pairs a stretch of a track has at most. The library refuses an unknown ID, whatever the room."""
+        return next((known.chunks for known in self._tracks if known.id == track), 0)
+
+    def _ask(self, name: str, count: int, *numbers: int, room: Any = None, place: Any = ctypes.c_uint64) -> Any:
+        """Puts a question about the file; what comes back are its places, as many as count."""
+        lent = (room, len(room)) if room is not None else ()
+        places = (place * count)()
+        asked = [_number(number) for number in numbers]
+        answer = _function(name)(self._file, len(self._file), *asked, *lent, places, count)
+        if answer != 0:
+            raise Refused(answer)
+        return list(places)
+
+
+def read_slip(slip: Bytes) -> Slip:
+    """Reads a slip, which must take up all of the bytes. What is no slip is refused 17, as MalformedSlip."""
+    slip = _lent(slip)
+    # Each number of a pair takes a byte at least.
+    room = _room(ctypes.c_uint32, _PAIR_NUMBERS * min(len(slip) // 2, _MAX_PAIRS))
+    places = (ctypes.c_uint64 * 6)()
+    answer = _function("read_slip")(slip, len(slip), room, len(room), places, len(places))
+    track, scale, a, b, count, place = places
+    if answer == Refusal.MALFORMED_SLIP:
+        raise MalformedSlip(place)
+    if answer != 0:
+        raise Refused(answer)
+    return Slip(track, scale, a, b, _pairs(room, count))
+
+
+# How each function is called after its first two parameters, the bytes and their length, and before its last two, the
+# places and their number: n is a number, r is room or out and its length.
+_PARAMETERS = {
+    "track_list": "r",
+    "sample": "nn",
+    "sample_bytes": "nn",
+    "sample_at": "nn",
+    "media_time": "nn",
+    "stretch": "nnnr",
+    "profile": "nr",
+    "feature": "nn",
+    "peak": "nn",
+    "read_slip": "r",
+    "write_slip": "nnnr",
+}
+
+# A call through CDLL lets other threads of Python run, as the library keeps no state.
+_library = ctypes.CDLL("libchaldoref.so.0")
+
+
+def _declared(name: str) -> Any:
+    """A function of the library with its types."""
+    # A bytes object is passed as the pointer to its first byte, which is not NULL for empty ones.
+    types = [ctypes.c_char_p, ctypes.c_size_t]
+    for letter in _PARAMETERS[name]:
+        types += [ctypes.c_uint32] if letter == "n" else [ctypes.c_void_p, ctypes.c_size_t]
+    function = getattr(_library, "chaldoref_" + name)
+    function.argtypes = types + [ctypes.c_void_p, ctypes.c_size_t]
+    function.restype = ctypes.c_uint32
+    return function
+
+
+_FUNCTIONS = {name: _declared(name) for name in _PARAMETERS}
+
+
+def _function(name: str) -> Any:
+    return _FUNCTIONS[name]
+
+
+def _lent(given: Bytes) -> bytes:
+    """Bytes that nothing can change in a call. What is not made of bytes, such as a number or text, is a TypeError."""
+    return given if isinstance(given, bytes) else bytes(memoryview(given))
+
+
+def _room(kind: Any, count: int) -> Any:
+    """Room for so many numbers, and for one where there are none, so that its pointer is not NULL."""
+    return (kind * max(count, 1))()
+
+
+def _number(number: int) -> int:
+    """A number of 32 bits without a sign: ctypes would cut off the rest of any other."""
+    number = operator.index(number)
+    if not 0 <= number < 2**32:
+        raise ValueError(f"{number} is not in 0 to 4294967295")
+    return number
+
+
+def _code(code: str) -> int:
+    """A four-character code as its big-endian number."""
+    if len(code) != 4 or max(code) > "\xff":
+        raise ValueError(f"{code!r} is not a four-character code")
+    return int.from_bytes(code.encode("latin-1"), "big")
+
+
+def _characters(code: int) -> str:
+    """The four characters of a code."""
+    return code.to_bytes(4, "big").decode("latin-1")
+
+
+def _rows(room: Any, count: int, width: int) -> Any:
+    """The first rows of a room, each as a list of its numbers."""
+    numbers = room[:count * width]
+    return (numbers[i:i + width] for i in range(0, len(numbers), width))
+
+
+def _pairs(room: Any, count: int) -> Tuple[ByteRange, ...]:
+    """The first pairs of a room."""
+    return tuple(ByteRange(*pair) for pair in _rows(room, count, _PAIR_NUMBERS))

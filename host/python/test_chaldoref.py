@@ -1,0 +1,301 @@
+"""Tests of the Python module, on film W with document 01's worked cases and on the film of two hoses.
+
+They run in the repository's top folder, whose films and header they read, with the library in a folder that the loader
+searches and the module beside this file or on PYTHONPATH:
+
+    LD_LIBRARY_PATH=FOLDER python3 host/python/test_chaldoref.py
+"""
+import ctypes
+import pickle
+import re
+import threading
+import unittest
+from pathlib import Path
+
+import chaldoref
+from chaldoref import (
+    FEATURES, ByteRange, MalformedSlip, Movie, Peak, ProfileRecord, Refusal, Refused, Sample, Track, read_slip,
+)
+
+W = Path("films/w.mov").read_bytes()
+TWO_HOSES = Path("films/two-hoses.mov").read_bytes()
+HEADER = Path("include/chaldoref.h").read_text()
+SLIP = bytes.fromhex("01 01 D8 04 18 49 02 CC 08 32 84 07 46")
+
+
+def changed(file, place, number):
+    """A film with other bytes at the place of a 32-bit number."""
+    return file[:place] + number.to_bytes(4, "big", signed=number < 0) + file[place + 4:]
+
+
+def body(file, kind):
+    """The place of the only atom of a kind: of the first byte of its body."""
+    assert file.count(kind) == 1
+    return file.index(kind) + 4
+
+
+def resized(file, kinds, extra):
+    """A film in which the sizes of the only atoms of some kinds count extra bytes more."""
+    for kind in kinds:
+        place = body(file, kind) - 8
+        file = changed(file, place, int.from_bytes(file[place:place + 4], "big") + extra)
+    return file
+
+
+def atom(kind, content):
+    return (8 + len(content)).to_bytes(4, "big") + kind + content
+
+
+def with_atom(file, added, before, parents):
+    """A film with an atom more before the only one of a kind. The media moves with all that follows, so stco follows."""
+    place = body(file, before) - 8
+    file = resized(file, parents, len(added))
+    file = file[:place] + added + file[place:]
+    stco = body(file, b"stco") + 8
+    for chunk in (stco, stco + 4):
+        file = changed(file, chunk, int.from_bytes(file[chunk:chunk + 4], "big") + len(added))
+    return file
+
+
+def numbers(*given):
+    return b"".join(number.to_bytes(4, "big", signed=number < 0) for number in given)
+
+
+def with_edits(*edits):
+    """Film W with an edit list of durations and media times."""
+    entries = b"".join(numbers(duration, media, 65536) for duration, media in edits)
+    return with_atom(W, atom(b"edts", atom(b"elst", numbers(0, len(edits)) + entries)), b"mdia", (b"moov", b"trak"))
+
+
+class Case(unittest.TestCase):
+    def assertRefused(self, number, question, *asked):
+        with self.assertRaises(Refused) as raised:
+            question(*asked)
+        self.assertEqual(raised.exception.number, number)
+        return raised.exception
+
+
+class FilmW(Case):
+    def setUp(self):
+        self.movie = Movie(W)
+
+    def test_tracks(self):
+        self.assertEqual(self.movie.tracks(), (Track(1, "vide", 600, 120, 4, 2, 0),))
+        self.assertIs(self.movie.file, W)
+
+    def test_samples_at_times(self):
+        for t, n in ((0, 1), (23, 1), (24, 2), (72, 4), (119, 4)):
+            self.assertEqual(self.movie.sample_at(1, t), n)
+        self.assertRefused(15, self.movie.sample_at, 1, 120)
+
+    def test_samples(self):
+        self.assertEqual(self.movie.sample(1, 3), Sample(48, 24, 48, True, 1, 1, 1150, 0))
+        self.assertEqual(self.movie.sample(1, 4), Sample(72, 48, 72, True, 1, 2, 900, 70))
+        self.assertRefused(15, self.movie.sample, 1, 0)
+        self.assertRefused(15, self.movie.sample, 1, 5)
+        self.assertRefused(14, self.movie.sample, 2, 1)
+
+    def test_sample_bytes(self):
+        self.assertEqual(self.movie.sample_bytes(1, 2), W[1100:1150])
+        self.assertEqual(self.movie.sample_bytes(1, 3), b"")
+        self.assertRefused(15, self.movie.sample_bytes, 1, 5)
+
+    def test_stretches(self):
+        stretch = self.movie.stretch(1, 24, 73)
+        self.assertEqual((stretch.pairs, stretch.bytes), ((ByteRange(1100, 50), ByteRange(900, 70)), 120))
+        stretch = self.movie.stretch(1, 0, 120)
+        self.assertEqual((stretch.pairs, stretch.bytes), ((ByteRange(1000, 150), ByteRange(900, 70)), 220))
+        self.assertRefused(15, self.movie.stretch, 1, 24, 24)
+        self.assertRefused(14, self.movie.stretch, 2, 24, 73)
+
+    def test_slip(self):
+        self.assertEqual(self.movie.write_slip(1, 24, 73), SLIP)
+        self.assertRefused(15, self.movie.write_slip, 1, 24, 24)
+        self.assertRefused(14, self.movie.write_slip, 2, 24, 73)
+
+    def test_features(self):
+        self.assertEqual(self.movie.feature(1, "avvb"), 8800)
+        self.assertEqual(self.movie.feature(1, "vfps"), 0x00190000)
+        self.assertRefused(18, self.movie.feature, 1, "avab")
+        self.assertRefused(18, self.movie.feature, 1, "\xa9cpy")
+        self.assertRefused(14, self.movie.feature, 2, "avvb")
+        expected = {"avvb": 8800, "tvsz": 320 * 65536 + 240, "vfps": 0x00190000, "mvbr": 8800}
+        self.assertEqual(self.movie.features(1), expected)
+        self.assertRefused(14, self.movie.features, 2)
+
+    def test_peak(self):
+        self.assertEqual(self.movie.peak(1, "mvbr"), Peak(1, 4))
+        self.assertRefused(18, self.movie.peak, 1, "mabr")
+        self.assertRefused(18, self.movie.peak, 1, "avvb")
+        self.assertRefused(14, self.movie.peak, 2, "mvbr")
+
+    def test_no_profile(self):
+        self.assertEqual((self.movie.profile(0), self.movie.profile(1)), ((), ()))
+        self.assertRefused(14, self.movie.profile, 2)
+
+    def test_media_time_without_edits(self):
+        self.assertEqual((self.movie.media_time(1, 0), self.movie.media_time(1, 60)), (0, 60))
+        self.assertRefused(15, self.movie.media_time, 1, 120)
+
+
+class FilmsMadeOfW(Case):
+    def test_edits(self):
+        movie = Movie(with_edits((60, -1), (60, 24)))
+        self.assertEqual(movie.tracks()[0].edits, 2)
+        self.assertIsNone(movie.media_time(1, 59))
+        self.assertEqual((movie.media_time(1, 60), movie.media_time(1, 119)), (24, 83))
+        self.assertRefused(15, movie.media_time, 1, 120)
+        self.assertRefused(13, Movie, with_edits((60, -1), (60, 61)))
+        self.assertEqual(Movie(with_edits((60, -1), (60, 60))).media_time(1, 119), 119)
+
+    def test_highest_frame_rate(self):
+        mdhd, stts = body(W, b"mdhd"), body(W, b"stts")
+        film = W
+        for place, number in ((mdhd + 12, 30000), (mdhd + 16, 3 * 1001 + 2002), (stts + 12, 1001), (stts + 20, 2002)):
+            film = changed(film, place, number)
+        self.assertEqual(Movie(film).feature(1, "vfps"), 0x001DF854)
+
+    def test_stored_duration(self):
+        self.assertRefused(11, Movie, changed(W, body(W, b"mdhd") + 16, 121))
+
+    def test_chunk_past_the_end(self):
+        second = body(W, b"stco") + 12
+        self.assertRefused(12, Movie, changed(W, second, 4027))
+        self.assertEqual(Movie(changed(W, second, 4026)).sample(1, 4).offset, 4026)
+
+    def test_negative_composition_time(self):
+        ctts = atom(b"ctts", numbers(0, 1, 4, -50))
+        movie = Movie(with_atom(W, ctts, b"stsc", (b"moov", b"trak", b"mdia", b"minf", b"stbl")))
+        self.assertEqual([movie.sample(1, n).composition for n in (1, 2, 3, 4)], [-50, -26, -2, 22])
+
+    def test_profile(self):
+        avvb, none = int.from_bytes(b"avvb", "big"), 0
+        prfl = atom(b"prfl", numbers(0, 2, 0, 7, avvb, 8800, 0, 7, none, 5))
+        self.assertEqual(Movie(with_atom(W, prfl, b"tkhd", (b"moov", b"trak"))).profile(1),
+                         (ProfileRecord(7, "avvb", 8800),))
+        self.assertEqual(Movie(with_atom(W, prfl, b"mvhd", (b"moov",))).profile(0), (ProfileRecord(7, "avvb", 8800),))
+
+
+class TwoHoses(Case):
+    def setUp(self):
+        self.movie = Movie(TWO_HOSES)
+
+    def test_tracks(self):
+        hose = ("vide", 600, 144, 6, 3, 0)
+        self.assertEqual(self.movie.tracks(), (Track(1, *hose), Track(2, *hose)))
+
+    def test_pictures(self):
+        for hose in (1, 2):
+            for n in range(1, 7):
+                self.assertEqual(self.movie.sample_bytes(hose, n), f"hose {hose} picture {n}".encode())
+
+    def test_second_hose(self):
+        stretch = self.movie.stretch(2, 0, 144)
+        self.assertEqual(stretch.pairs, (ByteRange(1092, 32), ByteRange(1156, 32), ByteRange(1220, 32)))
+        self.assertEqual(stretch.bytes, 96)
+
+    def test_film_time_filed(self):
+        slips = [read_slip(self.movie.write_slip(2, a, b)) for a, b in ((0, 24), (24, 144))]
+        self.assertEqual([slip.film_time for slip in slips], [24, 120])
+        self.assertEqual([slip.bytes for slip in slips], [16, 80])
+
+    def test_threads(self):
+        found = []
+        threads = [threading.Thread(target=lambda t=t: found.append(self.movie.sample_at(1, t))) for t in range(144)]
+        for thread in threads:
+            thread.start()
+        for thread in threads:
+            thread.join()
+        self.assertEqual(sorted(found), [n for n in range(1, 7) for _ in range(24)])
+
+
+class Slips(Case):
+    def test_read(self):
+        slip = read_slip(SLIP)
+        self.assertEqual((slip.track, slip.scale, slip.a, slip.b), (1, 600, 24, 73))
+        self.assertEqual(slip.pairs, (ByteRange(1100, 50), ByteRange(900, 70)))
+        self.assertEqual((slip.film_time, slip.bytes), (49, 120))
+
+    def test_places_of_faults(self):
+        a_not_below_b = bytes.fromhex("01 01 D8 04 18 18 02 CC 08 32 84 07 46")
+        for slip, place in ((b"", 0), (SLIP[:12], 12), (SLIP + b"\0", 13), (b"\2" + SLIP[1:], 0), (a_not_below_b, 5)):
+            refused = self.assertRefused(17, read_slip, slip)
+            self.assertIsInstance(refused, MalformedSlip)
+            self.assertEqual(refused.place, place)
+            self.assertEqual(str(refused), f"refused 17: a slip is malformed, at place {place}")
+
+
+class Asking(Case):
+    def test_nothing_is_lent_as_null(self):
+        self.assertTrue(ctypes.cast(ctypes.c_char_p(b""), ctypes.c_void_p).value)
+        self.assertTrue(ctypes.addressof(chaldoref._room(ctypes.c_uint32, 0)))
+
+    def test_what_is_no_movie(self):
+        refused = self.assertRefused(3, Movie, b"")
+        self.assertEqual(refused.words, "an atom is absent or occurs too often")
+        self.assertEqual(str(refused), "refused 3: an atom is absent or occurs too often")
+        self.assertRefused(2, Movie, W[:1000])
+
+    def test_other_bytes_are_copied(self):
+        given = bytearray(W)
+        movies = (Movie(given), Movie(memoryview(given)), Movie(memoryview(b"x" + W)[1:]))
+        given[:] = bytes(len(given))
+        for movie in movies:
+            self.assertEqual(movie.sample_at(1, 24), 2)
+        self.assertEqual(read_slip(bytearray(SLIP)), read_slip(SLIP))
+
+    def test_what_is_not_bytes(self):
+        for given in (4096, "w.mov", None, [0, 1]):
+            self.assertRaises(TypeError, Movie, given)
+            self.assertRaises(TypeError, read_slip, given)
+
+    def test_numbers_are_not_cut_off(self):
+        movie = Movie(W)
+        for number in (-1, 2**32, 2**32 + 1, 2**64 + 1):
+            self.assertRaises(ValueError, movie.sample, 1, number)
+            self.assertRaises(ValueError, movie.sample_at, number, 0)
+            self.assertRaises(ValueError, movie.stretch, 1, 0, number)
+        self.assertRefused(15, movie.sample, 1, 2**32 - 1)
+        self.assertRaises(TypeError, movie.sample, 1, 1.5)
+
+    def test_codes(self):
+        for code in ("", "avv", "avvbx", "avv\u0100"):
+            self.assertRaises(ValueError, Movie(W).feature, 1, code)
+
+    def test_refusals_are_pickled(self):
+        for refused in (Refused(15), MalformedSlip(5)):
+            again = pickle.loads(pickle.dumps(refused))
+            self.assertEqual((type(again), again.number, str(again)), (type(refused), refused.number, str(refused)))
+            self.assertEqual(vars(again), vars(refused))
+
+
+class Header(unittest.TestCase):
+    """The module has the header's numbers, names and functions."""
+
+    def test_refusals(self):
+        constants = dict(re.findall(r"CHALDOREF_(\w+) = (\d+)", HEADER.split("How many places")[0]))
+        del constants["ANSWERED"]
+        self.assertEqual({name: int(number) for name, number in constants.items()},
+                         {refusal.name: refusal.value for refusal in Refusal})
+        self.assertEqual(len({refusal.words for refusal in Refusal}), 18)
+
+    def test_sizes(self):
+        for name in ("TRACK_NUMBERS", "PAIR_NUMBERS", "RECORD_NUMBERS", "MAX_TRACKS", "MAX_PAIRS", "MAX_RECORDS",
+                     "SLIP_HEAD_BYTES", "SLIP_PAIR_BYTES"):
+            self.assertIn(f"CHALDOREF_{name} = {getattr(chaldoref, '_' + name)}", HEADER)
+
+    def test_functions(self):
+        declared = {name: parameters for name, parameters in re.findall(r"chaldoref_(\w+)\((.*?)\);", HEADER, re.S)}
+        self.assertEqual(set(declared), set(chaldoref._PARAMETERS))
+        for name, parameters in declared.items():
+            letters = re.findall(r"uint32_t (?:id|n|t|a|b|code)\b|\*(?:room|out)\b", parameters)
+            self.assertEqual("".join("r" if "*" in letter else "n" for letter in letters), chaldoref._PARAMETERS[name])
+
+    def test_features(self):
+        codes = re.findall(r"define CHALDOREF_(\w+) UINT32_C\((\w+)\)", HEADER)
+        self.assertEqual([(name.lower(), int(number, 16)) for name, number in codes],
+                         [(code, int.from_bytes(code.encode(), "big")) for code in FEATURES])
+
+
+if __name__ == "__main__":
+    unittest.main()
