@@ -47,7 +47,7 @@ def atom(kind, content):
 
 
 def with_atom(file, added, before, parents):
-    """A film with an atom more before the only one of a kind. The media moves with all that follows, so stco follows."""
+    """A film with an atom more before the only one of a kind. The media moves with what follows, and stco tells so."""
     place = body(file, before) - 8
     file = resized(file, parents, len(added))
     file = file[:place] + added + file[place:]
