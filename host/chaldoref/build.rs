@@ -1,18 +1,66 @@
-//! Links the proved static library, `libchaldoref.a` (a copy of what `rt staticlib capi` writes). `host/build-library` makes it in `host/target/library`;
-//! CHALDOREF_LIB_DIR names another folder, such as an installed one.
-use std::path::PathBuf;
+//! Links the proved static library, `libchaldoref.a` (a copy of what `rt staticlib capi` writes). It is looked for in
+//! the folder that `CHALDOREF_LIB_DIR` names; without that, where `host/build-library` puts it; then where pkg-config
+//! says that it is installed.
+use std::env::var_os;
+use std::ffi::OsStr;
+use std::path::{Path, PathBuf};
+use std::process::{exit, Command, Stdio};
+
+const ARCHIVE: &str = "libchaldoref.a";
+const VARIABLES: [&str; 4] = ["CHALDOREF_LIB_DIR", "PKG_CONFIG", "PKG_CONFIG_PATH", "PKG_CONFIG_LIBDIR"];
 
 fn main() {
-    println!("cargo:rerun-if-env-changed=CHALDOREF_LIB_DIR");
-    let folder = std::env::var_os("CHALDOREF_LIB_DIR").map_or_else(
-        || PathBuf::from(std::env::var_os("CARGO_MANIFEST_DIR").unwrap()).join("../target/library"),
-        PathBuf::from,
-    );
-    let archive = folder.join("libchaldoref.a");
-    println!("cargo:rerun-if-changed={}", archive.display());
-    if !archive.is_file() {
-        panic!("{} is not there: run host/build-library, or name its folder in CHALDOREF_LIB_DIR", archive.display());
+    for name in VARIABLES {
+        println!("cargo:rerun-if-env-changed={name}");
     }
+    let folder = folder().unwrap_or_else(|message| {
+        eprintln!("error: {message}");
+        exit(1)
+    });
+    // rustc runs in another folder than this program, so that a relative name would not do.
+    let folder = folder.canonicalize().unwrap_or(folder);
+    println!("cargo:rerun-if-changed={}", folder.join(ARCHIVE).display());
     println!("cargo:rustc-link-search=native={}", folder.display());
     println!("cargo:rustc-link-lib=static=chaldoref");
+    // For the tests in C, which link the same library.
+    println!("cargo:rustc-env=CHALDOREF_LINKED_DIR={}", folder.display());
+}
+
+/// The folder of the library, or what to do about it.
+fn folder() -> Result<PathBuf, String> {
+    if let Some(named) = var_os("CHALDOREF_LIB_DIR").map(PathBuf::from) {
+        let message = format!("CHALDOREF_LIB_DIR is {}, where there is no {ARCHIVE}", named.display());
+        return has_library(&named).then_some(named).ok_or(message);
+    }
+    let built = PathBuf::from(var_os("CARGO_MANIFEST_DIR").unwrap_or_default()).join("../target/library");
+    // Whether or not it is there now: it is taken as soon as it is.
+    println!("cargo:rerun-if-changed={}", built.join(ARCHIVE).display());
+    if has_library(&built) {
+        return Ok(built);
+    }
+    installed().filter(|folder| has_library(folder)).ok_or_else(|| {
+        format!(
+            "{ARCHIVE} is neither in {} nor known to pkg-config. Do one of these:\n  \
+             run host/build-library;\n  \
+             set CHALDOREF_LIB_DIR to the folder that has it;\n  \
+             set PKG_CONFIG_PATH to the folder lib/pkgconfig of where host/install has put it",
+            built.display()
+        )
+    })
+}
+
+fn has_library(folder: &Path) -> bool {
+    folder.join(ARCHIVE).is_file()
+}
+
+/// Where pkg-config says that the library is, if there is a pkg-config and it knows.
+fn installed() -> Option<PathBuf> {
+    let program = var_os("PKG_CONFIG");
+    let output = Command::new(program.as_deref().unwrap_or(OsStr::new("pkg-config")))
+        .args(["--variable=libdir", "chaldoref"])
+        .stderr(Stdio::null())
+        .output()
+        .ok()?;
+    let folder = String::from_utf8(output.stdout).ok()?;
+    (output.status.success() && !folder.trim().is_empty()).then(|| PathBuf::from(folder.trim()))
 }

@@ -49,8 +49,8 @@
 //!
 //! # Building
 //!
-//! The build links `libchaldoref.a` from the folder that the environment variable `CHALDOREF_LIB_DIR` names, or from
-//! where `host/build-library` puts it.
+//! The build links `libchaldoref.a` from the folder that the environment variable `CHALDOREF_LIB_DIR` names; without
+//! it, from where `host/build-library` puts it, or else from where `pkg-config` says that it is installed.
 #![deny(missing_docs)]
 #![deny(unsafe_code, clippy::undocumented_unsafe_blocks)]
 
