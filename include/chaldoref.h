@@ -31,12 +31,17 @@
  * out or places.
  *
  * What the host keeps to (the proofs assume it: docs/TRUST.md):
- *   - no pointer is NULL, also where its length is 0; each is aligned for its type
- *     and valid for its length, and no length is over PTRDIFF_MAX bytes;
+ *   - no pointer is NULL, also where its length is 0 (the chaldoref_lend_ functions
+ *     below make such a NULL a pointer that may be lent); each is aligned for its
+ *     type and valid for its length, and no length is over PTRDIFF_MAX bytes;
  *   - nothing writes to file or slip during a call;
  *   - room, out and places overlap neither each other nor file or slip, and nothing
  *     else reads or writes them during a call.
  * Nothing of what is lent is kept after a call.
+ *
+ * What is proved are the functions that are only declared here. The static inline
+ * ones at the end are plain C for convenience: words for the refusals, names for the
+ * numbers of an answer, and NULL for nothing.
  */
 #ifndef CHALDOREF_H
 #define CHALDOREF_H
@@ -47,6 +52,12 @@
 #ifdef __cplusplus
 extern "C" {
 #endif
+
+/* The version of this header, and of the library that it belongs to. */
+#define CHALDOREF_VERSION_MAJOR 0
+#define CHALDOREF_VERSION_MINOR 1
+#define CHALDOREF_VERSION_PATCH 0
+#define CHALDOREF_VERSION "0.1.0"
 
 /* The refusals, by their numbers in document 01. Of a file the lowest number that
    applies is given. */
@@ -235,6 +246,253 @@ uint32_t chaldoref_write_slip(
     uint32_t id, uint32_t a, uint32_t b,
     uint8_t *out, size_t out_len,
     uint64_t *places, size_t places_len);
+
+/* The version that the caller was compiled with, as text: CHALDOREF_VERSION. */
+static inline const char *chaldoref_version(void)
+{
+    return CHALDOREF_VERSION;
+}
+
+/*
+ * The words of document 01 for a refusal, by its number; "answered" for 0. For a number
+ * that no refusal has it says so: the result is never NULL.
+ */
+static inline const char *chaldoref_refusal_text(uint32_t number)
+{
+    static const char *const texts[] = {
+        "answered",
+        "the file is longer than 2,147,483,647 bytes",
+        "an atom's size is wrong, passes its parent's end, or 1 to 7 bytes (under 16 for a 64-bit size) remain",
+        "an atom is absent or occurs too often",
+        "a read leaf has a body whose first byte is not 0",
+        "a read leaf or profile hasn't its size",
+        "over 16 tracks, or in one track over 1,048,576 samples or chunks, 256 edits or 64 descriptions; in one profile over 64 records",
+        "a track ID is 0 or occurs twice",
+        "a movie or media time scale is 0",
+        "sample tables contradict each other",
+        "the sample durations, or a track's edit durations, total over 4,294,967,295",
+        "the mdhd duration is not the total of the sample durations",
+        "a chunk's offset plus the sizes of its samples passes the file's end",
+        "an edit list is wrong",
+        "no track has that ID",
+        "the sample number is not in 1 to N, or the time or stretch lies outside",
+        "the lent room is shorter than the answer",
+        "a slip is malformed",
+        "the feature cannot be computed"
+    };
+    return number < sizeof texts / sizeof *texts ? texts[number] : "no refusal has this number";
+}
+
+/*
+ * A pointer to lend where the caller's own may be NULL because its length is 0, as that of
+ * an empty buffer often is:
+ *
+ *     chaldoref_track_list(chaldoref_lend_bytes(p), len, ...)
+ *
+ * The pointer itself; for NULL a pointer to memory of which nothing is read or written, the
+ * length being 0. NULL with any other length stays an error of the caller.
+ * bytes are a file or a slip, numbers a room, out a slip's bytes. Places have a pair of
+ * their own, the signed one for chaldoref_sample: no places are refused 16.
+ */
+static inline const uint8_t *chaldoref_lend_bytes(const uint8_t *bytes)
+{
+    static const uint8_t nothing = 0;
+    return bytes != NULL ? bytes : &nothing;
+}
+
+static inline uint32_t *chaldoref_lend_numbers(uint32_t *numbers)
+{
+    static uint32_t nothing = 0;
+    return numbers != NULL ? numbers : &nothing;
+}
+
+static inline uint8_t *chaldoref_lend_out(uint8_t *out)
+{
+    static uint8_t nothing = 0;
+    return out != NULL ? out : &nothing;
+}
+
+static inline uint64_t *chaldoref_lend_places(uint64_t *places)
+{
+    static uint64_t nothing = 0;
+    return places != NULL ? places : &nothing;
+}
+
+static inline int64_t *chaldoref_lend_signed_places(int64_t *places)
+{
+    static int64_t nothing = 0;
+    return places != NULL ? places : &nothing;
+}
+
+/*
+ * Names for the numbers of an answer. Each function takes what the library has filled, and
+ * with a refusal gives zeros as the places are. Media times count in the track's own time
+ * scale, offsets from the file's first byte, samples and chunks from 1.
+ */
+
+/* A track of the track list. */
+struct chaldoref_track {
+    uint32_t id;
+    uint32_t subtype;
+    uint32_t scale;
+    uint32_t total;
+    uint32_t samples;
+    uint32_t chunks;
+    uint32_t edits;
+};
+
+/* Track i, counted from 0 and below the number of tracks, of the room of chaldoref_track_list. */
+static inline struct chaldoref_track chaldoref_track_of(const uint32_t *room, size_t i)
+{
+    const uint32_t *numbers = room + CHALDOREF_TRACK_NUMBERS * i;
+    struct chaldoref_track track;
+    track.id = numbers[0];
+    track.subtype = numbers[1];
+    track.scale = numbers[2];
+    track.total = numbers[3];
+    track.samples = numbers[4];
+    track.chunks = numbers[5];
+    track.edits = numbers[6];
+    return track;
+}
+
+/* Some bytes of a film: as many as length from offset on. */
+struct chaldoref_pair {
+    uint32_t offset;
+    uint32_t length;
+};
+
+/* Pair i, counted from 0 and below the number of pairs, of the room of a stretch or a slip. */
+static inline struct chaldoref_pair chaldoref_pair_of(const uint32_t *room, size_t i)
+{
+    const uint32_t *numbers = room + CHALDOREF_PAIR_NUMBERS * i;
+    struct chaldoref_pair pair;
+    pair.offset = numbers[0];
+    pair.length = numbers[1];
+    return pair;
+}
+
+/* The same for the places of chaldoref_sample_bytes. */
+static inline struct chaldoref_pair chaldoref_sample_bytes_of(const uint64_t places[CHALDOREF_SAMPLE_BYTES_PLACES])
+{
+    struct chaldoref_pair pair;
+    pair.offset = (uint32_t)places[0];
+    pair.length = (uint32_t)places[1];
+    return pair;
+}
+
+/* A record of a stored profile. */
+struct chaldoref_record {
+    uint32_t part;
+    uint32_t code;
+    uint32_t value;
+};
+
+/* Record i, counted from 0 and below the number of records, of the room of chaldoref_profile. */
+static inline struct chaldoref_record chaldoref_record_of(const uint32_t *room, size_t i)
+{
+    const uint32_t *numbers = room + CHALDOREF_RECORD_NUMBERS * i;
+    struct chaldoref_record record;
+    record.part = numbers[0];
+    record.code = numbers[1];
+    record.value = numbers[2];
+    return record;
+}
+
+/* A sample of a track. */
+struct chaldoref_sample_info {
+    uint32_t decode;
+    uint32_t duration;
+    int64_t composition;  /* it may be negative */
+    int sync;             /* 1 for a sync sample, 0 for any other */
+    uint32_t description;
+    uint32_t chunk;
+    uint32_t offset;
+    uint32_t size;
+};
+
+/* For the places of chaldoref_sample. */
+static inline struct chaldoref_sample_info chaldoref_sample_of(const int64_t places[CHALDOREF_SAMPLE_PLACES])
+{
+    struct chaldoref_sample_info sample;
+    sample.decode = (uint32_t)places[0];
+    sample.duration = (uint32_t)places[1];
+    sample.composition = places[2];
+    sample.sync = places[3] == 1;
+    sample.description = (uint32_t)places[4];
+    sample.chunk = (uint32_t)places[5];
+    sample.offset = (uint32_t)places[6];
+    sample.size = (uint32_t)places[7];
+    return sample;
+}
+
+/* What a track shows at a movie time. */
+struct chaldoref_media_time_info {
+    int shown;      /* 0 where nothing is shown */
+    uint32_t time;  /* the media time */
+};
+
+/* For the places of chaldoref_media_time. */
+static inline struct chaldoref_media_time_info chaldoref_media_time_of(const uint64_t places[CHALDOREF_MEDIA_TIME_PLACES])
+{
+    struct chaldoref_media_time_info media;
+    media.shown = places[0] == 1;
+    media.time = (uint32_t)places[1];
+    return media;
+}
+
+/* How much of its room a stretch has filled, and its bytes. */
+struct chaldoref_stretch_info {
+    size_t pairs;
+    uint64_t bytes;
+};
+
+/* For the places of chaldoref_stretch. */
+static inline struct chaldoref_stretch_info chaldoref_stretch_of(const uint64_t places[CHALDOREF_STRETCH_PLACES])
+{
+    struct chaldoref_stretch_info stretch;
+    stretch.pairs = (size_t)places[0];
+    stretch.bytes = places[1];
+    return stretch;
+}
+
+/* The run of samples that has the highest bit rate. */
+struct chaldoref_peak_info {
+    uint32_t first;
+    uint32_t samples;
+};
+
+/* For the places of chaldoref_peak. */
+static inline struct chaldoref_peak_info chaldoref_peak_of(const uint64_t places[CHALDOREF_PEAK_PLACES])
+{
+    struct chaldoref_peak_info peak;
+    peak.first = (uint32_t)places[0];
+    peak.samples = (uint32_t)places[1];
+    return peak;
+}
+
+/* A slip without its pairs, or where it goes wrong. */
+struct chaldoref_slip_head {
+    uint32_t id;
+    uint32_t scale;
+    uint32_t a;
+    uint32_t b;
+    size_t pairs;
+    size_t fault;  /* with refusal 17 the place of the first fault */
+};
+
+/* For the places of chaldoref_read_slip. */
+static inline struct chaldoref_slip_head chaldoref_slip_head_of(const uint64_t places[CHALDOREF_READ_SLIP_PLACES])
+{
+    struct chaldoref_slip_head head;
+    head.id = (uint32_t)places[0];
+    head.scale = (uint32_t)places[1];
+    head.a = (uint32_t)places[2];
+    head.b = (uint32_t)places[3];
+    head.pairs = (size_t)places[4];
+    head.fault = (size_t)places[5];
+    return head;
+}
 
 #ifdef __cplusplus
 }

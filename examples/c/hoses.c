@@ -20,13 +20,8 @@ struct film {
     size_t len;
 };
 
-/* A track, in the order of the track list. */
-struct track {
-    uint32_t id, subtype, scale, total, samples, chunks, edits;
-};
-
 struct track_list {
-    struct track tracks[CHALDOREF_MAX_TRACKS];
+    struct chaldoref_track tracks[CHALDOREF_MAX_TRACKS];
     size_t count;
 };
 
@@ -74,10 +69,8 @@ static uint32_t list_tracks(struct film film, struct track_list *list)
     uint32_t refusal = chaldoref_track_list(film.bytes, film.len, room, sizeof room / sizeof *room,
                                             count, CHALDOREF_TRACK_LIST_PLACES);
     list->count = (size_t)count[0];
-    for (size_t i = 0; i < list->count; i++) {
-        const uint32_t *t = room + CHALDOREF_TRACK_NUMBERS * i;
-        list->tracks[i] = (struct track){t[0], t[1], t[2], t[3], t[4], t[5], t[6]};
-    }
+    for (size_t i = 0; i < list->count; i++)
+        list->tracks[i] = chaldoref_track_of(room, i);
     return refusal;
 }
 
@@ -85,35 +78,36 @@ static void print_tracks(const struct track_list *list)
 {
     printf("id subtype scale total samples chunks edits\n");
     for (size_t i = 0; i < list->count; i++) {
-        const struct track *t = &list->tracks[i];
+        const struct chaldoref_track *t = &list->tracks[i];
         printf("%" PRIu32 " %08" PRIx32 " %" PRIu32 " %" PRIu32 " %" PRIu32 " %" PRIu32 " %" PRIu32 "\n",
                t->id, t->subtype, t->scale, t->total, t->samples, t->chunks, t->edits);
     }
 }
 
 /* The track with that ID; an empty one where there is none, which the library is left to refuse. */
-static struct track track_with(const struct track_list *list, uint32_t id)
+static struct chaldoref_track track_with(const struct track_list *list, uint32_t id)
 {
     for (size_t i = 0; i < list->count; i++)
         if (list->tracks[i].id == id)
             return list->tracks[i];
-    return (struct track){.id = id};
+    return (struct chaldoref_track){.id = id};
 }
 
 /* The whole of a track as byte ranges. */
-static void print_bytes(struct film film, struct track track)
+static void print_bytes(struct film film, struct chaldoref_track track)
 {
     size_t room_len = (size_t)CHALDOREF_PAIR_NUMBERS * track.chunks;
     uint32_t *room = lend(room_len, sizeof *room);
-    uint64_t size[CHALDOREF_STRETCH_PLACES];
+    uint64_t places[CHALDOREF_STRETCH_PLACES];
     uint32_t refusal = chaldoref_stretch(film.bytes, film.len, track.id, 0, track.total, room, room_len,
-                                         size, CHALDOREF_STRETCH_PLACES);
-    for (uint64_t i = 0; i < size[0]; i++) {
-        const uint32_t *pair = room + CHALDOREF_PAIR_NUMBERS * i;
-        printf("%" PRIu32 " bytes of film from byte %" PRIu32 " of the file\n", pair[1], pair[0]);
+                                         places, CHALDOREF_STRETCH_PLACES);
+    struct chaldoref_stretch_info stretch = chaldoref_stretch_of(places);
+    for (size_t i = 0; i < stretch.pairs; i++) {
+        struct chaldoref_pair pair = chaldoref_pair_of(room, i);
+        printf("%" PRIu32 " bytes of film from byte %" PRIu32 " of the file\n", pair.length, pair.offset);
     }
     if (refusal == CHALDOREF_ANSWERED)
-        printf("%" PRIu64 " bytes of film in all\n", size[1]);
+        printf("%" PRIu64 " bytes of film in all\n", stretch.bytes);
     else
         print_refusal(refusal);
     free(room);
@@ -123,15 +117,16 @@ static void print_bytes(struct film film, struct track track)
 static uint32_t filed_by(const uint8_t *slip, size_t slip_len, uint64_t *units)
 {
     uint32_t *room = lend(slip_len, sizeof *room);
-    uint64_t head[CHALDOREF_READ_SLIP_PLACES];
-    uint32_t refusal = chaldoref_read_slip(slip, slip_len, room, slip_len, head, CHALDOREF_READ_SLIP_PLACES);
-    *units = head[3] - head[2];
+    uint64_t places[CHALDOREF_READ_SLIP_PLACES];
+    uint32_t refusal = chaldoref_read_slip(slip, slip_len, room, slip_len, places, CHALDOREF_READ_SLIP_PLACES);
+    struct chaldoref_slip_head head = chaldoref_slip_head_of(places);
+    *units = head.b - head.a;
     free(room);
     return refusal;
 }
 
 /* Writes the slip of a track from a to b, and reads it back. */
-static uint32_t filed(struct film film, const struct track *track, uint32_t a, uint32_t b, uint64_t *units)
+static uint32_t filed(struct film film, const struct chaldoref_track *track, uint32_t a, uint32_t b, uint64_t *units)
 {
     size_t out_len = CHALDOREF_SLIP_HEAD_BYTES + CHALDOREF_SLIP_PAIR_BYTES * (size_t)track->chunks;
     uint8_t *out = lend(out_len, 1);
@@ -145,19 +140,19 @@ static uint32_t filed(struct film film, const struct track *track, uint32_t a, u
 }
 
 /* Where the second sample of a track starts; 0 where it has none, since the places are zeros then. */
-static uint32_t second_start(struct film film, const struct track *track)
+static uint32_t second_start(struct film film, const struct chaldoref_track *track)
 {
-    int64_t sample[CHALDOREF_SAMPLE_PLACES];
-    chaldoref_sample(film.bytes, film.len, track->id, 2, sample, CHALDOREF_SAMPLE_PLACES);
-    return (uint32_t)sample[0];
+    int64_t places[CHALDOREF_SAMPLE_PLACES];
+    chaldoref_sample(film.bytes, film.len, track->id, 2, places, CHALDOREF_SAMPLE_PLACES);
+    return chaldoref_sample_of(places).decode;
 }
 
-static void print_verdict(uint64_t units, const struct track *track)
+static void print_verdict(uint64_t units, const struct chaldoref_track *track)
 {
     printf(", the movie has %" PRIu32 ": %s\n", track->total, units == track->total ? "adds up" : "does not add up");
 }
 
-static uint32_t in_one_slip(struct film film, const struct track *track)
+static uint32_t in_one_slip(struct film film, const struct chaldoref_track *track)
 {
     uint64_t units;
     uint32_t refusal = filed(film, track, 0, track->total, &units);
@@ -168,7 +163,7 @@ static uint32_t in_one_slip(struct film film, const struct track *track)
     return refusal;
 }
 
-static uint32_t in_two_slips(struct film film, const struct track *track, uint32_t cut)
+static uint32_t in_two_slips(struct film film, const struct chaldoref_track *track, uint32_t cut)
 {
     uint64_t first, second;
     uint32_t refusal = filed(film, track, 0, cut, &first);
@@ -183,7 +178,7 @@ static uint32_t in_two_slips(struct film film, const struct track *track, uint32
 
 /* Files the whole of a track in two slips, which meet where its second sample starts; in one where no film time lies
    before that or after it. */
-static void account(struct film film, const struct track *track)
+static void account(struct film film, const struct chaldoref_track *track)
 {
     printf("track %" PRIu32 ": ", track->id);
     if (track->total == 0) {

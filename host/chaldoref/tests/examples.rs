@@ -1,4 +1,6 @@
 //! The examples in C and Rust print what the example in Rattle does, on each film that its stored output is about.
+mod compiled;
+
 use std::path::{Path, PathBuf};
 use std::process::Command;
 
@@ -31,19 +33,7 @@ fn prints_the_stored_answers(program: &Path) {
 
 #[test]
 fn in_c() {
-    let library = std::env::var_os("CHALDOREF_LIB_DIR").map_or("../target/library".into(), PathBuf::from);
-    let program = Path::new(env!("CARGO_TARGET_TMPDIR")).join("hoses-in-c");
-    let strict = ["-std=c99", "-Wall", "-Wextra", "-pedantic", "-Werror"];
-    let compiled = Command::new("cc")
-        .args(strict)
-        .args(["-I../../include", "../../examples/c/hoses.c", "-L"])
-        .arg(library)
-        .args(["-lchaldoref", "-o"])
-        .arg(&program)
-        .status()
-        .unwrap();
-    assert!(compiled.success());
-    prints_the_stored_answers(&program);
+    prints_the_stored_answers(&compiled::c("../../examples/c/hoses.c", "hoses-in-c"));
 }
 
 #[test]

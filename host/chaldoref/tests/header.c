@@ -1,0 +1,185 @@
+/*
+ * What the header has besides the proved functions, in the C that is also C++: prints it for tests/header.rs, which
+ * has the same from the Rust crate. The film is a whole film W.
+ *
+ *     header FILM
+ */
+#include <chaldoref.h>
+
+#include <inttypes.h>
+#include <stdio.h>
+
+/* Track 1 of film W, and the most that the film and its slips need. */
+enum { ONE = 1, MOST = 8192 };
+
+struct film {
+    uint8_t bytes[MOST];
+    size_t len;
+};
+
+static void print_words(void)
+{
+    uint32_t number;
+    for (number = 0; number <= CHALDOREF_NOT_COMPUTED + 1; number++)
+        printf("refusal %" PRIu32 ": %s\n", number, chaldoref_refusal_text(number));
+    printf("refusal %" PRIu32 ": %s\n", UINT32_MAX, chaldoref_refusal_text(UINT32_MAX));
+    printf("version %s: %d.%d.%d\n", chaldoref_version(), CHALDOREF_VERSION_MAJOR, CHALDOREF_VERSION_MINOR,
+           CHALDOREF_VERSION_PATCH);
+}
+
+static void print_tracks(const struct film *film)
+{
+    uint32_t room[CHALDOREF_TRACK_NUMBERS * CHALDOREF_MAX_TRACKS];
+    uint64_t count[CHALDOREF_TRACK_LIST_PLACES];
+    size_t i;
+    chaldoref_track_list(film->bytes, film->len, room, sizeof room / sizeof *room, count, CHALDOREF_TRACK_LIST_PLACES);
+    for (i = 0; i < count[0]; i++) {
+        struct chaldoref_track t = chaldoref_track_of(room, i);
+        printf("track %" PRIu32 " %08" PRIx32 " %" PRIu32 " %" PRIu32 " %" PRIu32 " %" PRIu32 " %" PRIu32 "\n",
+               t.id, t.subtype, t.scale, t.total, t.samples, t.chunks, t.edits);
+    }
+}
+
+static void print_sample(const struct film *film, uint32_t n)
+{
+    int64_t places[CHALDOREF_SAMPLE_PLACES];
+    uint64_t range[CHALDOREF_SAMPLE_BYTES_PLACES];
+    struct chaldoref_sample_info s;
+    struct chaldoref_pair bytes;
+    uint32_t refusal = chaldoref_sample(film->bytes, film->len, ONE, n, places, CHALDOREF_SAMPLE_PLACES);
+    chaldoref_sample_bytes(film->bytes, film->len, ONE, n, range, CHALDOREF_SAMPLE_BYTES_PLACES);
+    s = chaldoref_sample_of(places);
+    bytes = chaldoref_sample_bytes_of(range);
+    printf("sample %" PRIu32 " %" PRIu32 " %" PRIu32 " %" PRId64 " %d %" PRIu32 " %" PRIu32 " %" PRIu32 " %" PRIu32
+           ", bytes %" PRIu32 " %" PRIu32 "\n",
+           refusal, s.decode, s.duration, s.composition, s.sync, s.description, s.chunk, s.offset, s.size,
+           bytes.offset, bytes.length);
+}
+
+static void print_media_time(const struct film *film, uint32_t t)
+{
+    uint64_t places[CHALDOREF_MEDIA_TIME_PLACES];
+    struct chaldoref_media_time_info media;
+    chaldoref_media_time(film->bytes, film->len, ONE, t, places, CHALDOREF_MEDIA_TIME_PLACES);
+    media = chaldoref_media_time_of(places);
+    printf("media time %d %" PRIu32 "\n", media.shown, media.time);
+}
+
+static void print_pairs(const uint32_t *room, size_t count)
+{
+    size_t i;
+    for (i = 0; i < count; i++) {
+        struct chaldoref_pair pair = chaldoref_pair_of(room, i);
+        printf("pair %" PRIu32 " %" PRIu32 "\n", pair.offset, pair.length);
+    }
+}
+
+static void print_stretch(const struct film *film, uint32_t a, uint32_t b)
+{
+    uint32_t room[CHALDOREF_PAIR_NUMBERS * 2];
+    uint64_t places[CHALDOREF_STRETCH_PLACES];
+    struct chaldoref_stretch_info stretch;
+    chaldoref_stretch(film->bytes, film->len, ONE, a, b, room, sizeof room / sizeof *room, places,
+                      CHALDOREF_STRETCH_PLACES);
+    stretch = chaldoref_stretch_of(places);
+    printf("stretch %lu %" PRIu64 "\n", (unsigned long)stretch.pairs, stretch.bytes);
+    print_pairs(room, stretch.pairs);
+}
+
+static void print_records(const struct film *film)
+{
+    uint32_t room[CHALDOREF_RECORD_NUMBERS * CHALDOREF_MAX_RECORDS];
+    uint64_t count[CHALDOREF_PROFILE_PLACES];
+    size_t i;
+    chaldoref_profile(film->bytes, film->len, ONE, room, sizeof room / sizeof *room, count, CHALDOREF_PROFILE_PLACES);
+    for (i = 0; i < count[0]; i++) {
+        struct chaldoref_record record = chaldoref_record_of(room, i);
+        printf("record %" PRIu32 " %08" PRIx32 " %" PRIu32 "\n", record.part, record.code, record.value);
+    }
+}
+
+static void print_peak(const struct film *film)
+{
+    uint64_t places[CHALDOREF_PEAK_PLACES];
+    struct chaldoref_peak_info peak;
+    chaldoref_peak(film->bytes, film->len, ONE, CHALDOREF_MVBR, places, CHALDOREF_PEAK_PLACES);
+    peak = chaldoref_peak_of(places);
+    printf("peak %" PRIu32 " %" PRIu32 "\n", peak.first, peak.samples);
+}
+
+static void print_slip(const uint8_t *slip, size_t len)
+{
+    uint32_t room[MOST];
+    uint64_t places[CHALDOREF_READ_SLIP_PLACES];
+    struct chaldoref_slip_head head;
+    uint32_t refusal = chaldoref_read_slip(slip, len, room, MOST, places, CHALDOREF_READ_SLIP_PLACES);
+    head = chaldoref_slip_head_of(places);
+    printf("slip %" PRIu32 ": %" PRIu32 " %" PRIu32 " %" PRIu32 " %" PRIu32 " %lu, fault %lu\n", refusal, head.id,
+           head.scale, head.a, head.b, (unsigned long)head.pairs, (unsigned long)head.fault);
+    print_pairs(room, head.pairs);
+}
+
+static void print_slips(const struct film *film, uint32_t a, uint32_t b)
+{
+    uint8_t slip[MOST];
+    uint64_t length[CHALDOREF_WRITE_SLIP_PLACES];
+    chaldoref_write_slip(film->bytes, film->len, ONE, a, b, slip, MOST, length, CHALDOREF_WRITE_SLIP_PLACES);
+    print_slip(slip, (size_t)length[0]);
+    print_slip(slip, (size_t)length[0] - 1);
+}
+
+/* NULL for nothing, in each place that may have it: prints the refusals. */
+static void print_nothing_lent(const struct film *film)
+{
+    uint64_t places[CHALDOREF_READ_SLIP_PLACES];
+    uint32_t no_file = chaldoref_track_list(chaldoref_lend_bytes(NULL), 0, chaldoref_lend_numbers(NULL), 0, places, 1);
+    uint32_t no_slip = chaldoref_read_slip(chaldoref_lend_bytes(NULL), 0, chaldoref_lend_numbers(NULL), 0, places, 6);
+    uint32_t no_room = chaldoref_track_list(film->bytes, film->len, chaldoref_lend_numbers(NULL), 0, places, 1);
+    uint32_t no_out = chaldoref_write_slip(film->bytes, film->len, ONE, 0, 1, chaldoref_lend_out(NULL), 0, places, 1);
+    uint32_t no_places = chaldoref_sample_at(film->bytes, film->len, ONE, 0, chaldoref_lend_places(NULL), 0);
+    uint32_t no_signed = chaldoref_sample(film->bytes, film->len, ONE, 1, chaldoref_lend_signed_places(NULL), 0);
+    printf("nothing lent %" PRIu32 " %" PRIu32 " %" PRIu32 " %" PRIu32 " %" PRIu32 " %" PRIu32 "\n", no_file, no_slip,
+           no_room, no_out, no_places, no_signed);
+}
+
+/* What is not NULL is lent as it is. */
+static void print_lent(struct film *film)
+{
+    uint32_t numbers = 0;
+    uint64_t places = 0;
+    int64_t signed_places = 0;
+    printf("lent %d %d %d %d %d\n", chaldoref_lend_bytes(film->bytes) == film->bytes,
+           chaldoref_lend_numbers(&numbers) == &numbers, chaldoref_lend_out(film->bytes) == film->bytes,
+           chaldoref_lend_places(&places) == &places, chaldoref_lend_signed_places(&signed_places) == &signed_places);
+}
+
+static void print_all(struct film *film)
+{
+    print_words();
+    print_tracks(film);
+    print_sample(film, 1);
+    print_sample(film, 4);
+    print_sample(film, 5);
+    print_media_time(film, 0);
+    print_media_time(film, 60);
+    print_stretch(film, 24, 73);
+    print_records(film);
+    print_peak(film);
+    print_slips(film, 24, 73);
+    print_nothing_lent(film);
+    print_lent(film);
+}
+
+int main(int argc, char **argv)
+{
+    static struct film film;
+    FILE *file = argc == 2 ? fopen(argv[1], "rb") : NULL;
+    if (file == NULL) {
+        fprintf(stderr, "usage: header FILM\n");
+        return 2;
+    }
+    film.len = fread(film.bytes, 1, MOST, file);
+    fclose(file);
+    print_all(&film);
+    return 0;
+}

@@ -1,0 +1,130 @@
+//! What the header has besides the proved functions: `header.c`, in C and in C++, prints what the crate has.
+mod compiled;
+
+use chaldoref::{Feature, MediaTime, Movie, MovieTime, Refusal, Shown, Slip, TrackId};
+use reference::film::{self, w_movie, w_track};
+use std::fmt::Write as _;
+use std::path::Path;
+use std::process::Command;
+
+const ONE: TrackId = TrackId(1);
+
+/// Film W with a profile, an empty edit, and composition times of which one is negative.
+fn film() -> Vec<u8> {
+    let track = film::Track {
+        ctts: Some(vec![(1, -5), (3, 7)]),
+        stss: Some(vec![4]),
+        edits: Some(vec![(60, -1, 65536), (60, 24, 65536)]),
+        profile: Some(vec![[0, 1, 7, 5], [0, 2, 8, 6]]),
+        ..w_track()
+    };
+    film::Movie { tracks: vec![track], ..w_movie() }.file_of(4096).bytes()
+}
+
+fn words() -> String {
+    let mut lines = String::from("refusal 0: answered\n");
+    for refusal in Refusal::ALL {
+        writeln!(lines, "refusal {}: {refusal}", refusal.number()).unwrap();
+    }
+    for number in [Refusal::ALL.len() as u32 + 1, u32::MAX] {
+        writeln!(lines, "refusal {number}: no refusal has this number").unwrap();
+    }
+    let version = env!("CARGO_PKG_VERSION");
+    lines + &format!("version {version}: {version}\n")
+}
+
+fn tracks(movie: &Movie) -> String {
+    let line = |t: &chaldoref::Track| {
+        let [id, subtype, scale, total] = [t.id.0, t.subtype.0, t.scale, t.total.0];
+        format!("track {id} {subtype:08x} {scale} {total} {} {} {}\n", t.samples, t.chunks, t.edits)
+    };
+    movie.tracks().iter().map(line).collect()
+}
+
+/// A sample, or zeros with the refusal.
+fn sample(movie: &Movie, n: u32) -> String {
+    match movie.sample(ONE, n) {
+        Err(refusal) => format!("sample {} 0 0 0 0 0 0 0 0, bytes 0 0\n", refusal.number()),
+        Ok(s) => format!(
+            "sample 0 {} {} {} {} {} {} {} {}, bytes {} {}\n",
+            s.decode,
+            s.duration,
+            s.composition,
+            u32::from(s.sync),
+            s.description,
+            s.chunk,
+            s.offset,
+            s.size,
+            s.offset,
+            s.size
+        ),
+    }
+}
+
+fn media_time(movie: &Movie, t: u32) -> String {
+    match movie.media_time(ONE, MovieTime(t)).unwrap() {
+        Shown::At(media) => format!("media time 1 {media}\n"),
+        Shown::Nothing => "media time 0 0\n".to_string(),
+    }
+}
+
+fn pairs(pairs: &[chaldoref::ByteRange]) -> String {
+    pairs.iter().map(|pair| format!("pair {} {}\n", pair.offset, pair.length)).collect()
+}
+
+fn stretch_and_slips(movie: &Movie) -> [String; 2] {
+    let time = MediaTime(24)..MediaTime(73);
+    let stretch = movie.stretch(ONE, time.clone()).unwrap();
+    let bytes = movie.write_slip(ONE, time).unwrap();
+    let slip = Slip::read(&bytes).unwrap();
+    let head = format!("slip 0: {} {} {} {} {}, fault 0\n", slip.id, slip.scale, slip.a, slip.b, slip.pairs.len());
+    let fault = Slip::read(&bytes[..bytes.len() - 1]).unwrap_err().place;
+    [
+        format!("stretch {} {}\n{}", stretch.pairs.len(), stretch.bytes, pairs(&stretch.pairs)),
+        format!("{head}{}slip 17: 0 0 0 0 0, fault {fault}\n", pairs(&slip.pairs)),
+    ]
+}
+
+fn records_and_peak(movie: &Movie) -> String {
+    let records = movie.profile(ONE).unwrap();
+    let line = |r: &chaldoref::ProfileRecord| format!("record {} {:08x} {}\n", r.part, r.code.0, r.value);
+    let peak = movie.peak(ONE, Feature::HighestVideoBitRate).unwrap().samples;
+    records.iter().map(line).collect::<String>() + &format!("peak {} {}\n", peak.start(), peak.clone().count())
+}
+
+/// What the program has to print about the film.
+fn expected(film: &[u8]) -> String {
+    let movie = Movie::open(film).unwrap();
+    let samples: String = [1, 4, 5].map(|n| sample(&movie, n)).concat();
+    let times: String = [0, 60].map(|t| media_time(&movie, t)).concat();
+    let [stretch, slips] = stretch_and_slips(&movie);
+    // A file and a slip of no bytes are refused as such; then come room, bytes and places that are too few.
+    let lent = "nothing lent 3 17 16 16 16 16\nlent 1 1 1 1 1\n";
+    [words(), tracks(&movie), samples, times, stretch, records_and_peak(&movie), slips, lent.to_string()].concat()
+}
+
+#[track_caller]
+fn prints_what_the_crate_has(program: &Path) {
+    let film = film();
+    let name = program.with_extension("mov");
+    std::fs::write(&name, &film).unwrap();
+    let output = Command::new(program).arg(&name).output().unwrap();
+    assert!(output.status.success());
+    let printed = String::from_utf8(output.stdout).unwrap();
+    for line in ["sample 0 0 24 -5 0 1", "media time 0 0", "record 2 00000008 6"] {
+        assert!(printed.contains(line), "{line}");
+    }
+    assert_eq!(printed, expected(&film));
+}
+
+#[test]
+fn in_c() {
+    prints_what_the_crate_has(&compiled::c("tests/header.c", "header-in-c"));
+}
+
+#[test]
+fn in_cpp() {
+    if let Some(program) = compiled::cpp("tests/header.c", "header-in-cpp") {
+        prints_what_the_crate_has(&program);
+    }
+}
