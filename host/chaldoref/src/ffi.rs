@@ -4,7 +4,7 @@
 //! What [`raw`] asks of every call holds by construction: each pointer and length are those of one Rust slice or
 //! array, so the pointer is aligned, not null and valid for the length, which is at most `isize::MAX` bytes; nothing
 //! writes to a `&[u8]` while it is borrowed; a `&mut` slice, and the places that `ask` makes, overlap nothing else.
-use crate::movie::{ProfileRecord, Track};
+use crate::answers::{ProfileRecord, Track};
 use crate::raw;
 use crate::refusal::Refusal;
 use crate::units::ByteRange;

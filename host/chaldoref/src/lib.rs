@@ -53,7 +53,11 @@
 //! it, from where `host/build-library` puts it, or else from where `pkg-config` says that it is installed.
 #![deny(missing_docs)]
 #![deny(unsafe_code, clippy::undocumented_unsafe_blocks)]
+#![warn(clippy::pedantic)]
+#![allow(clippy::doc_markdown, reason = "QuickTime is a name and no code")]
 
+mod answers;
+mod feature;
 #[allow(unsafe_code)]
 mod ffi;
 mod movie;
@@ -64,7 +68,9 @@ mod room;
 mod slip;
 mod units;
 
-pub use movie::{Feature, Movie, Peak, ProfileRecord, Sample, Shown, Stretch, StretchSize, Track, MAX_FILE_BYTES};
-pub use refusal::Refusal;
+pub use answers::{Peak, ProfileRecord, Sample, Shown, Stretch, StretchSize, Track};
+pub use feature::{Feature, UnknownFeature};
+pub use movie::{Movie, MAX_FILE_BYTES};
+pub use refusal::{Refusal, UnknownRefusal};
 pub use slip::{MalformedSlip, Slip};
-pub use units::{ByteRange, FourCC, MediaTime, MovieTime, TrackId};
+pub use units::{ByteRange, FourCC, MediaTime, MovieTime, ParseFourCCError, TrackId};

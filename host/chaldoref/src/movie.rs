@@ -1,4 +1,5 @@
 //! Movies and the questions about them.
+use crate::answers::{Peak, ProfileRecord, Sample, Shown, Stretch, StretchSize, Track};
 use crate::ffi::{self, broken, promised};
 use crate::refusal::Refusal;
 use crate::room::room;
@@ -13,177 +14,6 @@ pub const MAX_FILE_BYTES: u64 = 2_147_483_647;
 const MAX_TRACKS: usize = 16;
 const MAX_RECORDS: usize = 64;
 
-/// A track of the track list.
-#[repr(C)]
-#[derive(Clone, Copy, Debug, Default, PartialEq, Eq, Hash)]
-pub struct Track {
-    /// Its ID, which no other track of the movie has.
-    pub id: TrackId,
-    /// What its handler says it is, such as `vide` or `soun`.
-    pub subtype: FourCC,
-    /// The time scale of its media: units a second.
-    pub scale: u32,
-    /// The total of its samples' durations, which is where its media ends.
-    pub total: MediaTime,
-    /// The number of its samples.
-    pub samples: u32,
-    /// The number of its chunks.
-    pub chunks: u32,
-    /// The number of its edits; 0 without an edit list.
-    pub edits: u32,
-}
-
-impl Track {
-    /// The length of an output that is enough for the slip of any stretch of this track.
-    pub fn slip_room(&self) -> usize {
-        24 + 10 * self.chunks as usize
-    }
-}
-
-/// A sample of a track.
-#[derive(Clone, Copy, Debug, PartialEq, Eq, Hash)]
-pub struct Sample {
-    /// Where it starts: the total of the durations before it.
-    pub decode: MediaTime,
-    /// How long it lasts; it may be 0.
-    pub duration: u32,
-    /// When it is shown: the decode time plus the sample's offset, which may be negative.
-    pub composition: i64,
-    /// Whether it is a sync sample.
-    pub sync: bool,
-    /// The ID of its sample description, from 1.
-    pub description: u32,
-    /// The number of its chunk, from 1.
-    pub chunk: u32,
-    /// The place of its first byte in the file.
-    pub offset: u32,
-    /// The number of its bytes; it may be 0.
-    pub size: u32,
-}
-
-/// What a track shows at a movie time.
-#[derive(Clone, Copy, Debug, PartialEq, Eq, Hash)]
-pub enum Shown {
-    /// The media at that time.
-    At(MediaTime),
-    /// Nothing: the movie time falls in an empty edit.
-    Nothing,
-}
-
-/// The bytes of a stretch of a track.
-#[derive(Clone, Debug, PartialEq, Eq, Hash)]
-pub struct Stretch {
-    /// One range for each chunk touched, in chunk order.
-    pub pairs: Vec<ByteRange>,
-    /// The total of their lengths.
-    pub bytes: u64,
-}
-
-/// How much of lent room a stretch has filled, and its bytes.
-#[derive(Clone, Copy, Debug, PartialEq, Eq, Hash)]
-pub struct StretchSize {
-    /// The number of ranges, which are the first of the room.
-    pub pairs: usize,
-    /// The total of their lengths.
-    pub bytes: u64,
-}
-
-/// A record of a stored profile.
-#[repr(C)]
-#[derive(Clone, Copy, Debug, Default, PartialEq, Eq, Hash)]
-pub struct ProfileRecord {
-    /// The part-ID.
-    pub part: u32,
-    /// The feature's code.
-    pub code: FourCC,
-    /// The feature's value as the file has it; nothing checks it.
-    pub value: u32,
-}
-
-/// The features that can be computed.
-#[derive(Clone, Copy, Debug, PartialEq, Eq, Hash)]
-pub enum Feature {
-    /// `avvb`, of video: bits a second over the whole media, rounded up.
-    AverageVideoBitRate,
-    /// `avab`, of sound: bits a second over the whole media, rounded up.
-    AverageAudioBitRate,
-    /// `tvsz`, of video: the greatest width × 65536 + the greatest height.
-    GreatestPicture,
-    /// `vfps`, of video: frames a second × 65536, rounded up, for the shortest sample.
-    HighestFrameRate,
-    /// `mvbr`, of video: bits a second, rounded up, in the second that has most. [`Movie::peak`] tells which one.
-    HighestVideoBitRate,
-    /// `mabr`, of sound: bits a second, rounded up, in the second that has most. [`Movie::peak`] tells which one.
-    HighestAudioBitRate,
-}
-
-impl Feature {
-    /// Every feature that can be computed.
-    pub const ALL: [Feature; 6] = [
-        Feature::AverageVideoBitRate,
-        Feature::AverageAudioBitRate,
-        Feature::GreatestPicture,
-        Feature::HighestFrameRate,
-        Feature::HighestVideoBitRate,
-        Feature::HighestAudioBitRate,
-    ];
-
-    /// Its four-character code.
-    pub const fn code(self) -> FourCC {
-        match self {
-            Feature::AverageVideoBitRate => FourCC::from_bytes(*b"avvb"),
-            Feature::AverageAudioBitRate => FourCC::from_bytes(*b"avab"),
-            Feature::GreatestPicture => FourCC::from_bytes(*b"tvsz"),
-            Feature::HighestFrameRate => FourCC::from_bytes(*b"vfps"),
-            Feature::HighestVideoBitRate => FourCC::from_bytes(*b"mvbr"),
-            Feature::HighestAudioBitRate => FourCC::from_bytes(*b"mabr"),
-        }
-    }
-
-    /// The feature with that code, if there is one.
-    pub fn from_code(code: FourCC) -> Option<Feature> {
-        Feature::ALL.into_iter().find(|feature| feature.code() == code)
-    }
-
-    /// The subtype of the tracks that have it, `vide` or `soun`. Of any other track it is refused 18.
-    pub const fn subtype(self) -> FourCC {
-        match self {
-            Feature::AverageAudioBitRate | Feature::HighestAudioBitRate => FourCC::from_bytes(*b"soun"),
-            _ => FourCC::from_bytes(*b"vide"),
-        }
-    }
-}
-
-impl fmt::Display for Feature {
-    /// Its name in plain words.
-    fn fmt(&self, f: &mut fmt::Formatter<'_>) -> fmt::Result {
-        f.pad(match self {
-            Feature::AverageVideoBitRate => "average video bit rate",
-            Feature::AverageAudioBitRate => "average audio bit rate",
-            Feature::GreatestPicture => "greatest picture",
-            Feature::HighestFrameRate => "highest frame rate",
-            Feature::HighestVideoBitRate => "highest video bit rate over one second",
-            Feature::HighestAudioBitRate => "highest audio bit rate over one second",
-        })
-    }
-}
-
-impl From<Feature> for FourCC {
-    fn from(feature: Feature) -> FourCC {
-        feature.code()
-    }
-}
-
-/// The second of a track that has the highest bit rate: a run of samples that lasts a second or as little more as can
-/// be; the whole track where it is shorter than a second.
-#[derive(Clone, Debug, PartialEq, Eq, Hash)]
-pub struct Peak {
-    /// The numbers of its samples, from 1.
-    pub samples: RangeInclusive<u32>,
-    /// From where its first sample starts up to where its last one ends.
-    pub time: Range<MediaTime>,
-}
-
 /// A movie file that the reader has accepted.
 ///
 /// It borrows the file's bytes and keeps the track list beside them. See the [crate](crate) for what a question costs.
@@ -197,7 +27,11 @@ pub struct Movie<'a> {
 }
 
 impl<'a> Movie<'a> {
-    /// Judges a whole movie file and reads its track list. Refusals 1 to 13.
+    /// Judges a whole movie file and reads its track list.
+    ///
+    /// # Errors
+    ///
+    /// The lowest of refusals 1 to 13 that applies, if one does.
     pub fn open(file: &'a [u8]) -> Result<Movie<'a>, Refusal> {
         let mut tracks = [Track::default(); MAX_TRACKS];
         let [count] = ffi::track_list(file, &mut tracks)?;
@@ -205,21 +39,24 @@ impl<'a> Movie<'a> {
     }
 
     /// The file's bytes.
+    #[must_use]
     pub fn file(&self) -> &'a [u8] {
         self.file
     }
 
     /// The tracks, in file order. There may be none, and there are 16 at most.
+    #[must_use]
     pub fn tracks(&self) -> &[Track] {
         &self.tracks[..self.count]
     }
 
     /// The track with that ID, if there is one.
+    #[must_use]
     pub fn track(&self, id: TrackId) -> Option<&Track> {
         self.tracks().iter().find(|track| track.id == id)
     }
 
-    /// Sample `n` of a track, numbered from 1. Refusals 14, 15.
+    /// Sample `n` of a track, numbered from 1.
     ///
     /// ```
     /// use chaldoref::{MediaTime, Movie, TrackId};
@@ -231,6 +68,10 @@ impl<'a> Movie<'a> {
     /// assert_eq!((sample.chunk, sample.offset, sample.size), (2, 900, 70));
     /// # Ok::<(), Box<dyn std::error::Error>>(())
     /// ```
+    ///
+    /// # Errors
+    ///
+    /// [`Refusal::NoTrack`]; [`Refusal::Outside`] where the track has no sample `n`.
     pub fn sample(&self, id: TrackId, n: u32) -> Result<Sample, Refusal> {
         let [decode, duration, composition, sync, description, chunk, offset, size] = ffi::sample(self.file, id.0, n)?;
         Ok(Sample {
@@ -245,7 +86,11 @@ impl<'a> Movie<'a> {
         })
     }
 
-    /// The bytes of sample `n` of a track, numbered from 1, as they stand in the file. Refusals 14, 15.
+    /// The bytes of sample `n` of a track, numbered from 1, as they stand in the file.
+    ///
+    /// # Errors
+    ///
+    /// [`Refusal::NoTrack`]; [`Refusal::Outside`] where the track has no sample `n`.
     pub fn sample_bytes(&self, id: TrackId, n: u32) -> Result<&'a [u8], Refusal> {
         let [offset, length] = ffi::sample_bytes(self.file, id.0, n)?;
         let range = ByteRange { offset: promised(offset), length: promised(length) };
@@ -253,13 +98,16 @@ impl<'a> Movie<'a> {
     }
 
     /// The number of the sample at a media time: the one with decode time ≤ `t` < decode time plus duration.
-    /// Refusals 14, 15.
+    ///
+    /// # Errors
+    ///
+    /// [`Refusal::NoTrack`]; [`Refusal::Outside`] where `t` is not below the track's total.
     pub fn sample_at(&self, id: TrackId, t: MediaTime) -> Result<u32, Refusal> {
         let [n] = ffi::sample_at(self.file, id.0, t.0)?;
         Ok(promised(n))
     }
 
-    /// What a track shows at a movie time, which goes through the track's edit list if it has one. Refusals 14, 15.
+    /// What a track shows at a movie time, which goes through the track's edit list if it has one.
     ///
     /// ```
     /// use chaldoref::{MediaTime, Movie, MovieTime, Shown, TrackId};
@@ -270,6 +118,11 @@ impl<'a> Movie<'a> {
     /// assert_eq!(movie.media_time(TrackId(1), MovieTime(60))?, Shown::At(MediaTime(60)));
     /// # Ok::<(), Box<dyn std::error::Error>>(())
     /// ```
+    ///
+    /// # Errors
+    ///
+    /// [`Refusal::NoTrack`]; [`Refusal::Outside`] at or past the end: that of the last edit, or without an edit list
+    /// that of the media.
     pub fn media_time(&self, id: TrackId, t: MovieTime) -> Result<Shown, Refusal> {
         match ffi::media_time(self.file, id.0, t.0)? {
             [0, _] => Ok(Shown::Nothing),
@@ -278,7 +131,12 @@ impl<'a> Movie<'a> {
     }
 
     /// The bytes of a track from one media time up to another: all samples from the one at the start to the one just
-    /// before the end. Refusals 14, 15; 16 where there is no memory for a range for each of the track's chunks.
+    /// before the end.
+    ///
+    /// # Errors
+    ///
+    /// [`Refusal::NoTrack`]; [`Refusal::Outside`] unless start < end ≤ the track's total; [`Refusal::NoRoom`] where
+    /// there is no memory for a range for each of the track's chunks.
     pub fn stretch(&self, id: TrackId, time: Range<MediaTime>) -> Result<Stretch, Refusal> {
         // Without memory no room is lent, and the library says so.
         let mut pairs = room::<ByteRange>(self.chunks(id)).unwrap_or_default();
@@ -289,7 +147,7 @@ impl<'a> Movie<'a> {
     }
 
     /// The same into lent room, of which the first ranges are filled. As many as the track has chunks are always
-    /// enough. Refusals 14, 15, 16; then the room keeps its contents.
+    /// enough.
     ///
     /// ```
     /// use chaldoref::{ByteRange, MediaTime, Movie, Refusal, TrackId};
@@ -304,6 +162,10 @@ impl<'a> Movie<'a> {
     /// assert_eq!(short, Err(Refusal::NoRoom));
     /// # Ok::<(), Box<dyn std::error::Error>>(())
     /// ```
+    ///
+    /// # Errors
+    ///
+    /// Those of [`Movie::stretch`]; [`Refusal::NoRoom`] where the room is too short. The room then keeps its contents.
     pub fn stretch_into(
         &self,
         id: TrackId,
@@ -314,7 +176,12 @@ impl<'a> Movie<'a> {
         Ok(StretchSize { pairs: promised(pairs), bytes })
     }
 
-    /// The slip of a stretch. Refusals 14, 15; 16 where there is no memory for [`Track::slip_room`] bytes.
+    /// The slip of a stretch.
+    ///
+    /// # Errors
+    ///
+    /// [`Refusal::NoTrack`]; [`Refusal::Outside`] unless start < end ≤ the track's total; [`Refusal::NoRoom`] where
+    /// there is no memory for [`Track::slip_room`] bytes.
     pub fn write_slip(&self, id: TrackId, time: Range<MediaTime>) -> Result<Vec<u8>, Refusal> {
         // Without memory no bytes are lent, and the library says so.
         let mut out = room::<u8>(self.track(id).map_or(0, Track::slip_room)).unwrap_or_default();
@@ -325,14 +192,21 @@ impl<'a> Movie<'a> {
     }
 
     /// The same into lent bytes; the slip's length is returned. [`Track::slip_room`] bytes are always enough.
-    /// Refusals 14, 15, 16; then the bytes keep their contents.
+    ///
+    /// # Errors
+    ///
+    /// Those of [`Movie::write_slip`]; [`Refusal::NoRoom`] where the bytes are too few. They then keep their contents.
     pub fn write_slip_into(&self, id: TrackId, time: Range<MediaTime>, out: &mut [u8]) -> Result<usize, Refusal> {
         let [length] = ffi::write_slip(self.file, id.0, time.start.0, time.end.0, out)?;
         Ok(promised(length))
     }
 
     /// The stored profile of a track: its records with a code other than 0, in order; none where there is no profile.
-    /// `TrackId(0)`, which no track has, asks for the movie's own. Refusal 14.
+    /// `TrackId(0)`, which no track has, asks for the movie's own.
+    ///
+    /// # Errors
+    ///
+    /// [`Refusal::NoTrack`], but not for `TrackId(0)`.
     pub fn profile(&self, id: TrackId) -> Result<Vec<ProfileRecord>, Refusal> {
         let mut records = [ProfileRecord::default(); MAX_RECORDS];
         let [count] = ffi::profile(self.file, id.0, &mut records)?;
@@ -340,13 +214,13 @@ impl<'a> Movie<'a> {
     }
 
     /// The movie's own stored profile.
+    #[must_use]
     pub fn movie_profile(&self) -> Vec<ProfileRecord> {
         // No refusal is left for ID 0: the file is accepted and the room enough.
         self.profile(TrackId(0)).unwrap_or_else(|_| broken())
     }
 
-    /// A feature computed from a track's tables, by its [`Feature`] or any four-character code. Refusals 14, 18; every
-    /// code but the six of [`Feature`] is refused 18.
+    /// A feature computed from a track's tables, by its [`Feature`](crate::Feature) or any four-character code.
     ///
     /// ```
     /// use chaldoref::{Feature, FourCC, Movie, Refusal, TrackId};
@@ -358,14 +232,20 @@ impl<'a> Movie<'a> {
     /// assert_eq!(movie.feature(TrackId(1), FourCC::from_bytes(*b"vfmt")), Err(Refusal::NotComputed));
     /// # Ok::<(), Box<dyn std::error::Error>>(())
     /// ```
+    ///
+    /// # Errors
+    ///
+    /// [`Refusal::NoTrack`]; [`Refusal::NotComputed`] for a track that has not what the feature needs, and for every
+    /// code but those of [`Feature::ALL`](crate::Feature::ALL).
     pub fn feature(&self, id: TrackId, code: impl Into<FourCC>) -> Result<u32, Refusal> {
         let [value] = ffi::feature(self.file, id.0, code.into().0)?;
         Ok(promised(value))
     }
 
-    /// Where a track has its highest bit rate over one second, by [`Feature::HighestVideoBitRate`] or
-    /// [`Feature::HighestAudioBitRate`]: the first second that has the greatest. Refused as the feature is; every other
-    /// code is refused 18. It costs three questions.
+    /// Where a track has its highest bit rate over one second, by
+    /// [`Feature::HighestVideoBitRate`](crate::Feature::HighestVideoBitRate) or
+    /// [`Feature::HighestAudioBitRate`](crate::Feature::HighestAudioBitRate): the first second that has the greatest.
+    /// It costs three questions.
     ///
     /// ```
     /// use chaldoref::{Feature, MediaTime, Movie, TrackId};
@@ -378,6 +258,10 @@ impl<'a> Movie<'a> {
     /// assert_eq!((peak.samples, peak.time), (1..=4, MediaTime(0)..MediaTime(120)));
     /// # Ok::<(), Box<dyn std::error::Error>>(())
     /// ```
+    ///
+    /// # Errors
+    ///
+    /// Those of [`Movie::feature`]; [`Refusal::NotComputed`] for every other code.
     pub fn peak(&self, id: TrackId, code: impl Into<FourCC>) -> Result<Peak, Refusal> {
         let [first, count] = ffi::peak(self.file, id.0, code.into().0)?;
         let samples: RangeInclusive<u32> = promised(first)..=promised(first + count - 1);

@@ -6,6 +6,13 @@ use std::fmt;
 ///
 /// Of a file the lowest number that applies is given; then comes 14, then 15 or 18, then 16. In reading a slip 17 comes
 /// before 16.
+///
+/// ```
+/// use chaldoref::Refusal;
+///
+/// assert_eq!((Refusal::try_from(15), u32::from(Refusal::Outside)), (Ok(Refusal::Outside), 15));
+/// assert_eq!(Refusal::try_from(19).unwrap_err().to_string(), "no refusal has the number 19");
+/// ```
 #[non_exhaustive]
 #[derive(Clone, Copy, Debug, PartialEq, Eq, PartialOrd, Ord, Hash)]
 pub enum Refusal {
@@ -49,7 +56,7 @@ pub enum Refusal {
 
 impl Refusal {
     /// Every refusal, in the order of their numbers.
-    pub const ALL: [Refusal; 18] = [
+    pub const ALL: &'static [Refusal] = &[
         Refusal::FileTooLong,
         Refusal::AtomSize,
         Refusal::AtomCount,
@@ -71,13 +78,15 @@ impl Refusal {
     ];
 
     /// The refusal's number in document 01, from 1.
+    #[must_use]
     pub const fn number(self) -> u32 {
         self as u32
     }
 
     /// The refusal with that number, if there is one.
+    #[must_use]
     pub fn from_number(number: u32) -> Option<Refusal> {
-        Refusal::ALL.into_iter().find(|refusal| refusal.number() == number)
+        Refusal::ALL.iter().copied().find(|refusal| refusal.number() == number)
     }
 
     /// When document 01 gives this refusal, in its own words.
@@ -117,3 +126,33 @@ impl fmt::Display for Refusal {
 }
 
 impl Error for Refusal {}
+
+impl From<Refusal> for u32 {
+    fn from(refusal: Refusal) -> u32 {
+        refusal.number()
+    }
+}
+
+impl TryFrom<u32> for Refusal {
+    type Error = UnknownRefusal;
+
+    fn try_from(number: u32) -> Result<Refusal, UnknownRefusal> {
+        Refusal::from_number(number).ok_or(UnknownRefusal { number })
+    }
+}
+
+/// The error that no refusal has a number.
+#[non_exhaustive]
+#[derive(Clone, Copy, Debug, PartialEq, Eq, Hash)]
+pub struct UnknownRefusal {
+    /// The number.
+    pub number: u32,
+}
+
+impl fmt::Display for UnknownRefusal {
+    fn fmt(&self, f: &mut fmt::Formatter<'_>) -> fmt::Result {
+        write!(f, "no refusal has the number {}", self.number)
+    }
+}
+
+impl Error for UnknownRefusal {}

@@ -6,6 +6,7 @@ use crate::units::{ByteRange, MediaTime, TrackId};
 use std::collections::TryReserveError;
 use std::error::Error;
 use std::fmt;
+use std::ops::Range;
 
 /// The most pairs that a slip has.
 const MAX_PAIRS: usize = 1_048_576;
@@ -25,6 +26,7 @@ const MAX_PAIRS: usize = 1_048_576;
 /// assert_eq!((malformed.place, Refusal::from(malformed)), (12, Refusal::MalformedSlip));
 /// # Ok::<(), Refusal>(())
 /// ```
+#[non_exhaustive]
 #[derive(Clone, Debug, PartialEq, Eq, Hash)]
 pub struct Slip {
     /// The track that is filed. It is not 0.
@@ -63,7 +65,17 @@ impl fmt::Display for MalformedSlip {
 impl Error for MalformedSlip {}
 
 impl Slip {
+    /// A slip of these numbers, of which nothing is checked.
+    #[must_use]
+    pub fn new(id: TrackId, scale: u32, time: Range<MediaTime>, pairs: Vec<ByteRange>) -> Slip {
+        Slip { id, scale, a: time.start, b: time.end, pairs }
+    }
+
     /// Reads a slip, which must take up all of the bytes.
+    ///
+    /// # Errors
+    ///
+    /// Where the bytes are no slip: the place of the first fault.
     ///
     /// # Panics
     ///
@@ -72,7 +84,11 @@ impl Slip {
         Slip::try_read(bytes).expect("there is memory for a slip's pairs")
     }
 
-    /// The same; the outer error is that there is no memory for its pairs.
+    /// The same without a panic.
+    ///
+    /// # Errors
+    ///
+    /// The outer error is that there is no memory for the pairs, the inner one that of [`Slip::read`].
     pub fn try_read(bytes: &[u8]) -> Result<Result<Slip, MalformedSlip>, TryReserveError> {
         // Each number of a pair takes a byte at least.
         let pairs = room((bytes.len() / 2).min(MAX_PAIRS))?;
@@ -87,17 +103,19 @@ impl Slip {
             Err(Refusal::MalformedSlip) => return Err(MalformedSlip { place: promised(place) }),
             Err(_) => broken(),
         }
-        let (id, a, b) = (TrackId(promised(id)), MediaTime(promised(a)), MediaTime(promised(b)));
-        Ok(Slip { id, scale: promised(scale), a, b, pairs })
+        let time = MediaTime(promised(a))..MediaTime(promised(b));
+        Ok(Slip::new(TrackId(promised(id)), promised(scale), time, pairs))
     }
 
     /// The film time that is filed, from `a` to `b`, in units of the slip's time scale.
+    #[must_use]
     pub fn film_time(&self) -> u32 {
         self.b.0.saturating_sub(self.a.0)
     }
 
     /// The total of the pairs' lengths.
+    #[must_use]
     pub fn bytes(&self) -> u64 {
-        self.pairs.iter().map(|pair| u64::from(pair.length)).sum()
+        ByteRange::total(&self.pairs)
     }
 }

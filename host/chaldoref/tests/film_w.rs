@@ -34,15 +34,10 @@ fn the_stored_film_is_w() {
 #[test]
 fn tracks() {
     let file = w().bytes();
-    let track = Track {
-        id: ONE,
-        subtype: FourCC::from_bytes(*b"vide"),
-        scale: 600,
-        total: MediaTime(120),
-        samples: 4,
-        chunks: 2,
-        edits: 0,
-    };
+    let mut track = Track::default();
+    (track.id, track.subtype) = (ONE, FourCC::from_bytes(*b"vide"));
+    (track.scale, track.total) = (600, MediaTime(120));
+    (track.samples, track.chunks, track.edits) = (4, 2, 0);
     let movie = opened(&file);
     assert_eq!(movie.tracks(), [track]);
     assert_eq!(movie.track(ONE), Some(&track));
@@ -64,20 +59,14 @@ fn times() {
 fn samples() {
     let file = w().bytes();
     let movie = opened(&file);
-    let third = Sample {
-        decode: MediaTime(48),
-        duration: 24,
-        composition: 48,
-        sync: true,
-        description: 1,
-        chunk: 1,
-        offset: 1150,
-        size: 0,
-    };
-    assert_eq!(movie.sample(ONE, 3), Ok(third));
-    let fourth =
-        Sample { decode: MediaTime(72), duration: 48, composition: 72, chunk: 2, offset: 900, size: 70, ..third };
-    assert_eq!(movie.sample(ONE, 4), Ok(fourth));
+    let mut sample = Sample::default();
+    (sample.decode, sample.duration, sample.composition) = (MediaTime(48), 24, 48);
+    (sample.sync, sample.description) = (true, 1);
+    (sample.chunk, sample.offset, sample.size) = (1, 1150, 0);
+    assert_eq!(movie.sample(ONE, 3), Ok(sample));
+    (sample.decode, sample.duration, sample.composition) = (MediaTime(72), 48, 72);
+    (sample.chunk, sample.offset, sample.size) = (2, 900, 70);
+    assert_eq!(movie.sample(ONE, 4), Ok(sample));
     for n in [0, 5] {
         assert_eq!(movie.sample(ONE, n), Err(Refusal::Outside));
         assert_eq!(movie.sample_bytes(ONE, n), Err(Refusal::Outside));
@@ -97,9 +86,10 @@ fn sample_bytes_are_a_part_of_the_file() {
 fn stretches() {
     let file = w().bytes();
     let movie = opened(&file);
-    let part = Stretch { pairs: vec![pair(1100, 50), pair(900, 70)], bytes: 120 };
+    let part = Stretch::new(vec![pair(1100, 50), pair(900, 70)]);
+    let whole = Stretch::new(vec![pair(1000, 150), pair(900, 70)]);
+    assert_eq!((part.bytes, whole.bytes), (120, 220));
     assert_eq!(movie.stretch(ONE, media(24, 73)), Ok(part));
-    let whole = Stretch { pairs: vec![pair(1000, 150), pair(900, 70)], bytes: 220 };
     assert_eq!(movie.stretch(ONE, media(0, 120)), Ok(whole));
     for outside in [media(24, 24), media(25, 24), media(0, 121), media(120, 121)] {
         assert_eq!(movie.stretch(ONE, outside), Err(Refusal::Outside));
@@ -114,7 +104,9 @@ fn stretches_into_lent_room() {
     assert_eq!(movie.stretch_into(ONE, media(24, 73), &mut room[..1]), Err(Refusal::NoRoom));
     assert_eq!(movie.stretch_into(ONE, media(24, 24), &mut room), Err(Refusal::Outside));
     assert_eq!(room, [pair(7, 7); 3]);
-    assert_eq!(movie.stretch_into(ONE, media(24, 73), &mut room), Ok(StretchSize { pairs: 2, bytes: 120 }));
+    let mut size = StretchSize::default();
+    (size.pairs, size.bytes) = (2, 120);
+    assert_eq!(movie.stretch_into(ONE, media(24, 73), &mut room), Ok(size));
     assert_eq!(room, [pair(1100, 50), pair(900, 70), pair(7, 7)]);
 }
 
@@ -136,7 +128,8 @@ fn slips() {
 fn slips_are_read_back() {
     let slip = Slip::read(&SLIP).unwrap();
     let pairs = vec![pair(1100, 50), pair(900, 70)];
-    assert_eq!(slip, Slip { id: ONE, scale: 600, a: MediaTime(24), b: MediaTime(73), pairs });
+    assert_eq!(slip, Slip::new(ONE, 600, media(24, 73), pairs));
+    assert_eq!((slip.id, slip.scale, slip.a, slip.b), (ONE, 600, MediaTime(24), MediaTime(73)));
     assert_eq!((slip.film_time(), slip.bytes()), (49, 120));
 }
 

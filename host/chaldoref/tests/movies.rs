@@ -88,23 +88,62 @@ fn ranges_of_a_film() {
 
 #[test]
 fn codes() {
-    for feature in Feature::ALL {
+    for &feature in Feature::ALL {
         assert_eq!(FourCC::from(feature), feature.code());
         assert_eq!(Feature::from_code(feature.code()), Some(feature));
+        assert_eq!(Feature::try_from(feature.code()), Ok(feature));
         let name = feature.code().to_string().to_uppercase();
         let line = format!("#define CHALDOREF_{name} UINT32_C({:#010x})\n", feature.code().0);
         assert!(include_str!("../../../include/chaldoref.h").contains(&line), "{line}");
     }
     let codes = ["avvb", "avab", "tvsz", "vfps", "mvbr", "mabr"];
-    assert_eq!(Feature::ALL.map(|feature| feature.code().to_string()), codes);
+    assert_eq!(Feature::ALL.iter().map(|feature| feature.code().to_string()).collect::<Vec<_>>(), codes);
     let subtypes = ["vide", "soun", "vide", "vide", "vide", "soun"];
-    assert_eq!(Feature::ALL.map(|feature| feature.subtype().to_string()), subtypes);
-    assert_eq!(Feature::from_code(FourCC::from_bytes(*b"vfmt")), None);
+    assert_eq!(Feature::ALL.iter().map(|feature| feature.subtype().to_string()).collect::<Vec<_>>(), subtypes);
+    let unknown = FourCC::from_bytes(*b"vfmt");
+    assert_eq!(Feature::from_code(unknown), None);
+    let error = Feature::try_from(unknown).unwrap_err();
+    assert_eq!(error.code, unknown);
+    assert_eq!(error.to_string(), "no feature that can be computed has the code vfmt");
     assert_eq!(Feature::HighestVideoBitRate.to_string(), "highest video bit rate over one second");
     assert_eq!(FourCC::from_bytes(*b"url ").to_string(), "url ");
     assert_eq!(FourCC(0x7669_6405).to_string(), "0x76696405");
     assert_eq!(FourCC(0x7669_647f).to_string(), "0x7669647f");
     assert_eq!(format!("{:>6}|{:<6}|", FourCC::from_bytes(*b"vide"), TrackId(3)), "  vide|3     |");
+}
+
+#[test]
+fn codes_from_text_and_numbers() {
+    for text in ["vide", "url ", "    ", "~~~~", "0x01", "0x76696405", "0xa9637079", "0xffffffff", "0x00000000"] {
+        assert_eq!(text.parse::<FourCC>().unwrap().to_string(), text);
+    }
+    assert_eq!("0xA9637079".parse(), Ok(FourCC(0xa963_7079)));
+    let lengths = ["", "vid", "videx", "vid\u{e9}", "0x1", "0x7669640", "0x766964050"];
+    let characters = ["vid\x7f", "vid\n", "vi\u{e9}", "0x+1234567", "0X76696405", "0x7669640g"];
+    for text in lengths.into_iter().chain(characters) {
+        let error = text.parse::<FourCC>().unwrap_err().to_string();
+        assert_eq!(error, "a code is four printable ASCII characters, or 0x and eight digits", "{text:?}");
+    }
+    let code = FourCC::from(*b"vide");
+    assert_eq!((u32::from(code), <[u8; 4]>::from(code)), (0x7669_6465, *b"vide"));
+    assert_eq!(FourCC::from(0x7669_6465), code);
+    // So that a code may be asked for as it is written.
+    let file = w().bytes();
+    assert_eq!(Movie::open(&file).unwrap().feature(TrackId(1), *b"avvb"), Ok(8800));
+}
+
+#[test]
+fn times_and_ids_from_text_and_numbers() {
+    let most = u32::MAX.to_string();
+    assert_eq!([most.parse(), "24".parse()], [Ok(MediaTime(u32::MAX)), Ok(MediaTime(24))]);
+    assert_eq!((most.parse(), "7".parse()), (Ok(MovieTime(u32::MAX)), Ok(TrackId(7))));
+    for text in ["", "-1", "24.0", "0x18", " 24", "4294967296"] {
+        assert!(text.parse::<MediaTime>().is_err(), "{text:?}");
+        assert!(text.parse::<MovieTime>().is_err() && text.parse::<TrackId>().is_err(), "{text:?}");
+    }
+    assert_eq!((MediaTime::from(1), MovieTime::from(2), TrackId::from(3)), (MediaTime(1), MovieTime(2), TrackId(3)));
+    assert_eq!([u32::from(MediaTime(1)), MovieTime(2).into(), TrackId(3).into()], [1, 2, 3]);
+    assert_eq!([MediaTime(1).to_string(), MovieTime(2).to_string(), TrackId(3).to_string()], ["1", "2", "3"]);
 }
 
 #[test]

@@ -21,7 +21,7 @@ fn film(subtype: &[u8; 4], scale: u32, samples: &[(u32, u32)]) -> Vec<u8> {
 }
 
 fn peak(samples: RangeInclusive<u32>, a: u32, b: u32) -> Result<Peak, Refusal> {
-    Ok(Peak { samples, time: MediaTime(a)..MediaTime(b) })
+    Ok(Peak::new(samples, MediaTime(a)..MediaTime(b)))
 }
 
 #[test]

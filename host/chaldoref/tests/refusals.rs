@@ -31,8 +31,14 @@ fn numbers_and_words() {
         let refusal = Refusal::from_number(number).unwrap();
         assert_eq!((refusal.number(), refusal.to_string().as_str()), (number, words));
         assert_eq!(Refusal::ALL[number as usize - 1], refusal);
+        assert_eq!((Refusal::try_from(number), u32::from(refusal)), (Ok(refusal), number));
     }
-    assert_eq!((Refusal::from_number(0), Refusal::from_number(19)), (None, None));
+    assert_eq!(Refusal::ALL.len(), PAPER.len());
+    for number in [0, 19, u32::MAX] {
+        assert_eq!(Refusal::from_number(number), None);
+        let error = Refusal::try_from(number).unwrap_err();
+        assert_eq!((error.number, error.to_string()), (number, format!("no refusal has the number {number}")));
+    }
 }
 
 #[test]

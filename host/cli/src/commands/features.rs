@@ -18,7 +18,7 @@ struct Found {
 /// All six features; that one of them cannot be computed is an answer here.
 pub fn features(movie: &Movie, track: TrackId, to: Answer) -> Result<(), Failure> {
     let track = movie.track(track).ok_or(Refusal::NoTrack)?;
-    let found: Vec<Found> = Feature::ALL.into_iter().map(|feature| found(movie, track, feature.code())).collect();
+    let found: Vec<Found> = Feature::ALL.iter().map(|feature| found(movie, track, feature.code())).collect();
     print(track, &found, to)
 }
 

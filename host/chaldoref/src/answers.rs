@@ -1,0 +1,124 @@
+//! The answers of a movie. Those that may get more fields in later versions cannot be written out field by field
+//! elsewhere; they have a default or a constructor instead.
+use crate::units::{ByteRange, FourCC, MediaTime, TrackId};
+use std::ops::{Range, RangeInclusive};
+
+/// A track of the track list.
+#[repr(C)]
+#[non_exhaustive]
+#[derive(Clone, Copy, Debug, Default, PartialEq, Eq, Hash)]
+pub struct Track {
+    /// Its ID, which no other track of the movie has.
+    pub id: TrackId,
+    /// What its handler says it is, such as `vide` or `soun`.
+    pub subtype: FourCC,
+    /// The time scale of its media: units a second.
+    pub scale: u32,
+    /// The total of its samples' durations, which is where its media ends.
+    pub total: MediaTime,
+    /// The number of its samples.
+    pub samples: u32,
+    /// The number of its chunks.
+    pub chunks: u32,
+    /// The number of its edits; 0 without an edit list.
+    pub edits: u32,
+}
+
+impl Track {
+    /// The length of an output that is enough for the slip of any stretch of this track.
+    #[must_use]
+    pub fn slip_room(&self) -> usize {
+        24 + 10 * self.chunks as usize
+    }
+}
+
+/// A sample of a track.
+#[non_exhaustive]
+#[derive(Clone, Copy, Debug, Default, PartialEq, Eq, Hash)]
+pub struct Sample {
+    /// Where it starts: the total of the durations before it.
+    pub decode: MediaTime,
+    /// How long it lasts; it may be 0.
+    pub duration: u32,
+    /// When it is shown: the decode time plus the sample's offset, which may be negative.
+    pub composition: i64,
+    /// Whether it is a sync sample.
+    pub sync: bool,
+    /// The ID of its sample description, from 1.
+    pub description: u32,
+    /// The number of its chunk, from 1.
+    pub chunk: u32,
+    /// The place of its first byte in the file.
+    pub offset: u32,
+    /// The number of its bytes; it may be 0.
+    pub size: u32,
+}
+
+/// What a track shows at a movie time. There is no third case.
+#[derive(Clone, Copy, Debug, PartialEq, Eq, Hash)]
+pub enum Shown {
+    /// The media at that time.
+    At(MediaTime),
+    /// Nothing: the movie time falls in an empty edit.
+    Nothing,
+}
+
+/// The bytes of a stretch of a track.
+#[non_exhaustive]
+#[derive(Clone, Debug, Default, PartialEq, Eq, Hash)]
+pub struct Stretch {
+    /// One range for each chunk touched, in chunk order.
+    pub pairs: Vec<ByteRange>,
+    /// The total of their lengths.
+    pub bytes: u64,
+}
+
+impl Stretch {
+    /// The stretch of these ranges, whose lengths are added up.
+    #[must_use]
+    pub fn new(pairs: Vec<ByteRange>) -> Stretch {
+        let bytes = ByteRange::total(&pairs);
+        Stretch { pairs, bytes }
+    }
+}
+
+/// How much of lent room a stretch has filled, and its bytes.
+#[non_exhaustive]
+#[derive(Clone, Copy, Debug, Default, PartialEq, Eq, Hash)]
+pub struct StretchSize {
+    /// The number of ranges, which are the first of the room.
+    pub pairs: usize,
+    /// The total of their lengths.
+    pub bytes: u64,
+}
+
+/// A record of a stored profile.
+#[repr(C)]
+#[derive(Clone, Copy, Debug, Default, PartialEq, Eq, Hash)]
+pub struct ProfileRecord {
+    /// The part-ID.
+    pub part: u32,
+    /// The feature's code.
+    pub code: FourCC,
+    /// The feature's value as the file has it; nothing checks it.
+    pub value: u32,
+}
+
+/// The second of a track that has the highest bit rate: a run of samples that lasts a second or as little more as can
+/// be; the whole track where it is shorter than a second.
+#[non_exhaustive]
+#[derive(Clone, Debug, PartialEq, Eq, Hash)]
+pub struct Peak {
+    /// The numbers of its samples, from 1.
+    pub samples: RangeInclusive<u32>,
+    /// From where its first sample starts up to where its last one ends.
+    pub time: Range<MediaTime>,
+}
+
+impl Peak {
+    /// The peak of these samples, which have that time.
+    #[must_use]
+    pub fn new(samples: RangeInclusive<u32>, time: Range<MediaTime>) -> Peak {
+        Peak { samples, time }
+    }
+}
