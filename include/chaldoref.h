@@ -291,8 +291,8 @@ static inline const char *chaldoref_refusal_text(uint32_t number)
  *
  * The pointer itself; for NULL a pointer to memory of which nothing is read or written, the
  * length being 0. NULL with any other length stays an error of the caller.
- * bytes are a file or a slip, numbers a room, out a slip's bytes. Places have a pair of
- * their own, the signed one for chaldoref_sample: no places are refused 16.
+ * There is one for bytes that are read (file, slip), for room, for out and for places; the
+ * signed places are those of chaldoref_sample.
  */
 static inline const uint8_t *chaldoref_lend_bytes(const uint8_t *bytes)
 {
@@ -300,10 +300,10 @@ static inline const uint8_t *chaldoref_lend_bytes(const uint8_t *bytes)
     return bytes != NULL ? bytes : &nothing;
 }
 
-static inline uint32_t *chaldoref_lend_numbers(uint32_t *numbers)
+static inline uint32_t *chaldoref_lend_room(uint32_t *room)
 {
     static uint32_t nothing = 0;
-    return numbers != NULL ? numbers : &nothing;
+    return room != NULL ? room : &nothing;
 }
 
 static inline uint8_t *chaldoref_lend_out(uint8_t *out)
@@ -433,7 +433,8 @@ struct chaldoref_media_time_info {
 };
 
 /* For the places of chaldoref_media_time. */
-static inline struct chaldoref_media_time_info chaldoref_media_time_of(const uint64_t places[CHALDOREF_MEDIA_TIME_PLACES])
+static inline struct chaldoref_media_time_info chaldoref_media_time_of(
+    const uint64_t places[CHALDOREF_MEDIA_TIME_PLACES])
 {
     struct chaldoref_media_time_info media;
     media.shown = places[0] == 1;

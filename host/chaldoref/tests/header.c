@@ -132,9 +132,9 @@ static void print_slips(const struct film *film, uint32_t a, uint32_t b)
 static void print_nothing_lent(const struct film *film)
 {
     uint64_t places[CHALDOREF_READ_SLIP_PLACES];
-    uint32_t no_file = chaldoref_track_list(chaldoref_lend_bytes(NULL), 0, chaldoref_lend_numbers(NULL), 0, places, 1);
-    uint32_t no_slip = chaldoref_read_slip(chaldoref_lend_bytes(NULL), 0, chaldoref_lend_numbers(NULL), 0, places, 6);
-    uint32_t no_room = chaldoref_track_list(film->bytes, film->len, chaldoref_lend_numbers(NULL), 0, places, 1);
+    uint32_t no_file = chaldoref_track_list(chaldoref_lend_bytes(NULL), 0, chaldoref_lend_room(NULL), 0, places, 1);
+    uint32_t no_slip = chaldoref_read_slip(chaldoref_lend_bytes(NULL), 0, chaldoref_lend_room(NULL), 0, places, 6);
+    uint32_t no_room = chaldoref_track_list(film->bytes, film->len, chaldoref_lend_room(NULL), 0, places, 1);
     uint32_t no_out = chaldoref_write_slip(film->bytes, film->len, ONE, 0, 1, chaldoref_lend_out(NULL), 0, places, 1);
     uint32_t no_places = chaldoref_sample_at(film->bytes, film->len, ONE, 0, chaldoref_lend_places(NULL), 0);
     uint32_t no_signed = chaldoref_sample(film->bytes, film->len, ONE, 1, chaldoref_lend_signed_places(NULL), 0);
@@ -149,7 +149,7 @@ static void print_lent(struct film *film)
     uint64_t places = 0;
     int64_t signed_places = 0;
     printf("lent %d %d %d %d %d\n", chaldoref_lend_bytes(film->bytes) == film->bytes,
-           chaldoref_lend_numbers(&numbers) == &numbers, chaldoref_lend_out(film->bytes) == film->bytes,
+           chaldoref_lend_room(&numbers) == &numbers, chaldoref_lend_out(film->bytes) == film->bytes,
            chaldoref_lend_places(&places) == &places, chaldoref_lend_signed_places(&signed_places) == &signed_places);
 }
 
