@@ -3,9 +3,9 @@ use crate::failure::Failure;
 use crate::help;
 use crate::input;
 use crate::syntax::{Command, Opt, BYTES, JSON};
+use crate::time::{Span, Time};
 use chaldoref::{FourCC, MediaTime, MovieTime, TrackId};
 use std::ffi::{OsStr, OsString};
-use std::ops::Range;
 
 /// What the arguments ask for: a text such as the help, or an answer.
 pub enum Parsed {
@@ -24,10 +24,10 @@ pub struct Request {
 pub enum Ask {
     Tracks,
     Sample { track: TrackId, n: u32, bytes: bool },
-    At { track: TrackId, time: MediaTime },
+    At { track: TrackId, time: Time },
     Map { track: TrackId, time: MovieTime },
-    Stretch { track: TrackId, time: Range<MediaTime>, bytes: bool },
-    Slip { track: TrackId, time: Range<MediaTime>, out: Option<OsString> },
+    Stretch { track: TrackId, time: Span, bytes: bool },
+    Slip { track: TrackId, time: Span, out: Option<OsString> },
     ReadSlip { hex: bool },
     Check { slips: Vec<OsString> },
     Features { track: TrackId, code: Option<FourCC> },
@@ -117,12 +117,11 @@ impl Words {
 
     fn request(mut self) -> Result<Request, Failure> {
         let most = self.command.operands.len();
-        let least = self.command.operands.iter().filter(|name| !name.starts_with('[')).count();
         if let Some(surplus) = self.operands.get(most).filter(|_| !self.command.takes_several()) {
             return Err(self.wrong(too_many(surplus)));
         }
-        if self.operands.len() < least {
-            return Err(self.wrong(format!("{} is missing", self.name(self.operands.len()))));
+        if let Some(missing) = self.command.missing(self.operands.len()) {
+            return Err(self.wrong(format!("{} is missing", self.name(missing))));
         }
         let json = self.has(&JSON);
         if json && (self.has(&BYTES) || self.out.is_some()) {
@@ -154,16 +153,29 @@ impl Words {
         self.number(place).map(TrackId)
     }
 
-    pub fn media_time(&self, place: usize) -> Result<MediaTime, Failure> {
-        self.number(place).map(MediaTime)
+    pub fn media_time(&self, place: usize) -> Result<Time, Failure> {
+        let word = &self.operands[place];
+        let units = number(word).map(|units| Time::Units(MediaTime(units)));
+        let wanted = "a number of units from 0 to 4294967295, or as 12.5s, 00:01:02.250 or end";
+        units.or_else(|| Time::parse(word.to_str()?)).ok_or_else(|| self.misfit(place, wanted))
     }
 
-    /// Two media times, one after the other.
-    pub fn stretch(&self, place: usize) -> Result<Range<MediaTime>, Failure> {
-        Ok(self.media_time(place)?..self.media_time(place + 1)?)
+    /// Two media times, one after the other, or none for the whole track.
+    pub fn stretch(&self, place: usize) -> Result<Span, Failure> {
+        if place == self.operands.len() {
+            return Ok(Span::Whole);
+        }
+        Ok(Span::Between(self.media_time(place)?, self.media_time(place + 1)?))
     }
 
+    /// A plain number, since the library does not tell the movie's time scale.
     pub fn movie_time(&self, place: usize) -> Result<MovieTime, Failure> {
+        let word = &self.operands[place];
+        if word.to_str().and_then(Time::parse).is_some() {
+            let why = "the movie's time scale is not known here";
+            let wanted = format!("{} is taken in plain units only, and not as", self.name(place));
+            return Err(self.wrong(format!("{wanted} {}: {why}", quoted(word))));
+        }
         self.number(place).map(MovieTime)
     }
 

@@ -9,8 +9,8 @@ use crate::args::{Ask, Request};
 use crate::failure::Failure;
 use crate::input;
 use crate::json::{document, Object};
-use crate::warnings;
-use chaldoref::{MediaTime, Movie, Refusal, TrackId};
+use crate::table::{number, Column};
+use chaldoref::{Movie, Refusal, TrackId};
 use std::ffi::OsStr;
 use std::io::{self, Write};
 
@@ -29,7 +29,7 @@ pub fn run(request: &Request, name: &OsStr, out: &mut dyn Write) -> Result<(), F
         Ask::Tracks => questions::tracks(&movie()?, to),
         Ask::Sample { track, n, bytes: false } => questions::sample(&movie()?, *track, *n, to),
         Ask::Sample { track, n, bytes: true } => questions::sample_bytes(&movie()?, *track, *n, to),
-        Ask::At { track, time } => questions::at(&movie()?, *track, *time, to),
+        Ask::At { track, time } => questions::at(&movie()?, *track, time, to),
         Ask::Map { track, time } => questions::map(&movie()?, *track, *time, to),
         Ask::Features { track, code: None } => features::features(&movie()?, *track, to),
         Ask::Features { track, code: Some(code) } => features::feature(&movie()?, *track, *code, to),
@@ -38,8 +38,7 @@ pub fn run(request: &Request, name: &OsStr, out: &mut dyn Write) -> Result<(), F
         Ask::Stretch { track, time, bytes: true } => ranges::stretch_bytes(&movie()?, *track, time, to),
         Ask::Slip { track, time, out: None } => ranges::slip(&movie()?, *track, time, to),
         Ask::Slip { track, time, out: Some(slip_name) } => {
-            let slip = movie()?.write_slip(*track, time.clone())?;
-            warnings::tell(&warnings::of_stretch(&file, *track));
+            let slip = ranges::slip_of(&movie()?, *track, time)?;
             ranges::write_out(&slip, slip_name, name, to)
         }
         Ask::ReadSlip { hex } => {
@@ -68,10 +67,8 @@ fn refusal_fields<'o, 'w>(o: &'o mut Object<'w>, refusal: Refusal) -> io::Result
     o.put("refused", refusal.number())?.put("reason", refusal.to_string())
 }
 
-/// A time in seconds, to the millisecond.
-fn seconds(time: MediaTime, scale: u32) -> String {
-    format!("{:.3}", time.seconds(scale))
-}
+/// The column of a time beside its units.
+const CLOCK: Column = number("hh:mm:ss.mmm");
 
 /// The time scale of a track that a question has been answered of.
 fn scale(movie: &Movie, track: TrackId) -> Result<u32, Refusal> {

@@ -2,9 +2,13 @@
 use crate::syntax::{Command, Opt, COMMANDS};
 
 const OPERANDS: &str = "\
-FILE is a whole film, and for read-slip a slip; - is standard input. SLIP is a slip. A slip is raw bytes or hex text.
-TRACK is a track ID. Numbers are decimal, or hex after 0x, and below 2^32. Media times count in the track's own time
-scale, movie times in the movie's. CODE is four characters, or hex after 0x.
+FILE is a whole film, and for read-slip a slip; - is standard input. SLIP is a
+slip. A slip is raw bytes or hex text. TRACK is a track ID. Numbers are decimal,
+or hex after 0x, and below 2^32. CODE is four characters, or hex after 0x.
+MEDIA-TIME, A and B are units of the track's own time scale, or seconds as
+12.5s, or hours, minutes and seconds as 00:01:02.250, rounded down to units, or
+end, where the track ends. Without A and B the whole track is taken. MOVIE-TIME
+is in units of the movie's time scale only.
 ";
 
 const REST: &str = "\

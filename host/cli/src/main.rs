@@ -17,6 +17,7 @@ mod json;
 mod output;
 mod syntax;
 mod table;
+mod time;
 mod warnings;
 
 use args::{Parsed, Request};

@@ -9,7 +9,7 @@ pub struct Opt {
     pub about: &'static str,
 }
 
-/// A command. Operands in brackets may be left out, and one with dots may be given several times.
+/// A command. Operands in brackets may be left out, all of one pair together, and one with dots may be given several times.
 pub struct Command {
     pub name: &'static str,
     pub operands: &'static [&'static str],
@@ -54,16 +54,16 @@ pub static COMMANDS: [Command; 10] = [
     },
     Command {
         name: "stretch",
-        operands: &["FILE", "TRACK", "A", "B"],
+        operands: &["FILE", "TRACK", "[A", "B]"],
         options: &[&BYTES, &JSON],
-        about: "the byte ranges of a track from media time A up to B",
+        about: "the byte ranges of a track, from media time A up to B",
         ask: |words| Ok(Ask::Stretch { track: words.track(1)?, time: words.stretch(2)?, bytes: words.has(&BYTES) }),
     },
     Command {
         name: "slip",
-        operands: &["FILE", "TRACK", "A", "B"],
+        operands: &["FILE", "TRACK", "[A", "B]"],
         options: &[&OUT, &JSON],
-        about: "the slip of a track from media time A up to B, in hex",
+        about: "the slip of a track, from media time A up to B, in hex",
         ask: |words| Ok(Ask::Slip { track: words.track(1)?, time: words.stretch(2)?, out: words.out.clone() }),
     },
     Command {
@@ -104,6 +104,12 @@ impl Command {
     /// Whether all its operands are files, each of which is answered alone.
     pub fn takes_files(&self) -> bool {
         self.operands[0].ends_with("...")
+    }
+
+    /// The place of the next operand that must stand after so many.
+    pub fn missing(&self, given: usize) -> Option<usize> {
+        let next = self.operands.get(given)?;
+        (!next.starts_with('[')).then_some(given)
     }
 
     /// Whether its last operand may be given several times.

@@ -22,8 +22,8 @@ fn answers_on(film: &[u8], args: &[&str], out: &str) {
 fn tracks() {
     answers(
         "tracks films/w.mov",
-        "id  subtype  scale  total  seconds  samples  chunks  edits\n \
-          1  vide       600    120    0.200        4       2      0\n",
+        "id  subtype  scale  total  hh:mm:ss.mmm  samples  chunks  edits\n \
+          1  vide       600    120  00:00:00.200        4       2      0\n",
     );
     answers(
         "tracks films/w.mov --json",
@@ -39,10 +39,10 @@ fn tracks_with_odd_subtypes() {
     answers_on(
         &film,
         &["tracks", "-"],
-        "        id  subtype     scale  total  seconds  samples  chunks  edits\n         \
-                  1  a\"\\b          600    120    0.200        4       2      0\n\
-         4000000000  0x00016162    600    120    0.200        4       2      0\n         \
-                  7  soun        44100      9    0.000        9       3      1\n",
+        "        id  subtype     scale  total  hh:mm:ss.mmm  samples  chunks  edits\n         \
+                  1  a\"\\b          600    120  00:00:00.200        4       2      0\n\
+         4000000000  0x00016162    600    120  00:00:00.200        4       2      0\n         \
+                  7  soun        44100      9  00:00:00.000        9       3      1\n",
     );
     let json = run_on(&film, &["tracks", "-", "--json"]).out;
     assert!(json.contains("\"id\":1,\"subtype\":\"a\\\"\\\\b\","), "{json}");
@@ -51,7 +51,7 @@ fn tracks_with_odd_subtypes() {
 
 #[test]
 fn no_tracks() {
-    answers_on(&film_of(vec![]), &["tracks", "-"], "id  subtype  scale  total  seconds  samples  chunks  edits\n");
+    answers_on(&film_of(vec![]), &["tracks", "-"], "id  subtype  scale  total  hh:mm:ss.mmm  samples  chunks  edits\n");
     answers_on(&film_of(vec![]), &["tracks", "-", "--json"], "{\"tracks\":[],\"warnings\":[]}\n");
 }
 
@@ -59,8 +59,8 @@ fn no_tracks() {
 fn samples() {
     answers(
         "sample films/w.mov 1 3",
-        "sample  decode  seconds  duration  composition  sync  description  chunk  offset  size\n     \
-              3      48    0.080        24           48  yes             1      1    1150     0\n",
+        "sample  decode  hh:mm:ss.mmm  duration  composition  sync  description  chunk  offset  size\n     \
+              3      48  00:00:00.080        24           48  yes             1      1    1150     0\n",
     );
     answers(
         "sample --json films/w.mov 1 4",
@@ -71,8 +71,8 @@ fn samples() {
     answers_on(
         &film,
         &["sample", "-", "1", "1"],
-        "sample  decode  seconds  duration  composition  sync  description  chunk  offset  size\n     \
-              1       0    0.000        24           -7  no              1      1    1000   100\n",
+        "sample  decode  hh:mm:ss.mmm  duration  composition  sync  description  chunk  offset  size\n     \
+              1       0  00:00:00.000        24           -7  no              1      1    1000   100\n",
     );
 }
 
@@ -85,9 +85,9 @@ fn bytes() {
 
 #[test]
 fn times() {
-    answers("at films/w.mov 1 24", "media time  seconds  sample\n        24    0.040       2\n");
+    answers("at films/w.mov 1 24", "media time  hh:mm:ss.mmm  sample\n        24  00:00:00.040       2\n");
     answers("at films/w.mov 0x1 0x77 --json", "{\"track\":1,\"media_time\":119,\"sample\":4}\n");
-    answers("map films/w.mov 1 60", "movie time  media time  seconds\n        60          60    0.100\n");
+    answers("map films/w.mov 1 60", "movie time  media time  hh:mm:ss.mmm\n        60          60  00:00:00.100\n");
     answers("map films/w.mov 1 60 --json", "{\"track\":1,\"movie_time\":60,\"media_time\":60}\n");
 }
 
@@ -95,20 +95,28 @@ fn times() {
 fn times_in_edits() {
     let edits = Some(vec![(60, -1, 65536), (60, 24, 65536)]);
     let film = film_of(vec![film::Track { edits, ..w_track() }]);
-    answers_on(&film, &["map", "-", "1", "59"], "movie time  media time  seconds\n        59     nothing        -\n");
+    answers_on(
+        &film,
+        &["map", "-", "1", "59"],
+        "movie time  media time  hh:mm:ss.mmm\n        59     nothing             -\n",
+    );
     answers_on(&film, &["map", "-", "1", "59", "--json"], "{\"track\":1,\"movie_time\":59,\"media_time\":null}\n");
-    answers_on(&film, &["map", "-", "1", "119"], "movie time  media time  seconds\n       119          83    0.138\n");
+    answers_on(
+        &film,
+        &["map", "-", "1", "119"],
+        "movie time  media time  hh:mm:ss.mmm\n       119          83  00:00:00.138\n",
+    );
 }
 
 #[test]
 fn stretches() {
     answers(
         "stretch films/w.mov 1 24 73",
-        "offset  length\n  1100      50\n   900      70\n2 ranges, 120 bytes\nfilm time 49 (0.082 seconds)\n",
+        "offset  length\n  1100      50\n   900      70\n2 ranges, 120 bytes\nmedia time 24 to 73 (00:00:00.040 to 00:00:00.121), film time 49 (00:00:00.081)\n",
     );
     answers(
         "stretch films/w.mov 1 0 1",
-        "offset  length\n  1000     100\n1 range, 100 bytes\nfilm time 1 (0.002 seconds)\n",
+        "offset  length\n  1000     100\n1 range, 100 bytes\nmedia time 0 to 1 (00:00:00.000 to 00:00:00.001), film time 1 (00:00:00.001)\n",
     );
     answers(
         "stretch films/w.mov 1 0 120 --json",
@@ -134,7 +142,8 @@ fn slips() {
     assert_eq!(run(&["read-slip", name]), run_on(SLIP.as_bytes(), &["read-slip", "--hex", "-"]));
 }
 
-const SLIP_READ: &str = "track  scale   a   b  film time  seconds\n    1    600  24  73         49    0.082\n\n\
+const SLIP_READ: &str =
+    "track  scale   a   b  film time  hh:mm:ss.mmm\n    1    600  24  73         49  00:00:00.081\n\n\
                          offset  length\n  1100      50\n   900      70\n2 ranges, 120 bytes\n";
 
 #[test]
@@ -177,7 +186,7 @@ fn features() {
          vfps  highest frame rate                         1638400  25.000 frames a second\n\
          mvbr  highest video bit rate over one second        8800  8800 bits a second\n\
          mabr  highest audio bit rate over one second  refused 18  only for sound tracks\n\
-         peak of mvbr: samples 1 to 4, media time 0 to 120 (0.000 to 0.200 seconds), the whole track\n",
+         peak of mvbr: samples 1 to 4, media time 0 to 120 (00:00:00.000 to 00:00:00.200), the whole track\n",
     );
     let refused = "\"value\":null,\"refused\":18,\"reason\":\"only for sound tracks\",\"peak\":null}";
     let found = "\"refused\":null,\"reason\":null,\"peak\":null}";
@@ -223,7 +232,7 @@ fn peaks() {
         &["features", "-", "1", "mvbr"],
         "code  name                                    value  meaning\n\
          mvbr  highest video bit rate over one second   1680  1680 bits a second\n\
-         peak of mvbr: samples 3 to 5, media time 10 to 20 (1.000 to 2.000 seconds)\n",
+         peak of mvbr: samples 3 to 5, media time 10 to 20 (00:00:01.000 to 00:00:02.000)\n",
     );
     let sound = film_of(vec![film::Track { subtype: *b"soun", ..burst }]);
     answers_on(
@@ -236,7 +245,7 @@ fn peaks() {
          vfps  highest frame rate                      refused 18  only for video tracks\n\
          mvbr  highest video bit rate over one second  refused 18  only for video tracks\n\
          mabr  highest audio bit rate over one second        1680  1680 bits a second\n\
-         peak of mabr: samples 3 to 5, media time 10 to 20 (1.000 to 2.000 seconds)\n",
+         peak of mabr: samples 3 to 5, media time 10 to 20 (00:00:01.000 to 00:00:02.000)\n",
     );
     answers_on(
         &sound,

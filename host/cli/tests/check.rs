@@ -67,15 +67,15 @@ fn filed_whole(name: &str) -> Desk {
 }
 
 const ADDS_UP: &str = "\
-slip     track  scale   a    b  film time  seconds  verdict
-1a.slip      1    600   0   24         24    0.040  good
-1b.slip      1    600  24  144        120    0.200  good
-2a.slip      2    600   0   72         72    0.120  good
-2b.slip      2    600  72  144         72    0.120  good
+slip     track  scale   a    b  film time  hh:mm:ss.mmm  verdict
+1a.slip      1    600   0   24         24  00:00:00.040  good
+1b.slip      1    600  24  144        120  00:00:00.200  good
+2a.slip      2    600   0   72         72  00:00:00.120  good
+2b.slip      2    600  72  144         72  00:00:00.120  good
 
-track  scale  filed  seconds  movie has  seconds  verdict
-    1    600    144    0.240        144    0.240  adds up
-    2    600    144    0.240        144    0.240  adds up
+track  scale  filed  hh:mm:ss.mmm  movie has  hh:mm:ss.mmm  verdict
+    1    600    144  00:00:00.240        144  00:00:00.240  adds up
+    2    600    144  00:00:00.240        144  00:00:00.240  adds up
 every slip is good, and every track adds up
 ";
 
@@ -114,10 +114,10 @@ fn one_slip_for_the_whole() {
     desk.slip("w.slip", 1, 0, 120).finds(
         "w.slip",
         0,
-        "slip    track  scale  a    b  film time  seconds  verdict\n\
-         w.slip      1    600  0  120        120    0.200  good\n\n\
-         track  scale  filed  seconds  movie has  seconds  verdict\n    \
-             1    600    120    0.200        120    0.200  adds up\n\
+        "slip    track  scale  a    b  film time  hh:mm:ss.mmm  verdict\n\
+         w.slip      1    600  0  120        120  00:00:00.200  good\n\n\
+         track  scale  filed  hh:mm:ss.mmm  movie has  hh:mm:ss.mmm  verdict\n    \
+             1    600    120  00:00:00.200        120  00:00:00.200  adds up\n\
          every slip is good, and every track adds up\n",
     );
 }
@@ -138,21 +138,21 @@ fn gaps() {
     desk.slip("2c.slip", 2, 30, 71).finds(
         "1b.slip 1a.slip 2b.slip 2c.slip",
         1,
-        "slip     track  scale   a    b  film time  seconds  verdict\n\
-         1b.slip      1    600  24  144        120    0.200  good\n\
-         1a.slip      1    600   0   24         24    0.040  good\n\
-         2b.slip      2    600  72  144         72    0.120  good\n\
-         2c.slip      2    600  30   71         41    0.068  good\n\n\
-         track  scale  filed  seconds  movie has  seconds  verdict\n    \
-             1    600    144    0.240        144    0.240  adds up\n    \
-             2    600    113    0.188        144    0.240  does not add up\n\
-         track 2: gap from media time 0 to 30 (0.000 to 0.050 seconds), film time 30 (0.050 seconds)\n\
-         track 2: gap from media time 71 to 72 (0.118 to 0.120 seconds), film time 1 (0.002 seconds)\n\
+        "slip     track  scale   a    b  film time  hh:mm:ss.mmm  verdict\n\
+         1b.slip      1    600  24  144        120  00:00:00.200  good\n\
+         1a.slip      1    600   0   24         24  00:00:00.040  good\n\
+         2b.slip      2    600  72  144         72  00:00:00.120  good\n\
+         2c.slip      2    600  30   71         41  00:00:00.068  good\n\n\
+         track  scale  filed  hh:mm:ss.mmm  movie has  hh:mm:ss.mmm  verdict\n    \
+             1    600    144  00:00:00.240        144  00:00:00.240  adds up\n    \
+             2    600    113  00:00:00.188        144  00:00:00.240  does not add up\n\
+         track 2: gap from media time 0 to 30 (00:00:00.000 to 00:00:00.050), film time 30 (00:00:00.050)\n\
+         track 2: gap from media time 71 to 72 (00:00:00.118 to 00:00:00.120), film time 1 (00:00:00.001)\n\
          every slip is good, and 1 track does not add up\n",
     );
     // A track that no slip files.
     let out = desk.check("1a.slip").out;
-    let whole = "track 2: gap from media time 0 to 144 (0.000 to 0.240 seconds), film time 144 (0.240 seconds)\n";
+    let whole = "track 2: gap from media time 0 to 144 (00:00:00.000 to 00:00:00.240), film time 144 (00:00:00.240)\n";
     assert!(out.ends_with(&format!("{whole}every slip is good, and 2 tracks do not add up\n")), "{out}");
     let json = desk.check("2b.slip 2c.slip --json").out;
     let gaps = "\"filed\":113,\"total\":144,\"gaps\":[{\"a\":0,\"b\":30},{\"a\":71,\"b\":72}],\"overlaps\":[],\
@@ -164,8 +164,8 @@ fn gaps() {
 fn overlaps() {
     let desk = filed_whole("overlaps");
     let ran = desk.slip("2c.slip", 2, 48, 100).check("1a.slip 1b.slip 2a.slip 2b.slip 2c.slip");
-    let expected = "    2    600    144    0.240        144    0.240  does not add up\n\
-        track 2: overlap from media time 48 to 100 (0.080 to 0.167 seconds), film time 52 (0.087 seconds), \
+    let expected = "    2    600    144  00:00:00.240        144  00:00:00.240  does not add up\n\
+        track 2: overlap from media time 48 to 100 (00:00:00.080 to 00:00:00.166), film time 52 (00:00:00.086), \
         filed by 2a.slip, 2b.slip, 2c.slip\n\
         every slip is good, and 1 track does not add up\n";
     assert!(ran.out.ends_with(expected), "{}", ran.out);
@@ -182,7 +182,7 @@ fn overlaps() {
     assert!(ran.out.contains(both), "{}", ran.out);
     // A slip that is not good files nothing there.
     let out = desk.slip("1d.slip", 1, 20, 30).typed("w", OF_W).check("w 1b.slip 1d.slip").out;
-    assert!(out.contains(", film time 6 (0.010 seconds), filed by 1b.slip, 1d.slip\n"), "{out}");
+    assert!(out.contains(", film time 6 (00:00:00.010), filed by 1b.slip, 1d.slip\n"), "{out}");
 }
 
 /// W's slip of 24 to 73, and others made of it.
@@ -208,7 +208,11 @@ fn slips_that_are_not_the_films() {
     );
     // The film time of such a slip is not filed.
     let ran = desk.typed("x", "01 01 D7 04 18 49 02 CC 08 32 84 07 46").check("x");
-    assert!(ran.out.contains("    1    600      0    0.000        120    0.200  does not add up\n"), "{}", ran.out);
+    assert!(
+        ran.out.contains("    1    600      0  00:00:00.000        120  00:00:00.200  does not add up\n"),
+        "{}",
+        ran.out
+    );
     assert!(ran.out.ends_with("\n1 slip is not good, and 1 track does not add up\n"), "{}", ran.out);
 }
 
@@ -242,14 +246,14 @@ fn malformed_slips() {
     desk.slip("w", 1, 0, 120).finds(
         "w x long",
         1,
-        "slip  track  scale  a    b  film time  seconds  verdict\n\
-         w         1    600  0  120        120    0.200  good\n\
-         x         -      -  -    -          -        -  not good: malformed at place 5, b: it is 24, and must be \
+        "slip  track  scale  a    b  film time  hh:mm:ss.mmm  verdict\n\
+         w         1    600  0  120        120  00:00:00.200  good\n\
+         x         -      -  -    -          -             -  not good: malformed at place 5, b: it is 24, and must be \
          above a, which is 24\n\
-         long      -      -  -    -          -        -  not good: malformed at place 13: 1 byte follows the last \
+         long      -      -  -    -          -             -  not good: malformed at place 13: 1 byte follows the last \
          number\n\n\
-         track  scale  filed  seconds  movie has  seconds  verdict\n    \
-             1    600    120    0.200        120    0.200  adds up\n\
+         track  scale  filed  hh:mm:ss.mmm  movie has  hh:mm:ss.mmm  verdict\n    \
+             1    600    120  00:00:00.200        120  00:00:00.200  adds up\n\
          2 slips are not good, and every track adds up\n",
     );
     let json = desk.check("x --json").out;
@@ -306,8 +310,8 @@ fn a_film_that_is_refused() {
 fn nothing_to_file() {
     let desk = Desk::of_tracks("nothing", vec![empty_track(7), w_track()]);
     let ran = desk.slip("w", 1, 0, 120).check("w");
-    let expected = "    7    600      0    0.000          0    0.000  nothing to file\n    \
-                        1    600    120    0.200        120    0.200  adds up\n\
+    let expected = "    7    600      0  00:00:00.000          0  00:00:00.000  nothing to file\n    \
+                        1    600    120  00:00:00.200        120  00:00:00.200  adds up\n\
                     every slip is good, and every track adds up\n";
     assert!(ran.out.ends_with(expected), "{}", ran.out);
     assert_eq!(ran.status, 0);

@@ -139,8 +139,8 @@ fn usage() {
     bad_usage("sample a 1", "N is missing", "sample FILE TRACK N [--bytes] [--json]");
     let both = "--json goes with neither --bytes nor -o";
     bad_usage("sample a 1 1 --json --bytes", both, "sample FILE TRACK N [--bytes] [--json]");
-    bad_usage("slip a 1 0 1 --json -o b", both, "slip FILE TRACK A B [-o OUT] [--json]");
-    bad_usage("slip a 1 0 1 -o", "-o needs OUT", "slip FILE TRACK A B [-o OUT] [--json]");
+    bad_usage("slip a 1 0 1 --json -o b", both, "slip FILE TRACK [A B] [-o OUT] [--json]");
+    bad_usage("slip a 1 0 1 -o", "-o needs OUT", "slip FILE TRACK [A B] [-o OUT] [--json]");
     bad_usage("check", "FILE is missing", "check FILE SLIP... [--json]");
     bad_usage("check a", "SLIP is missing", "check FILE SLIP... [--json]");
     bad_usage("check a b --hex", "check has no option '--hex'", "check FILE SLIP... [--json]");
@@ -151,12 +151,23 @@ fn usage() {
     bad_usage("features a 1 avv", codes, "features FILE TRACK [CODE] [--json]");
 }
 
+/// What a media time is.
+const TIME: &str = "a number of units from 0 to 4294967295, or as 12.5s, 00:01:02.250 or end";
+
 #[test]
 fn numbers() {
-    for (line, name) in [("at a X 0", "TRACK"), ("at a 0 X", "MEDIA-TIME"), ("map a 0 X", "MOVIE-TIME")] {
+    let number = "a number from 0 to 4294967295";
+    let lines = [
+        ("at a X 0", "TRACK", number),
+        ("at a 0 X", "MEDIA-TIME", TIME),
+        ("map a 0 X", "MOVIE-TIME", number),
+        ("stretch a 0 X 0", "A", TIME),
+        ("slip a 0 0 X", "B", TIME),
+    ];
+    for (line, name, wanted) in lines {
         for text in ["4294967296", "0x100000000", "1.5", "x", "0x", "+1"] {
             let ran = run(&words(&line.replace('X', text)));
-            let first = format!("chaldoref: {name} is a number from 0 to 4294967295, and not '{text}'");
+            let first = format!("chaldoref: {name} is {wanted}, and not '{text}'");
             assert_eq!((ran.err.lines().next(), ran.status), (Some(first.as_str()), 2));
         }
     }
@@ -166,9 +177,9 @@ fn numbers() {
 
 #[test]
 fn numbers_with_a_sign() {
-    let time = "MEDIA-TIME is a number from 0 to 4294967295, and not '-1'";
-    bad_usage("at films/w.mov 1 -1", time, "at FILE TRACK MEDIA-TIME [--json]");
-    bad_usage("at -- films/w.mov 1 -1", time, "at FILE TRACK MEDIA-TIME [--json]");
+    let time = format!("MEDIA-TIME is {TIME}, and not '-1'");
+    bad_usage("at films/w.mov 1 -1", &time, "at FILE TRACK MEDIA-TIME [--json]");
+    bad_usage("at -- films/w.mov 1 -1", &time, "at FILE TRACK MEDIA-TIME [--json]");
     let track = "TRACK is a number from 0 to 4294967295, and not '-0x1'";
     bad_usage("profile films/w.mov -0x1", track, "profile FILE [TRACK] [--json]");
     let surplus = "'-1' is one argument too many";

@@ -38,13 +38,17 @@ fn help() {
 fn one_help_in_full() {
     answers(
         "slip --help",
-        "usage: chaldoref slip FILE TRACK A B [-o OUT] [--json]\n\n\
-         Prints the slip of a track from media time A up to B, in hex.\n\n  \
+        "usage: chaldoref slip FILE TRACK [A B] [-o OUT] [--json]\n\n\
+         Prints the slip of a track, from media time A up to B, in hex.\n\n  \
            -o OUT    write raw bytes to OUT; - is standard output\n  \
            --json    print one JSON document\n\n\
-         FILE is a whole film, and for read-slip a slip; - is standard input. SLIP is a slip. A slip is raw bytes or hex text.\n\
-         TRACK is a track ID. Numbers are decimal, or hex after 0x, and below 2^32. Media times count in the track's own time\n\
-         scale, movie times in the movie's. CODE is four characters, or hex after 0x.\n",
+         FILE is a whole film, and for read-slip a slip; - is standard input. SLIP is a\n\
+         slip. A slip is raw bytes or hex text. TRACK is a track ID. Numbers are decimal,\n\
+         or hex after 0x, and below 2^32. CODE is four characters, or hex after 0x.\n\
+         MEDIA-TIME, A and B are units of the track's own time scale, or seconds as\n\
+         12.5s, or hours, minutes and seconds as 00:01:02.250, rounded down to units, or\n\
+         end, where the track ends. Without A and B the whole track is taken. MOVIE-TIME\n\
+         is in units of the movie's time scale only.\n",
     );
 }
 

@@ -21,8 +21,8 @@ fn warns(ran: Ran, out: &str, words: &str) {
 
 #[test]
 fn fragmented_films() {
-    let listed = "id  subtype  scale  total  seconds  samples  chunks  edits\n \
-                   1  vide       600      0    0.000        0       0      0\n";
+    let listed = "id  subtype  scale  total  hh:mm:ss.mmm  samples  chunks  edits\n \
+                   1  vide       600      0  00:00:00.000        0       0      0\n";
     let document = |warnings: &str| {
         format!(
             "{{\"tracks\":[{{\"id\":1,\"subtype\":\"vide\",\"scale\":600,\"total\":0,\"samples\":0,\"chunks\":0,\

@@ -1,11 +1,12 @@
 //! The regulator's third question: whether the film time that slips file adds up.
-use super::{seconds, Answer};
+use super::{Answer, CLOCK};
 use crate::checked::Checked;
 use crate::failure::{worse, Failure};
 use crate::filed::Filed;
 use crate::input;
 use crate::json::{document, Object};
 use crate::table::{self, number, text};
+use crate::time::{clock, stretch_in_words};
 use chaldoref::{MediaTime, Movie, Slip, Track};
 use std::ffi::OsString;
 use std::io::{self, Write};
@@ -110,7 +111,7 @@ fn print_slips(slips: &[Checked], out: &mut dyn Write) -> io::Result<()> {
         number("a"),
         number("b"),
         number("film time"),
-        number("seconds"),
+        CLOCK,
         text("verdict"),
     ];
     let row = |checked: &Checked| {
@@ -118,7 +119,7 @@ fn print_slips(slips: &[Checked], out: &mut dyn Write) -> io::Result<()> {
             Some(slip) => {
                 let numbers = [slip.id.0, slip.scale, slip.a.0, slip.b.0, slip.film_time()].map(|n| n.to_string());
                 let [track, scale, a, b, time] = numbers;
-                [track, scale, a, b, time, seconds(MediaTime(slip.film_time()), slip.scale)]
+                [track, scale, a, b, time, clock(MediaTime(slip.film_time()), slip.scale)]
             }
             None => ["-"; 6].map(String::from),
         };
@@ -129,19 +130,12 @@ fn print_slips(slips: &[Checked], out: &mut dyn Write) -> io::Result<()> {
 }
 
 fn print_accounts(accounts: &[Account], out: &mut dyn Write) -> io::Result<()> {
-    let columns = [
-        number("track"),
-        number("scale"),
-        number("filed"),
-        number("seconds"),
-        number("movie has"),
-        number("seconds"),
-        text("verdict"),
-    ];
+    let columns =
+        [number("track"), number("scale"), number("filed"), CLOCK, number("movie has"), CLOCK, text("verdict")];
     let row = |Account { track, filed }: &Account| {
         let [id, scale, units, total] = [track.id.0, track.scale, filed.units, track.total.0].map(|n| n.to_string());
-        let [filed_seconds, all_seconds] = [MediaTime(filed.units), track.total].map(|time| seconds(time, track.scale));
-        [id, scale, units, filed_seconds, total, all_seconds, verdict(track, filed).into()]
+        let [filed_time, whole_time] = [MediaTime(filed.units), track.total].map(|time| clock(time, track.scale));
+        [id, scale, units, filed_time, total, whole_time, verdict(track, filed).into()]
     };
     table::write(out, columns, accounts, row)
 }
@@ -158,11 +152,7 @@ fn verdict(track: &Track, filed: &Filed) -> &'static str {
 
 /// A part of a track that is filed by no slip, or by more than one.
 fn part(what: &str, track: &Track, time: &Range<MediaTime>) -> String {
-    let (a, b) = (time.start, time.end);
-    let film_time = MediaTime(b.0 - a.0);
-    let [begin, end, length] = [a, b, film_time].map(|time| seconds(time, track.scale));
-    let from_to = format!("{what} from media time {a} to {b} ({begin} to {end} seconds)");
-    format!("track {}: {from_to}, film time {film_time} ({length} seconds)", track.id)
+    format!("track {}: {what} from {}", track.id, stretch_in_words(time, track.scale))
 }
 
 fn slip_fields(o: &mut Object, checked: &Checked) -> io::Result<()> {

@@ -1,8 +1,9 @@
 //! Features, and which second of a track has the highest bit rate.
-use super::{seconds, Answer};
+use super::Answer;
 use crate::failure::{hint, Failure};
 use crate::json::{document, Object};
 use crate::table::{self, number, text};
+use crate::time::clock;
 use chaldoref::{Feature, FourCC, Movie, Peak, Refusal, Track, TrackId};
 use std::io::{self, Write};
 
@@ -78,10 +79,10 @@ fn print(track: &Track, all: &[Found], to: Answer) -> Result<(), Failure> {
 fn print_peak(track: &Track, code: FourCC, peak: &Peak, out: &mut dyn Write) -> io::Result<()> {
     let (first, last) = (peak.samples.start(), peak.samples.end());
     let (a, b) = (peak.time.start, peak.time.end);
-    let [begin, end] = [a, b].map(|time| seconds(time, track.scale));
+    let [begin, end] = [a, b].map(|time| clock(time, track.scale));
     // Less than a second of media time.
     let whole = if track.total.0 < track.scale { ", the whole track" } else { "" };
-    writeln!(out, "peak of {code}: samples {first} to {last}, media time {a} to {b} ({begin} to {end} seconds){whole}")
+    writeln!(out, "peak of {code}: samples {first} to {last}, media time {a} to {b} ({begin} to {end}){whole}")
 }
 
 fn fields(o: &mut Object, found: &Found) -> io::Result<()> {

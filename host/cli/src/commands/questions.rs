@@ -1,10 +1,11 @@
 //! Tracks, samples, times and profiles.
-use super::{scale, seconds, Answer};
+use super::{scale, Answer, CLOCK};
 use crate::failure::Failure;
 use crate::json::{document, Object, Value};
 use crate::table::{self, number, text};
+use crate::time::{clock, Time};
 use crate::warnings;
-use chaldoref::{MediaTime, Movie, MovieTime, ProfileRecord, Shown, Track, TrackId};
+use chaldoref::{Movie, MovieTime, ProfileRecord, Shown, Track, TrackId};
 use std::io;
 
 pub fn tracks(movie: &Movie, to: Answer) -> Result<(), Failure> {
@@ -20,7 +21,7 @@ pub fn tracks(movie: &Movie, to: Answer) -> Result<(), Failure> {
         text("subtype"),
         number("scale"),
         number("total"),
-        number("seconds"),
+        CLOCK,
         number("samples"),
         number("chunks"),
         number("edits"),
@@ -29,7 +30,7 @@ pub fn tracks(movie: &Movie, to: Answer) -> Result<(), Failure> {
         let numbers = [t.scale, t.total.0, t.samples, t.chunks, t.edits].map(|n| n.to_string());
         let [scale, total, samples, chunks, edits] = numbers;
         let subtype = t.subtype.to_string();
-        [t.id.to_string(), subtype, scale, total, seconds(t.total, t.scale), samples, chunks, edits]
+        [t.id.to_string(), subtype, scale, total, clock(t.total, t.scale), samples, chunks, edits]
     };
     Ok(table::write(to.out, columns, movie.tracks(), row)?)
 }
@@ -53,7 +54,7 @@ pub fn sample(movie: &Movie, track: TrackId, n: u32, to: Answer) -> Result<(), F
     let columns = [
         number("sample"),
         number("decode"),
-        number("seconds"),
+        CLOCK,
         number("duration"),
         number("composition"),
         text("sync"),
@@ -62,7 +63,7 @@ pub fn sample(movie: &Movie, track: TrackId, n: u32, to: Answer) -> Result<(), F
         number("offset"),
         number("size"),
     ];
-    let start = seconds(s.decode, scale(movie, track)?);
+    let start = clock(s.decode, scale(movie, track)?);
     let sync = if s.sync { "yes" } else { "no" };
     let [n, decode, duration] = [n, s.decode.0, s.duration].map(|n| n.to_string());
     let [description, chunk, offset, size] = [s.description, s.chunk, s.offset, s.size].map(|n| n.to_string());
@@ -75,15 +76,15 @@ pub fn sample_bytes(movie: &Movie, track: TrackId, n: u32, to: Answer) -> Result
     Ok(to.out.write_all(movie.sample_bytes(track, n)?)?)
 }
 
-pub fn at(movie: &Movie, track: TrackId, time: MediaTime, to: Answer) -> Result<(), Failure> {
-    let n = movie.sample_at(track, time)?;
+pub fn at(movie: &Movie, track: TrackId, time: &Time, to: Answer) -> Result<(), Failure> {
+    let (time, n) = time.ask(movie, track, |time| movie.sample_at(track, time))?;
     if to.json {
         return Ok(document(to.out, |o| {
             o.put("track", track.0)?.put("media_time", time.0)?.put("sample", n).map(drop)
         })?);
     }
-    let row = [time.to_string(), seconds(time, scale(movie, track)?), n.to_string()];
-    let columns = [number("media time"), number("seconds"), number("sample")];
+    let row = [time.to_string(), clock(time, scale(movie, track)?), n.to_string()];
+    let columns = [number("media time"), CLOCK, number("sample")];
     Ok(table::write(to.out, columns, &[row], |row| row.clone())?)
 }
 
@@ -99,10 +100,10 @@ pub fn map(movie: &Movie, track: TrackId, time: MovieTime, to: Answer) -> Result
     }
     let scale = scale(movie, track)?;
     let [shown, start] = match media {
-        Some(media) => [media.to_string(), seconds(media, scale)],
+        Some(media) => [media.to_string(), clock(media, scale)],
         None => ["nothing".into(), "-".into()],
     };
-    let columns = [number("movie time"), number("media time"), number("seconds")];
+    let columns = [number("movie time"), number("media time"), CLOCK];
     Ok(table::write(to.out, columns, &[[time.to_string(), shown, start]], |row| row.clone())?)
 }
 

@@ -1,10 +1,11 @@
 //! Stretches of film as byte ranges, and the slips written of them.
-use super::{scale, seconds, Answer};
+use super::{scale, Answer};
 use crate::failure::Failure;
 use crate::input::{self, STANDARD};
 use crate::json::{document, Object, Value};
 use crate::output;
 use crate::table::{self, number};
+use crate::time::{stretch_in_words, Span};
 use crate::warnings;
 use chaldoref::{ByteRange, MediaTime, Movie, TrackId};
 use std::ffi::OsStr;
@@ -13,8 +14,8 @@ use std::io::{self, Write};
 use std::ops::Range;
 use std::os::unix::fs::MetadataExt;
 
-pub fn stretch(movie: &Movie, track: TrackId, time: &Range<MediaTime>, to: Answer) -> Result<(), Failure> {
-    let stretch = movie.stretch(track, time.clone())?;
+pub fn stretch(movie: &Movie, track: TrackId, span: &Span, to: Answer) -> Result<(), Failure> {
+    let (time, stretch) = span.ask(movie, track, |time| movie.stretch(track, time))?;
     let warnings = warnings::of_stretch(movie.file(), track);
     warnings::tell(&warnings);
     if to.json {
@@ -25,14 +26,13 @@ pub fn stretch(movie: &Movie, track: TrackId, time: &Range<MediaTime>, to: Answe
         })?);
     }
     print_pairs(&stretch.pairs, stretch.bytes, to.out)?;
-    // A stretch that ends before it starts is refused.
-    let film_time = MediaTime(time.end.0 - time.start.0);
-    Ok(writeln!(to.out, "film time {film_time} ({} seconds)", seconds(film_time, scale(movie, track)?))?)
+    Ok(writeln!(to.out, "{}", stretch_in_words(&time, scale(movie, track)?))?)
 }
 
 /// The film's own bytes, range after range.
-pub fn stretch_bytes(movie: &Movie, track: TrackId, time: &Range<MediaTime>, to: Answer) -> Result<(), Failure> {
-    let stretch = movie.stretch(track, time.clone())?;
+pub fn stretch_bytes(movie: &Movie, track: TrackId, span: &Span, to: Answer) -> Result<(), Failure> {
+    let (time, stretch) = span.ask(movie, track, |time| movie.stretch(track, time))?;
+    tell_units(movie, track, span, &time)?;
     warnings::tell(&warnings::of_stretch(movie.file(), track));
     for pair in stretch.pairs {
         // A film in which a chunk passes the end is refused 12.
@@ -41,20 +41,43 @@ pub fn stretch_bytes(movie: &Movie, track: TrackId, time: &Range<MediaTime>, to:
     Ok(())
 }
 
-pub fn slip(movie: &Movie, track: TrackId, time: &Range<MediaTime>, to: Answer) -> Result<(), Failure> {
-    let slip = movie.write_slip(track, time.clone())?;
-    let warnings = warnings::of_stretch(movie.file(), track);
-    warnings::tell(&warnings);
+pub fn slip(movie: &Movie, track: TrackId, span: &Span, to: Answer) -> Result<(), Failure> {
     if to.json {
-        return Ok(document(to.out, |o| {
-            o.put("track", track.0)?.put("a", time.start.0)?.put("b", time.end.0)?;
-            o.put("slip", Value::Hex(slip))?.texts("warnings", &warnings).map(drop)
-        })?);
+        return slip_document(movie, track, span, to);
     }
+    let slip = slip_of(movie, track, span)?;
     for (i, byte) in slip.iter().enumerate() {
         write!(to.out, "{}{byte:02X}", if i > 0 { " " } else { "" })?;
     }
     Ok(to.out.write_all(b"\n")?)
+}
+
+fn slip_document(movie: &Movie, track: TrackId, span: &Span, to: Answer) -> Result<(), Failure> {
+    let (time, slip) = span.ask(movie, track, |time| movie.write_slip(track, time))?;
+    let warnings = warnings::of_stretch(movie.file(), track);
+    warnings::tell(&warnings);
+    Ok(document(to.out, |o| {
+        o.put("track", track.0)?.put("a", time.start.0)?.put("b", time.end.0)?;
+        o.put("slip", Value::Hex(slip))?.texts("warnings", &warnings).map(drop)
+    })?)
+}
+
+/// The bytes of the slip, and on standard error what people must know of it.
+pub fn slip_of(movie: &Movie, track: TrackId, span: &Span) -> Result<Vec<u8>, Failure> {
+    let (time, slip) = span.ask(movie, track, |time| movie.write_slip(track, time))?;
+    tell_units(movie, track, span, &time)?;
+    warnings::tell(&warnings::of_stretch(movie.file(), track));
+    Ok(slip)
+}
+
+/// Tells the units on standard error, where they were not given and standard output has other things.
+fn tell_units(movie: &Movie, track: TrackId, span: &Span, time: &Range<MediaTime>) -> Result<(), Failure> {
+    if !span.is_plain() {
+        let words = stretch_in_words(time, scale(movie, track)?);
+        // Where standard error cannot be written, nothing is left to tell it on.
+        let _ = io::stderr().write_all(format!("chaldoref: track {track}, {words}\n").as_bytes());
+    }
+    Ok(())
 }
 
 /// Writes a slip's bytes to the file of that name, which must not be the film.

@@ -1,11 +1,12 @@
 //! Slips that are read: what they say, or where they go wrong.
 use super::ranges::{pair_fields, print_pairs};
-use super::{refusal_fields, seconds, Answer};
+use super::{refusal_fields, Answer, CLOCK};
 use crate::failure::Failure;
 use crate::fault::Fault;
 use crate::input;
 use crate::json::document;
 use crate::table::{self, number};
+use crate::time::clock;
 use chaldoref::{MediaTime, Slip};
 use std::ffi::OsStr;
 use std::io::{self, Write};
@@ -24,10 +25,10 @@ pub fn read(bytes: &[u8], name: &OsStr, beside_others: bool, to: Answer) -> Resu
     if beside_others {
         writeln!(to.out, "{}:", input::called(name))?;
     }
-    let columns = [number("track"), number("scale"), number("a"), number("b"), number("film time"), number("seconds")];
+    let columns = [number("track"), number("scale"), number("a"), number("b"), number("film time"), CLOCK];
     let film_time = MediaTime(slip.film_time());
     let [track, scale, a, b, time] = [slip.id.0, slip.scale, slip.a.0, slip.b.0, film_time.0].map(|n| n.to_string());
-    let row = [track, scale, a, b, time, seconds(film_time, slip.scale)];
+    let row = [track, scale, a, b, time, clock(film_time, slip.scale)];
     table::write(to.out, columns, &[row], |row| row.clone())?;
     writeln!(to.out)?;
     print_pairs(&slip.pairs, slip.bytes(), to.out)?;

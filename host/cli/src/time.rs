@@ -1,0 +1,258 @@
+//! Times as people write them and as they are shown to them. Both ways are computed in whole numbers, and rounded down.
+use crate::failure::{hint, Failure};
+use chaldoref::{MediaTime, Movie, Refusal, Track, TrackId};
+use std::ops::Range;
+
+const MILLISECONDS: u64 = 1000;
+const SECONDS_A_MINUTE: u64 = 60;
+const MINUTES_AN_HOUR: u64 = 60;
+
+/// A time of a track's media, as it was asked.
+#[derive(Clone, Debug, PartialEq)]
+pub enum Time {
+    Units(MediaTime),
+    /// Whole seconds, and the decimal digits after the point.
+    Seconds(u64, String),
+    /// Where the track ends.
+    End,
+}
+
+/// A stretch of a track, as it was asked: from one time up to another, or the whole track.
+pub enum Span {
+    Whole,
+    Between(Time, Time),
+}
+
+impl Time {
+    /// A time that is no plain number: 12.5s, 00:01:02.250 or end.
+    pub fn parse(text: &str) -> Option<Time> {
+        if text == "end" {
+            return Some(Time::End);
+        }
+        match text.strip_suffix('s') {
+            Some(seconds) => {
+                let (whole, fraction) = decimal(seconds)?;
+                Some(Time::Seconds(whole, fraction))
+            }
+            None => clock_time(text),
+        }
+    }
+
+    /// Asks a question of this time, and hands the units back beside its answer.
+    pub fn ask<T>(
+        &self,
+        movie: &Movie,
+        id: TrackId,
+        question: impl FnOnce(MediaTime) -> Result<T, Refusal>,
+    ) -> Result<(MediaTime, T), Failure> {
+        let time = self.of(movie, id)?;
+        let asked = (!self.is_plain()).then(|| time.to_string());
+        question(time).map(|answer| (time, answer)).map_err(|refusal| outside(movie, id, refusal, asked))
+    }
+
+    /// The media time in the track's own scale. Refused 14 where no track has that ID, and 15 where it is over what a track can have.
+    fn of(&self, movie: &Movie, id: TrackId) -> Result<MediaTime, Failure> {
+        // The library refuses a plain number itself.
+        if let Time::Units(time) = self {
+            return Ok(*time);
+        }
+        let track = movie.track(id).ok_or(Refusal::NoTrack)?;
+        self.on(track).ok_or_else(|| {
+            let words = format!("that time is over 4294967295 units of the track's scale {}", track.scale);
+            Failure::Refused(Refusal::Outside, hint(&words))
+        })
+    }
+
+    fn on(&self, track: &Track) -> Option<MediaTime> {
+        match self {
+            Time::Units(time) => Some(*time),
+            Time::Seconds(whole, fraction) => units(*whole, fraction, track.scale),
+            Time::End => Some(track.total),
+        }
+    }
+
+    fn is_plain(&self) -> bool {
+        matches!(self, Time::Units(_))
+    }
+}
+
+impl Span {
+    /// Asks a question of this stretch, and hands the units back beside its answer.
+    pub fn ask<T>(
+        &self,
+        movie: &Movie,
+        id: TrackId,
+        question: impl FnOnce(Range<MediaTime>) -> Result<T, Refusal>,
+    ) -> Result<(Range<MediaTime>, T), Failure> {
+        let time = self.of(movie, id)?;
+        let asked = (!self.is_plain()).then(|| format!("{} to {}", time.start, time.end));
+        question(time.clone()).map(|answer| (time, answer)).map_err(|refusal| outside(movie, id, refusal, asked))
+    }
+
+    /// The media times in the track's own scale.
+    fn of(&self, movie: &Movie, id: TrackId) -> Result<Range<MediaTime>, Failure> {
+        match self {
+            Span::Whole => Ok(MediaTime(0)..Time::End.of(movie, id)?),
+            Span::Between(a, b) => Ok(a.of(movie, id)?..b.of(movie, id)?),
+        }
+    }
+
+    /// Whether it was asked in units, so that no one has to be told which they are.
+    pub fn is_plain(&self) -> bool {
+        matches!(self, Span::Between(a, b) if a.is_plain() && b.is_plain())
+    }
+}
+
+/// The refusal of a question; of a time that lies outside it says the units that were asked, if no one gave them.
+fn outside(movie: &Movie, id: TrackId, refusal: Refusal, asked: Option<String>) -> Failure {
+    match (refusal, movie.track(id), asked) {
+        (Refusal::Outside, Some(track), Some(asked)) => {
+            let end = clock(track.total, track.scale);
+            let words = format!("media time {asked} was asked, and the track ends at {} ({end})", track.total);
+            Failure::Refused(refusal, hint(&words))
+        }
+        _ => refusal.into(),
+    }
+}
+
+/// Hours, minutes and seconds with colons between them.
+fn clock_time(text: &str) -> Option<Time> {
+    let mut parts = text.split(':');
+    let (hours, minutes, seconds) = (parts.next()?, parts.next()?, parts.next()?);
+    let (hours, minutes, (seconds, fraction)) = (whole(hours)?, whole(minutes)?, decimal(seconds)?);
+    if parts.next().is_some() || minutes >= MINUTES_AN_HOUR || seconds >= SECONDS_A_MINUTE {
+        return None;
+    }
+    Some(Time::Seconds((hours * MINUTES_AN_HOUR + minutes) * SECONDS_A_MINUTE + seconds, fraction))
+}
+
+/// A number, and the digits after its point if it has one.
+fn decimal(text: &str) -> Option<(u64, String)> {
+    match text.split_once('.') {
+        Some((before, after)) => is_digits(after).then_some((whole(before)?, after.into())),
+        None => Some((whole(text)?, String::new())),
+    }
+}
+
+/// A number below 2^32, so that no product of it here is too great.
+fn whole(text: &str) -> Option<u64> {
+    text.parse::<u32>().ok().filter(|_| is_digits(text)).map(u64::from)
+}
+
+fn is_digits(text: &str) -> bool {
+    !text.is_empty() && text.bytes().all(|c| c.is_ascii_digit())
+}
+
+/// Seconds in units of a scale, or nothing where these are 2^32 or more.
+fn units(whole: u64, fraction: &str, scale: u32) -> Option<MediaTime> {
+    // From the last digit on, what is left over at one digit is less than a unit at the one before: no length is too long.
+    let digits = fraction.bytes().rev().map(|c| u64::from(c - b'0'));
+    let part = digits.fold(0, |after, digit| (digit * u64::from(scale) + after) / 10);
+    let all = whole.checked_mul(scale.into())?.checked_add(part)?;
+    u32::try_from(all).ok().map(MediaTime)
+}
+
+/// A time as hours, minutes, seconds and milliseconds. No accepted movie or slip has scale 0.
+pub fn clock(time: MediaTime, scale: u32) -> String {
+    let all = u64::from(time.0) * MILLISECONDS / u64::from(scale);
+    let (seconds, milliseconds) = (all / MILLISECONDS, all % MILLISECONDS);
+    let (minutes, seconds) = (seconds / SECONDS_A_MINUTE, seconds % SECONDS_A_MINUTE);
+    let (hours, minutes) = (minutes / MINUTES_AN_HOUR, minutes % MINUTES_AN_HOUR);
+    format!("{hours:02}:{minutes:02}:{seconds:02}.{milliseconds:03}")
+}
+
+/// A stretch of media time and how long it lasts, in units and as people have it.
+pub fn stretch_in_words(time: &Range<MediaTime>, scale: u32) -> String {
+    let (a, b) = (time.start, time.end);
+    let film_time = MediaTime(b.0 - a.0);
+    let [begin, end, length] = [a, b, film_time].map(|time| clock(time, scale));
+    format!("media time {a} to {b} ({begin} to {end}), film time {film_time} ({length})")
+}
+
+#[cfg(test)]
+mod tests {
+    use super::*;
+
+    #[test]
+    fn times() {
+        let seconds = |whole, fraction: &str| Some(Time::Seconds(whole, fraction.into()));
+        assert_eq!(Time::parse("end"), Some(Time::End));
+        assert_eq!(Time::parse("12.5s"), seconds(12, "5"));
+        assert_eq!(Time::parse("12s"), seconds(12, ""));
+        assert_eq!(Time::parse("0.000s"), seconds(0, "000"));
+        assert_eq!(Time::parse("00:01:02.250"), seconds(62, "250"));
+        assert_eq!(Time::parse("1:59:59"), seconds(7199, ""));
+        assert_eq!(Time::parse("100:00:00"), seconds(360_000, ""));
+        assert_eq!(Time::parse("4294967295:59:59.9"), seconds(15_461_882_265_599, "9"));
+        let seconds = "s 5.s .5s 1.2.3s -1s +1s 1e3s 0x10s 1S 12.5 4294967296s １s";
+        let clocks = "1:2 1:60:00 1:00:60 1:00:00:00 :: 1::2 1:+1:0 1:0:0. 1:0:0s 1:0.5:0";
+        for text in seconds.split(' ').chain(clocks.split(' ')).chain(["", "1 s", "End", "end "]) {
+            assert_eq!(Time::parse(text), None, "{text}");
+        }
+    }
+
+    #[test]
+    fn units_are_rounded_down() {
+        for (whole, fraction, scale, expected) in [
+            (12, "5", 600, 7500),
+            (0, "04", 600, 24),
+            (0, "0416", 600, 24),
+            (0, "0416666666666666666666666666666666666", 600, 24),
+            (0, "041666666666666666666666666666666666667", 600, 25),
+            (0, "999", 1, 0),
+            (1, "", 30_000, 30_000),
+            (0, "033366", 30_000, 1000),
+            (0, "0333666666666666666666666666666666666666666667", 30_000, 1001),
+            (0, "9999999999999999999999", u32::MAX, u32::MAX - 1),
+            (1, "0", u32::MAX, u32::MAX),
+            (u32::MAX.into(), "9", 1, u32::MAX),
+        ] {
+            assert_eq!(units(whole, fraction, scale), Some(MediaTime(expected)), "{whole}.{fraction} in {scale}");
+        }
+        assert_eq!(units(1, "0000000003", u32::MAX), None);
+        assert_eq!(units(7_158_278, "9", 600), None);
+        assert_eq!(units(15_461_882_265_599, "", u32::MAX), None);
+    }
+
+    /// Each number of milliseconds, in some scales, beside the quotient itself.
+    #[test]
+    fn digits_as_one_quotient() {
+        for scale in [1, 3, 24, 600, 1000, 1001, 30_000, 44_100, 90_000, u32::MAX] {
+            for ms in 0..1000u64 {
+                let expected = u32::try_from(ms * u64::from(scale) / 1000).unwrap();
+                assert_eq!(units(0, &format!("{ms:03}"), scale), Some(MediaTime(expected)), "{ms} in {scale}");
+            }
+        }
+    }
+
+    #[test]
+    fn clocks() {
+        for (time, scale, expected) in [
+            (0, 600, "00:00:00.000"),
+            (49, 600, "00:00:00.081"),
+            (599, 600, "00:00:00.998"),
+            (37_350, 600, "00:01:02.250"),
+            (2_159_999, 600, "00:59:59.998"),
+            (2_160_000, 600, "01:00:00.000"),
+            (1, u32::MAX, "00:00:00.000"),
+            (u32::MAX, u32::MAX, "00:00:01.000"),
+            (u32::MAX, 1, "1193046:28:15.000"),
+        ] {
+            assert_eq!(clock(MediaTime(time), scale), expected);
+        }
+    }
+
+    /// What is shown is taken again as that time, or less by under a millisecond and a unit.
+    #[test]
+    fn what_is_shown_is_taken() {
+        for scale in [1, 600, 1000, 30_000, 90_000] {
+            for time in (0..200_000).step_by(77) {
+                let Some(Time::Seconds(whole, fraction)) = Time::parse(&clock(MediaTime(time), scale)) else {
+                    panic!()
+                };
+                let again = units(whole, &fraction, scale).unwrap().0;
+                assert!(again <= time && time - again <= scale.div_ceil(1000), "{time} in {scale}");
+            }
+        }
+    }
+}
