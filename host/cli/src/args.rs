@@ -15,7 +15,7 @@ pub enum Parsed {
 
 /// A question to a film, or slips to read.
 pub struct Request {
-    /// One, or several slips.
+    /// One or several, each of which is answered alone.
     pub files: Vec<OsString>,
     pub ask: Ask,
     pub json: bool,
@@ -42,6 +42,11 @@ pub fn parse(words: impl IntoIterator<Item = OsString>) -> Result<Parsed, Failur
         Some("-V" | "--version") => alone(help::version(), words),
         _ => Words::sort(command(&first)?, words),
     }
+}
+
+/// Whether documents are asked for, also where the words are no good request.
+pub fn has_json(words: &[OsString]) -> bool {
+    words.iter().take_while(|word| *word != "--").any(|word| word == JSON.flag)
 }
 
 /// The help on the command named, or on all.
@@ -78,7 +83,9 @@ fn quoted(word: &OsStr) -> String {
 /// The words after a command, sorted into operands and options.
 pub struct Words {
     command: &'static Command,
+    /// Those after the files. Where several files are named, the first has the place of all.
     operands: Vec<OsString>,
+    files: Vec<OsString>,
     flags: Vec<&'static str>,
     /// The value of -o.
     pub out: Option<OsString>,
@@ -86,7 +93,7 @@ pub struct Words {
 
 impl Words {
     fn sort(command: &'static Command, mut rest: impl Iterator<Item = OsString>) -> Result<Parsed, Failure> {
-        let mut words = Words { command, operands: Vec::new(), flags: Vec::new(), out: None };
+        let mut words = Words { command, operands: Vec::new(), files: Vec::new(), flags: Vec::new(), out: None };
         while let Some(word) = rest.next() {
             match word.to_str() {
                 Some("-h" | "--help") => return Ok(Parsed::Text(command.help())),
@@ -116,6 +123,7 @@ impl Words {
     }
 
     fn request(mut self) -> Result<Request, Failure> {
+        self.part_files()?;
         let most = self.command.operands.len();
         if let Some(surplus) = self.operands.get(most).filter(|_| !self.command.takes_several()) {
             return Err(self.wrong(too_many(surplus)));
@@ -128,10 +136,35 @@ impl Words {
             return Err(self.wrong("--json goes with neither --bytes nor -o".into()));
         }
         let ask = (self.command.ask)(&self)?;
-        if !self.command.takes_files() {
-            self.operands.truncate(1);
+        Ok(Request { files: self.files, ask, json })
+    }
+
+    /// Parts the files that are asked from the operands after them.
+    fn part_files(&mut self) -> Result<(), Failure> {
+        let given = self.operands.len();
+        let count = if self.command.takes_files() { given.saturating_sub(self.after_files()) } else { 1.min(given) };
+        self.files = self.operands[..count].to_vec();
+        self.one_standard_input(&self.files)?;
+        self.operands.drain(1.min(count)..count);
+        Ok(())
+    }
+
+    /// How many operands stand after several files: none, or TRACK, and CODE too where the one before the last is a number.
+    fn after_files(&self) -> usize {
+        let given = self.operands.len();
+        match self.command.operands {
+            [_] => 0,
+            _ if given > 2 && number(&self.operands[given - 2]).is_some() => 2,
+            _ => 1,
         }
-        Ok(Request { files: self.operands, ask, json })
+    }
+
+    /// Standard input has the bytes of one file only.
+    fn one_standard_input(&self, names: &[OsString]) -> Result<(), Failure> {
+        if names.iter().filter(|name| *name == input::STANDARD).count() > 1 {
+            return Err(self.wrong("standard input can be one file only".into()));
+        }
+        Ok(())
     }
 
     /// Whether the next operand, or the last one if there is no other, is no file. One that may be given several times is.
@@ -183,11 +216,9 @@ impl Words {
         code(&self.operands[place]).ok_or_else(|| self.misfit(place, "four characters, or a number after 0x"))
     }
 
-    /// The names of files from a place on, beside those before it. Standard input has the bytes of one file only.
+    /// The names of files from a place on, beside those before it.
     pub fn files(&self, place: usize) -> Result<Vec<OsString>, Failure> {
-        if self.operands.iter().filter(|name| *name == input::STANDARD).count() > 1 {
-            return Err(self.wrong("standard input can be one file only".into()));
-        }
+        self.one_standard_input(&self.operands)?;
         Ok(self.operands[place..].to_vec())
     }
 

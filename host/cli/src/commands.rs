@@ -10,21 +10,69 @@ use crate::failure::Failure;
 use crate::input;
 use crate::json::{document, Object};
 use crate::table::{number, Column};
+use crate::warnings;
 use chaldoref::{Movie, Refusal, TrackId};
 use std::ffi::OsStr;
 use std::io::{self, Write};
 
-/// Where an answer goes, and in which form.
+/// Where an answer goes, in which form, and the name of the file that it is of.
 struct Answer<'w> {
     out: &'w mut dyn Write,
     json: bool,
+    file: &'w OsStr,
+    /// Whether other files are asked too.
+    beside_others: bool,
 }
 
-/// Answers a request of the file of that name on standard output.
+impl Answer<'_> {
+    /// The answer, for machines.
+    fn document(self, fields: impl FnOnce(&mut Object) -> io::Result<()>) -> Result<(), Failure> {
+        Ok(document(self.out, Some(self.file), fields)?)
+    }
+
+    /// Tells warnings on standard error, with the file's name where there are others.
+    fn tell(&self, warnings: &[String]) {
+        if !self.beside_others {
+            return warnings::tell(warnings);
+        }
+        let named: Vec<String> =
+            warnings.iter().map(|words| format!("{}: {words}", input::called(self.file))).collect();
+        warnings::tell(&named);
+    }
+}
+
+/// Writes the name of a file above its answer, and so nothing where it has none.
+struct Named<'w> {
+    out: &'w mut dyn Write,
+    name: Option<String>,
+}
+
+impl Write for Named<'_> {
+    fn write(&mut self, bytes: &[u8]) -> io::Result<usize> {
+        if let Some(name) = self.name.take() {
+            writeln!(self.out, "{name}:")?;
+        }
+        self.out.write(bytes)
+    }
+
+    fn flush(&mut self) -> io::Result<()> {
+        self.out.flush()
+    }
+}
+
+/// Answers a request of the file of that name on standard output. Of several files each answer has its name before it.
 pub fn run(request: &Request, name: &OsStr, out: &mut dyn Write) -> Result<(), Failure> {
+    if request.json || request.files.len() == 1 {
+        return answer(request, name, out);
+    }
+    answer(request, name, &mut Named { out, name: Some(input::called(name)) })?;
+    Ok(writeln!(out)?)
+}
+
+fn answer(request: &Request, name: &OsStr, out: &mut dyn Write) -> Result<(), Failure> {
     let file = input::read(name).map_err(Failure::Input)?;
     let movie = || Movie::open(&file).map_err(|refusal| Failure::of_film(&file, refusal));
-    let to = Answer { out, json: request.json };
+    let to = Answer { out, json: request.json, file: name, beside_others: request.files.len() > 1 };
     match &request.ask {
         Ask::Tracks => questions::tracks(&movie()?, to),
         Ask::Sample { track, n, bytes: false } => questions::sample(&movie()?, *track, *n, to),
@@ -43,24 +91,24 @@ pub fn run(request: &Request, name: &OsStr, out: &mut dyn Write) -> Result<(), F
         }
         Ask::ReadSlip { hex } => {
             let bytes = if *hex { input::from_hex(&file) } else { input::slip(file) };
-            slips::read(&bytes.map_err(Failure::Input)?, name, request.files.len() > 1, to)
+            slips::read(&bytes.map_err(Failure::Input)?, to)
         }
         Ask::Check { slips } => check::check(&movie()?, slips, to),
     }
 }
 
-/// A refusal, for machines. What else went wrong gives no document.
-pub fn refused(failure: &Failure, name: &OsStr, out: &mut dyn Write) -> io::Result<()> {
+/// Why there is no answer, for machines; the file is the one that was asked. A report that was printed, and output that could not be, give no
+/// other document.
+pub fn failed(failure: &Failure, file: Option<&OsStr>, out: &mut dyn Write) -> io::Result<()> {
+    let explained = |o: &mut Object, refusal, why| refusal_fields(o, refusal)?.put("explanation", why).map(drop);
     match failure {
-        Failure::Film(refusal, why) => explained(*refusal, why.clone(), out),
-        Failure::Refused(refusal, _) => explained(*refusal, None, out),
-        Failure::Malformed(fault) => slips::refused(fault, name, out),
-        _ => Ok(()),
+        Failure::Film(refusal, why) => document(out, file, |o| explained(o, *refusal, why.clone())),
+        Failure::Refused(refusal, _) => document(out, file, |o| explained(o, *refusal, None)),
+        Failure::Malformed(fault) => document(out, file, |o| slips::fault_fields(o, fault)),
+        Failure::Usage(wrong, _) => document(out, file, |o| o.put("error", wrong.clone()).map(drop)),
+        Failure::Input(error) => document(out, file, |o| o.put("error", error.to_string()).map(drop)),
+        Failure::NotWritten(..) | Failure::Output(_) | Failure::NotAllGood { .. } => Ok(()),
     }
-}
-
-fn explained(refusal: Refusal, why: Option<String>, out: &mut dyn Write) -> io::Result<()> {
-    document(out, |o| refusal_fields(o, refusal)?.put("explanation", why).map(drop))
 }
 
 fn refusal_fields<'o, 'w>(o: &'o mut Object<'w>, refusal: Refusal) -> io::Result<&'o mut Object<'w>> {

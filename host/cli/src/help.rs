@@ -12,9 +12,11 @@ is in units of the movie's time scale only.
 ";
 
 const REST: &str = "\
---json prints one JSON document, and read-slip one for each slip. chaldoref COMMAND --help tells the options of a
-command; the page chaldoref(1) tells all. Exit status: 0 answered; 1 refused, for the reason on standard error, or
-something that check found is not good; 2 bad usage, unreadable file or no memory.
+--json prints one JSON document for each FILE. chaldoref COMMAND --help tells
+the options of a command; the page chaldoref(1) tells all. Exit status: 0
+answered; 1 refused, for the reason on standard error, or something that check
+found is not good; 2 bad usage, unreadable file or no memory. Of several files
+the greatest status counts.
 ";
 
 impl Command {

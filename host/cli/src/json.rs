@@ -1,12 +1,17 @@
 //! JSON documents, written as they are made: a list of a million pairs is never held as text.
+use std::ffi::OsStr;
 use std::fmt;
 use std::io::{self, Write};
+
+/// Which keys documents have. It is another number where one is taken away or has another meaning.
+const FORMAT: u32 = 1;
 
 /// A value that is no object and no list.
 pub enum Value {
     Null,
     Bool(bool),
     Number(i128),
+    Seconds(f64),
     Text(String),
     /// Bytes, as a string of two hex digits each.
     Hex(Vec<u8>),
@@ -54,6 +59,7 @@ impl fmt::Display for Value {
             Value::Null => f.write_str("null"),
             Value::Bool(value) => value.fmt(f),
             Value::Number(value) => value.fmt(f),
+            Value::Seconds(value) => value.fmt(f),
             Value::Text(text) => quoted(text, f),
             Value::Hex(bytes) => hex(bytes, f),
         }
@@ -86,9 +92,19 @@ pub struct Object<'w> {
     empty: bool,
 }
 
-/// A document: one object, on a line of its own.
-pub fn document(out: &mut dyn Write, fields: impl FnOnce(&mut Object) -> io::Result<()>) -> io::Result<()> {
-    object(out, fields)?;
+/// A document: one object, on a line of its own. The format comes first, and then the name of the file that was asked, if there is one.
+pub fn document(
+    out: &mut dyn Write,
+    file: Option<&OsStr>,
+    fields: impl FnOnce(&mut Object) -> io::Result<()>,
+) -> io::Result<()> {
+    object(out, |o| {
+        o.put("format", FORMAT)?;
+        if let Some(name) = file {
+            o.put("file", name.to_string_lossy().into_owned())?;
+        }
+        fields(o)
+    })?;
     out.write_all(b"\n")
 }
 
@@ -100,16 +116,27 @@ fn object(out: &mut dyn Write, fields: impl FnOnce(&mut Object) -> io::Result<()
 
 impl Object<'_> {
     /// A field. The object is handed back for the next one.
-    pub fn put(&mut self, key: &'static str, value: impl Into<Value>) -> io::Result<&mut Self> {
+    pub fn put(&mut self, key: &str, value: impl Into<Value>) -> io::Result<&mut Self> {
         self.key(key)?;
         write!(self.out, "{}", value.into())?;
         Ok(self)
     }
 
+    /// A time in units of a scale, and after it the same in seconds.
+    pub fn time(&mut self, key: &str, units: impl Into<i64>, scale: u32) -> io::Result<&mut Self> {
+        let units = units.into();
+        self.put(key, units)?.put(&seconds_key(key), Value::Seconds(units as f64 / f64::from(scale)))
+    }
+
+    /// A time that is not there.
+    pub fn no_time(&mut self, key: &str) -> io::Result<&mut Self> {
+        self.put(key, Value::Null)?.put(&seconds_key(key), Value::Null)
+    }
+
     /// A field that is an object, or null where there is none.
     pub fn object<T>(
         &mut self,
-        key: &'static str,
+        key: &str,
         item: Option<&T>,
         fields: impl Fn(&mut Object, &T) -> io::Result<()>,
     ) -> io::Result<&mut Self> {
@@ -122,7 +149,7 @@ impl Object<'_> {
     /// A field that is a list of objects.
     pub fn list<T>(
         &mut self,
-        key: &'static str,
+        key: &str,
         items: &[T],
         fields: impl Fn(&mut Object, &T) -> io::Result<()>,
     ) -> io::Result<&mut Self> {
@@ -139,18 +166,22 @@ impl Object<'_> {
     }
 
     /// A field that is a list of strings.
-    pub fn texts(&mut self, key: &'static str, texts: &[String]) -> io::Result<&mut Self> {
+    pub fn texts(&mut self, key: &str, texts: &[String]) -> io::Result<&mut Self> {
         self.key(key)?;
         let texts: Vec<String> = texts.iter().map(|text| Value::from(text.clone()).to_string()).collect();
         write!(self.out, "[{}]", texts.join(","))?;
         Ok(self)
     }
 
-    fn key(&mut self, key: &'static str) -> io::Result<()> {
+    fn key(&mut self, key: &str) -> io::Result<()> {
         let comma = if self.empty { "" } else { "," };
         self.empty = false;
         write!(self.out, "{comma}\"{key}\":")
     }
+}
+
+fn seconds_key(key: &str) -> String {
+    format!("{key}_seconds")
 }
 
 #[cfg(test)]
@@ -159,13 +190,13 @@ mod tests {
 
     fn written(fields: impl FnOnce(&mut Object) -> io::Result<()>) -> String {
         let mut out = Vec::new();
-        document(&mut out, fields).unwrap();
+        document(&mut out, None, fields).unwrap();
         String::from_utf8(out).unwrap()
     }
 
     #[test]
     fn documents() {
-        assert_eq!(written(|_| Ok(())), "{}\n");
+        assert_eq!(written(|_| Ok(())), "{\"format\":1}\n");
         let all = written(|o| {
             o.put("a", -1i64)?.put("b", u64::MAX)?.put("c", true)?.put("d", None::<u32>)?;
             o.list("e", &[1u32, 2], |o, n| o.put("n", *n).map(drop))?.list("f", &[(); 0], |_, _| Ok(()))?;
@@ -174,7 +205,7 @@ mod tests {
         });
         assert_eq!(
             all,
-            "{\"a\":-1,\"b\":18446744073709551615,\"c\":true,\"d\":null,\"e\":[{\"n\":1},{\"n\":2}],\"f\":[],\
+            "{\"format\":1,\"a\":-1,\"b\":18446744073709551615,\"c\":true,\"d\":null,\"e\":[{\"n\":1},{\"n\":2}],\"f\":[],\
              \"g\":{\"n\":3},\"h\":null}\n"
         );
     }
@@ -185,7 +216,28 @@ mod tests {
             o.texts("a", &[])?.texts("b", &["c".into()])?.texts("d", &["e\"".into(), String::new()])?;
             Ok(())
         });
-        assert_eq!(all, "{\"a\":[],\"b\":[\"c\"],\"d\":[\"e\\\"\",\"\"]}\n");
+        assert_eq!(all, "{\"format\":1,\"a\":[],\"b\":[\"c\"],\"d\":[\"e\\\"\",\"\"]}\n");
+    }
+
+    #[test]
+    fn times_have_seconds() {
+        let all = written(|o| {
+            o.time("a", 24u32, 600)?.time("b", -7i64, 600)?.time("c", u32::MAX, 1)?.no_time("d")?;
+            o.time("e", 1u32, u32::MAX)?.time("f", 0u32, 3).map(drop)
+        });
+        assert_eq!(
+            all,
+            "{\"format\":1,\"a\":24,\"a_seconds\":0.04,\"b\":-7,\"b_seconds\":-0.011666666666666667,\
+             \"c\":4294967295,\"c_seconds\":4294967295,\"d\":null,\"d_seconds\":null,\
+             \"e\":1,\"e_seconds\":0.00000000023283064370807974,\"f\":0,\"f_seconds\":0}\n"
+        );
+    }
+
+    #[test]
+    fn documents_have_the_file() {
+        let mut out = Vec::new();
+        document(&mut out, Some(OsStr::new("a \"b\"")), |o| o.put("c", true).map(drop)).unwrap();
+        assert_eq!(String::from_utf8(out).unwrap(), "{\"format\":1,\"file\":\"a \\\"b\\\"\",\"c\":true}\n");
     }
 
     #[test]

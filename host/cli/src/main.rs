@@ -22,28 +22,34 @@ mod warnings;
 
 use args::{Parsed, Request};
 use failure::{worse, Failure, SUCCESS};
-use std::ffi::OsStr;
+use std::ffi::{OsStr, OsString};
 use std::io::{self, BufWriter, Write};
 use std::process::ExitCode;
 
 fn main() -> ExitCode {
-    let status = match args::parse(std::env::args_os().skip(1)) {
+    let words: Vec<OsString> = std::env::args_os().skip(1).collect();
+    let json = args::has_json(&words);
+    let status = match args::parse(words) {
         Ok(Parsed::Text(text)) => end("", print(|out| Ok(out.write_all(text.as_bytes())?))),
         Ok(Parsed::Run(request)) => {
             request.files.iter().map(|file| end(&input::called(file), answer(&request, file))).max().unwrap_or(SUCCESS)
         }
-        Err(failure) => end("", Err(failure)),
+        Err(failure) => end("", documented(Err(failure), None, json)),
     };
     ExitCode::from(status)
 }
 
-/// Answers a request of one file. With --json a refusal is a document on standard output as well, so that there is always one.
+/// Answers a request of one file.
 fn answer(request: &Request, file: &OsStr) -> Result<(), Failure> {
-    let answered = print(|out| commands::run(request, file, out));
-    if let (Err(failure), true) = (&answered, request.json) {
-        print(|out| Ok(commands::refused(failure, file, out)?))?;
+    documented(print(|out| commands::run(request, file, out)), Some(file), request.json)
+}
+
+/// With --json a failure is a document on standard output as well, so that there is always one.
+fn documented(done: Result<(), Failure>, file: Option<&OsStr>, json: bool) -> Result<(), Failure> {
+    if let (Err(failure), true) = (&done, json) {
+        print(|out| Ok(commands::failed(failure, file, out)?))?;
     }
-    answered
+    done
 }
 
 /// Runs something that writes to standard output, and sees to it that all of it is written, also before a failure.

@@ -26,9 +26,9 @@ pub const OUT: Opt = Opt { flag: "-o", value: Some("OUT"), about: "write raw byt
 pub static COMMANDS: [Command; 10] = [
     Command {
         name: "tracks",
-        operands: &["FILE"],
+        operands: &["FILE..."],
         options: &[&JSON],
-        about: "the tracks of a movie, in file order",
+        about: "the tracks of each movie, in file order",
         ask: |_| Ok(Ask::Tracks),
     },
     Command {
@@ -82,7 +82,7 @@ pub static COMMANDS: [Command; 10] = [
     },
     Command {
         name: "features",
-        operands: &["FILE", "TRACK", "[CODE]"],
+        operands: &["FILE...", "TRACK", "[CODE]"],
         options: &[&JSON],
         about: "the features avvb, avab, tvsz, vfps, mvbr and mabr of a track, or that of one code",
         ask: |words| Ok(Ask::Features { track: words.track(1)?, code: words.if_given(2, Words::code)? }),
@@ -101,7 +101,7 @@ impl Command {
         COMMANDS.iter().find(|command| command.name == name)
     }
 
-    /// Whether all its operands are files, each of which is answered alone.
+    /// Whether several files may be asked, each of which is answered alone.
     pub fn takes_files(&self) -> bool {
         self.operands[0].ends_with("...")
     }
@@ -112,8 +112,8 @@ impl Command {
         (!next.starts_with('[')).then_some(given)
     }
 
-    /// Whether its last operand may be given several times.
+    /// Whether one of its operands may be given several times.
     pub fn takes_several(&self) -> bool {
-        self.operands.last().is_some_and(|name| name.ends_with("..."))
+        self.operands.iter().any(|name| name.ends_with("..."))
     }
 }

@@ -27,7 +27,8 @@ fn tracks() {
     );
     answers(
         "tracks films/w.mov --json",
-        "{\"tracks\":[{\"id\":1,\"subtype\":\"vide\",\"scale\":600,\"total\":120,\"samples\":4,\"chunks\":2,\
+        "{\"format\":1,\"file\":\"films/w.mov\",\"tracks\":[{\"id\":1,\"subtype\":\"vide\",\"scale\":600,\"total\":120,\
+         \"total_seconds\":0.2,\"samples\":4,\"chunks\":2,\
          \"edits\":0}],\"warnings\":[]}\n",
     );
 }
@@ -52,7 +53,11 @@ fn tracks_with_odd_subtypes() {
 #[test]
 fn no_tracks() {
     answers_on(&film_of(vec![]), &["tracks", "-"], "id  subtype  scale  total  hh:mm:ss.mmm  samples  chunks  edits\n");
-    answers_on(&film_of(vec![]), &["tracks", "-", "--json"], "{\"tracks\":[],\"warnings\":[]}\n");
+    answers_on(
+        &film_of(vec![]),
+        &["tracks", "-", "--json"],
+        "{\"format\":1,\"file\":\"-\",\"tracks\":[],\"warnings\":[]}\n",
+    );
 }
 
 #[test]
@@ -64,7 +69,8 @@ fn samples() {
     );
     answers(
         "sample --json films/w.mov 1 4",
-        "{\"track\":1,\"sample\":4,\"decode\":72,\"duration\":48,\"composition\":72,\"sync\":true,\"description\":1,\
+        "{\"format\":1,\"file\":\"films/w.mov\",\"track\":1,\"sample\":4,\"decode\":72,\"decode_seconds\":0.12,\
+         \"duration\":48,\"duration_seconds\":0.08,\"composition\":72,\"composition_seconds\":0.12,\"sync\":true,\"description\":1,\
          \"chunk\":2,\"offset\":900,\"size\":70}\n",
     );
     let film = film_of(vec![film::Track { ctts: Some(vec![(4, -7)]), stss: Some(vec![]), ..w_track() }]);
@@ -86,9 +92,9 @@ fn bytes() {
 #[test]
 fn times() {
     answers("at films/w.mov 1 24", "media time  hh:mm:ss.mmm  sample\n        24  00:00:00.040       2\n");
-    answers("at films/w.mov 0x1 0x77 --json", "{\"track\":1,\"media_time\":119,\"sample\":4}\n");
+    answers("at films/w.mov 0x1 0x77 --json", "{\"format\":1,\"file\":\"films/w.mov\",\"track\":1,\"media_time\":119,\"media_time_seconds\":0.19833333333333333,\"sample\":4}\n");
     answers("map films/w.mov 1 60", "movie time  media time  hh:mm:ss.mmm\n        60          60  00:00:00.100\n");
-    answers("map films/w.mov 1 60 --json", "{\"track\":1,\"movie_time\":60,\"media_time\":60}\n");
+    answers("map films/w.mov 1 60 --json", "{\"format\":1,\"file\":\"films/w.mov\",\"track\":1,\"movie_time\":60,\"media_time\":60,\"media_time_seconds\":0.1}\n");
 }
 
 #[test]
@@ -100,7 +106,11 @@ fn times_in_edits() {
         &["map", "-", "1", "59"],
         "movie time  media time  hh:mm:ss.mmm\n        59     nothing             -\n",
     );
-    answers_on(&film, &["map", "-", "1", "59", "--json"], "{\"track\":1,\"movie_time\":59,\"media_time\":null}\n");
+    answers_on(
+        &film,
+        &["map", "-", "1", "59", "--json"],
+        "{\"format\":1,\"file\":\"-\",\"track\":1,\"movie_time\":59,\"media_time\":null,\"media_time_seconds\":null}\n",
+    );
     answers_on(
         &film,
         &["map", "-", "1", "119"],
@@ -120,7 +130,8 @@ fn stretches() {
     );
     answers(
         "stretch films/w.mov 1 0 120 --json",
-        "{\"track\":1,\"a\":0,\"b\":120,\"pairs\":[{\"offset\":1000,\"length\":150},{\"offset\":900,\"length\":70}],\
+        "{\"format\":1,\"file\":\"films/w.mov\",\"track\":1,\"a\":0,\"a_seconds\":0,\"b\":120,\"b_seconds\":0.2,\
+         \"pairs\":[{\"offset\":1000,\"length\":150},{\"offset\":900,\"length\":70}],\
          \"bytes\":220,\"warnings\":[]}\n",
     );
 }
@@ -130,7 +141,8 @@ fn slips() {
     answers("slip films/w.mov 1 24 73", SLIP);
     answers(
         "slip films/w.mov 1 24 73 --json",
-        "{\"track\":1,\"a\":24,\"b\":73,\"slip\":\"0101d804184902cc0832840746\",\"warnings\":[]}\n",
+        "{\"format\":1,\"file\":\"films/w.mov\",\"track\":1,\"a\":24,\"a_seconds\":0.04,\"b\":73,\
+         \"b_seconds\":0.12166666666666667,\"slip\":\"0101d804184902cc0832840746\",\"warnings\":[]}\n",
     );
     let folder = Folder::new("slips");
     let path = folder.path("w.slip");
@@ -149,7 +161,8 @@ const SLIP_READ: &str =
 #[test]
 fn slips_read() {
     let json =
-        "{\"file\":\"-\",\"track\":1,\"scale\":600,\"a\":24,\"b\":73,\"pairs\":[{\"offset\":1100,\"length\":50},\
+        "{\"format\":1,\"file\":\"-\",\"track\":1,\"scale\":600,\"a\":24,\"a_seconds\":0.04,\"b\":73,\"b_seconds\":0.12166666666666667,\
+        \"pairs\":[{\"offset\":1100,\"length\":50},\
                 {\"offset\":900,\"length\":70}],\"bytes\":120}\n";
     // Raw bytes, and hex text with white space and line breaks: nobody has to say which.
     for slip in [&SLIP_BYTES[..], SLIP.as_bytes(), b"\r\n 0101D804\r\n184902 cC08\t32 840746\n\n"] {
@@ -170,7 +183,7 @@ fn several_slips_are_read() {
     let files: Vec<bool> = json
         .lines()
         .zip([raw, text])
-        .map(|(line, name)| line.starts_with(&format!("{{\"file\":\"{name}\",\"track\":1,")))
+        .map(|(line, name)| line.starts_with(&format!("{{\"format\":1,\"file\":\"{name}\",\"track\":1,")))
         .collect();
     assert_eq!(files, [true, true]);
 }
@@ -190,11 +203,11 @@ fn features() {
     );
     let refused = "\"value\":null,\"refused\":18,\"reason\":\"only for sound tracks\",\"peak\":null}";
     let found = "\"refused\":null,\"reason\":null,\"peak\":null}";
-    let whole = "{\"first\":1,\"last\":4,\"a\":0,\"b\":120}}";
+    let whole = "{\"first\":1,\"last\":4,\"a\":0,\"a_seconds\":0,\"b\":120,\"b_seconds\":0.2}}";
     answers(
         "features films/w.mov 1 --json",
         &format!(
-            "{{\"track\":1,\"features\":[{{\"code\":\"avvb\",\"name\":\"average video bit rate\",\"value\":8800,{found},\
+            "{{\"format\":1,\"file\":\"films/w.mov\",\"track\":1,\"features\":[{{\"code\":\"avvb\",\"name\":\"average video bit rate\",\"value\":8800,{found},\
              {{\"code\":\"avab\",\"name\":\"average audio bit rate\",{refused},\
              {{\"code\":\"tvsz\",\"name\":\"greatest picture\",\"value\":20971760,{found},\
              {{\"code\":\"vfps\",\"name\":\"highest frame rate\",\"value\":1638400,{found},\
@@ -210,7 +223,7 @@ fn features() {
     answers(
         "features films/w.mov 1 0x76667073 --json",
         &format!(
-            "{{\"track\":1,\"features\":[{{\"code\":\"vfps\",\"name\":\"highest frame rate\",\"value\":1638400,{found}]}}\n"
+            "{{\"format\":1,\"file\":\"films/w.mov\",\"track\":1,\"features\":[{{\"code\":\"vfps\",\"name\":\"highest frame rate\",\"value\":1638400,{found}]}}\n"
         ),
     );
 }
@@ -250,8 +263,9 @@ fn peaks() {
     answers_on(
         &sound,
         &["features", "-", "1", "mabr", "--json"],
-        "{\"track\":1,\"features\":[{\"code\":\"mabr\",\"name\":\"highest audio bit rate over one second\",\
-         \"value\":1680,\"refused\":null,\"reason\":null,\"peak\":{\"first\":3,\"last\":5,\"a\":10,\"b\":20}}]}\n",
+        "{\"format\":1,\"file\":\"-\",\"track\":1,\"features\":[{\"code\":\"mabr\",\"name\":\"highest audio bit rate over one second\",\
+         \"value\":1680,\"refused\":null,\"reason\":null,\"peak\":{\"first\":3,\"last\":5,\"a\":10,\"a_seconds\":1,\
+         \"b\":20,\"b_seconds\":2}}]}\n",
     );
 }
 
@@ -282,8 +296,8 @@ fn profiles() {
     );
     let movies =
         "\"records\":[{\"part\":1,\"code\":\"vfps\",\"value\":7},{\"part\":2,\"code\":\"0x00000005\",\"value\":6}]}\n";
-    answers_on(&film, &["profile", "-", "--json"], &format!("{{\"track\":null,{movies}"));
-    answers_on(&film, &["profile", "-", "0", "--json"], &format!("{{\"track\":0,{movies}"));
+    answers_on(&film, &["profile", "-", "--json"], &format!("{{\"format\":1,\"file\":\"-\",\"track\":null,{movies}"));
+    answers_on(&film, &["profile", "-", "0", "--json"], &format!("{{\"format\":1,\"file\":\"-\",\"track\":0,{movies}"));
     answers("profile films/w.mov", "part  code  value  hex\n");
-    answers("profile films/w.mov 1 --json", "{\"track\":1,\"records\":[]}\n");
+    answers("profile films/w.mov 1 --json", "{\"format\":1,\"file\":\"films/w.mov\",\"track\":1,\"records\":[]}\n");
 }

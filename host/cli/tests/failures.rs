@@ -41,7 +41,7 @@ fn questions_refused() {
 #[test]
 fn a_refusal_is_a_document_too() {
     let expected = Ran {
-        out: "{\"refused\":14,\"reason\":\"no track has that ID\",\"explanation\":null}\n".into(),
+        out: "{\"format\":1,\"file\":\"films/w.mov\",\"refused\":14,\"reason\":\"no track has that ID\",\"explanation\":null}\n".into(),
         err: "chaldoref: films/w.mov: refused 14: no track has that ID\n".into(),
         status: 1,
     };
@@ -69,7 +69,7 @@ fn a_refused_film_is_explained() {
     let film = Movie { tracks: vec![w_track(), second], ..w_movie() }.file_of(4096).bytes();
     let words = "track 2 (ID 2), stts at byte 728: counts 5 samples, stsz 4";
     let expected = Ran {
-        out: format!("{{\"refused\":9,\"reason\":\"sample tables contradict each other\",\"explanation\":\"{words}\"}}\n"),
+        out: format!("{{\"format\":1,\"file\":\"-\",\"refused\":9,\"reason\":\"sample tables contradict each other\",\"explanation\":\"{words}\"}}\n"),
         err: format!(
             "chaldoref: standard input: refused 9: sample tables contradict each other\nchaldoref: not proved: {words}\n"
         ),
@@ -128,18 +128,15 @@ fn usage() {
     let all = "tracks|sample|at|map|stretch|slip|read-slip|check|features|profile FILE ...\n       chaldoref --help";
     bad_usage("", "no command is named", all);
     bad_usage("track films/w.mov", "there is no command 'track'", all);
-    bad_usage("--json", "there is no command '--json'", all);
+    bad_usage("--bytes", "there is no command '--bytes'", all);
     bad_usage("help track", "there is no command 'track'", all);
     for line in ["help tracks x", "help help x", "--help -h x", "--version x"] {
         bad_usage(line, "'x' is one argument too many", all);
     }
-    bad_usage("tracks", "FILE is missing", "tracks FILE [--json]");
-    bad_usage("tracks a b", "'b' is one argument too many", "tracks FILE [--json]");
-    bad_usage("tracks a --bytes", "tracks has no option '--bytes'", "tracks FILE [--json]");
+    bad_usage("tracks", "FILE is missing", "tracks FILE... [--json]");
+    bad_usage("profile a 1 b", "'b' is one argument too many", "profile FILE [TRACK] [--json]");
+    bad_usage("tracks a --bytes", "tracks has no option '--bytes'", "tracks FILE... [--json]");
     bad_usage("sample a 1", "N is missing", "sample FILE TRACK N [--bytes] [--json]");
-    let both = "--json goes with neither --bytes nor -o";
-    bad_usage("sample a 1 1 --json --bytes", both, "sample FILE TRACK N [--bytes] [--json]");
-    bad_usage("slip a 1 0 1 --json -o b", both, "slip FILE TRACK [A B] [-o OUT] [--json]");
     bad_usage("slip a 1 0 1 -o", "-o needs OUT", "slip FILE TRACK [A B] [-o OUT] [--json]");
     bad_usage("check", "FILE is missing", "check FILE SLIP... [--json]");
     bad_usage("check a", "SLIP is missing", "check FILE SLIP... [--json]");
@@ -148,7 +145,34 @@ fn usage() {
         bad_usage(line, "standard input can be one file only", "check FILE SLIP... [--json]");
     }
     let codes = "CODE is four characters, or a number after 0x, and not 'avv'";
-    bad_usage("features a 1 avv", codes, "features FILE TRACK [CODE] [--json]");
+    bad_usage("features a 1 avv", codes, "features FILE... TRACK [CODE] [--json]");
+}
+
+/// With --json bad usage and an unreadable file are documents too; standard error has the same as without.
+#[test]
+fn what_fails_is_a_document_too() {
+    let fails = |line: &str, document: &str| {
+        let ran = run(&words(line));
+        assert_eq!((ran.out, ran.status), (format!("{{\"format\":1,{document}}}\n"), 2), "{line}");
+        assert!(ran.err.starts_with("chaldoref: "), "{line}");
+    };
+    fails("--json", "\"error\":\"there is no command '--json'\"");
+    fails("tracks --json", "\"error\":\"FILE is missing\"");
+    fails("at --json films/w.mov", "\"error\":\"TRACK is missing\"");
+    fails("features films/w.mov --json", "\"error\":\"TRACK is missing\"");
+    let both = "\"error\":\"--json goes with neither --bytes nor -o\"";
+    fails("sample a 1 1 --json --bytes", both);
+    fails("slip a 1 0 1 --json -o b", both);
+    let none = "\"error\":\"No such file or directory (os error 2)\"";
+    fails("tracks none.mov --json", &format!("\"file\":\"none.mov\",{none}"));
+    fails("check none.mov none.slip --json", &format!("\"file\":\"none.mov\",{none}"));
+    fails("features films 1 --json", "\"file\":\"films\",\"error\":\"Is a directory (os error 21)\"");
+    fails(
+        "read-slip --hex films/w.mov --json",
+        &format!("\"file\":\"{W}\",\"error\":\"line 1, column 1: not a pair of hex digits\""),
+    );
+    // After the two dashes it is the name of a file.
+    assert_eq!(run(&words("tracks -- --json")).out, "");
 }
 
 /// What a media time is.
@@ -185,7 +209,7 @@ fn numbers_with_a_sign() {
     let surplus = "'-1' is one argument too many";
     bad_usage("at films/w.mov 1 0 -1", surplus, "at FILE TRACK MEDIA-TIME [--json]");
     // Where a file is named, it looks like an option.
-    bad_usage("tracks -1", "tracks has no option '-1'", "tracks FILE [--json]");
+    bad_usage("tracks -1", "tracks has no option '-1'", "tracks FILE... [--json]");
     bad_usage("read-slip a -1", "read-slip has no option '-1'", "read-slip FILE... [--hex] [--json]");
 }
 
@@ -197,7 +221,7 @@ fn unreadable_files() {
     assert_eq!(run(&["tracks", ""]), failed("an empty name", "No such file or directory (os error 2)"));
     let nameless = run(&["slip", W, "1", "0", "1", "-o", ""]);
     assert_eq!(nameless, failed("an empty name", "No such file or directory (os error 2)"));
-    assert_eq!(run(&["tracks", "films", "--json"]), failed("films", "Is a directory (os error 21)"));
+    assert_eq!(run(&["tracks", "films"]), failed("films", "Is a directory (os error 21)"));
     assert_eq!(run(&["read-slip", "--hex", HOSES]), failed(HOSES, "line 1, column 1: not a pair of hex digits"));
     let typed = run_on(b"01 01 D8\n04 1B 4", &["read-slip", "-"]);
     assert_eq!(typed, failed("standard input", "line 2, column 7: not a pair of hex digits"));

@@ -169,7 +169,7 @@ fn standard_output_that_is_closed() {
 #[test]
 fn standard_input_that_is_closed() {
     let closed = Ran { out: String::new(), err: "chaldoref: standard input: it is closed\n".into(), status: 2 };
-    for line in ["tracks -", "slip - 1 0 120 --json", "read-slip -"] {
+    for line in ["tracks -", "slip - 1 0 120", "read-slip -"] {
         assert_eq!(Ran::new(program_after("", &words(line), "<&-").output().unwrap()), closed, "{line}");
     }
     let other = Ran::new(program_after("", &["tracks", W], "<&-").output().unwrap());

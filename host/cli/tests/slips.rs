@@ -73,12 +73,12 @@ fn a_malformed_slip_is_a_document_too() {
     let document = |slip: &[u8]| run_on(slip, &["read-slip", "-", "--json"]).out;
     assert_eq!(
         document(&SLIP[..12]),
-        "{\"file\":\"-\",\"refused\":17,\"reason\":\"a slip is malformed\",\"place\":12,\
+        "{\"format\":1,\"file\":\"-\",\"refused\":17,\"reason\":\"a slip is malformed\",\"place\":12,\
          \"number\":\"length of pair 2\",\"rule\":\"the slip ends before it\"}\n"
     );
     assert_eq!(
         document(&[&SLIP[..], &[0x00, 0x00]].concat()),
-        "{\"file\":\"-\",\"refused\":17,\"reason\":\"a slip is malformed\",\"place\":13,\
+        "{\"format\":1,\"file\":\"-\",\"refused\":17,\"reason\":\"a slip is malformed\",\"place\":13,\
          \"number\":null,\"rule\":\"2 bytes follow the last number\"}\n"
     );
 }
@@ -97,7 +97,7 @@ fn good_and_malformed_slips_beside_each_other() {
     assert_eq!(both.err, format!("{alone}{alone}"));
     // A file that cannot be read is worse, and stops nothing.
     let unreadable = run(&["read-slip", "films/none.slip", bad, good, "--json"]);
-    assert_eq!((unreadable.out.lines().count(), unreadable.status), (2, 2));
+    assert_eq!((unreadable.out.lines().count(), unreadable.status), (3, 2));
 }
 
 /// Every malformed slip of crates/slip_vectors: the place in the document is the reference's.

@@ -25,7 +25,7 @@ fn fragmented_films() {
                    1  vide       600      0  00:00:00.000        0       0      0\n";
     let document = |warnings: &str| {
         format!(
-            "{{\"tracks\":[{{\"id\":1,\"subtype\":\"vide\",\"scale\":600,\"total\":0,\"samples\":0,\"chunks\":0,\
+            "{{\"format\":1,\"file\":\"-\",\"tracks\":[{{\"id\":1,\"subtype\":\"vide\",\"scale\":600,\"total\":0,\"total_seconds\":0,\"samples\":0,\"chunks\":0,\
              \"edits\":0}}],\"warnings\":[{warnings}]}}\n"
         )
     };
@@ -45,6 +45,10 @@ fn fragmented_films() {
         let quoted = format!("\"{FRAGMENTED}\"");
         warns(run_on(&film.bytes(), &["tracks", "-", "--json"]), &document(&quoted), FRAGMENTED);
     }
+    let mut film = film_of(vec![empty_track(1)]);
+    film.push("moov", atom("mvex", &[]));
+    let beside = run_on(&film.bytes(), &["tracks", W, "-"]);
+    assert_eq!((beside.err, beside.status), (format!("chaldoref: warning: standard input: {FRAGMENTED}\n"), 0));
     let whole = run_on(&film_of(vec![empty_track(1)]).bytes(), &["tracks", "-"]);
     assert_eq!(whole, Ran { out: listed.into(), err: String::new(), status: 0 });
 }
@@ -74,6 +78,7 @@ fn stretches_of_a_track_with_a_ctts() {
     for command in ["stretch", "slip"] {
         warns(ask(command, "1", &[]), &plain(command, &[]), CTTS);
         let document = plain(command, &["--json"]).replace("\"warnings\":[]", &format!("\"warnings\":[\"{CTTS}\"]"));
+        let document = document.replace(W, path);
         assert!(document.contains(CTTS));
         warns(ask(command, "1", &["--json"]), &document, CTTS);
         assert_eq!((ask(command, "2", &[]).err.as_str(), ask(command, "2", &["--json"]).err.as_str()), ("", ""));

@@ -1,10 +1,11 @@
 //! The regulator's third question: whether the film time that slips file adds up.
+use super::ranges::time_fields;
 use super::{Answer, CLOCK};
 use crate::checked::Checked;
 use crate::failure::{worse, Failure};
 use crate::filed::Filed;
 use crate::input;
-use crate::json::{document, Object};
+use crate::json::Object;
 use crate::table::{self, number, text};
 use crate::time::{clock, stretch_in_words};
 use chaldoref::{MediaTime, Movie, Slip, Track};
@@ -28,8 +29,8 @@ pub fn check(movie: &Movie, names: &[OsString], to: Answer) -> Result<(), Failur
     let slips: Vec<Checked> = names.iter().map(|name| Checked::of(movie, name)).collect();
     let accounts = movie.tracks().iter().map(|track| account(track, &slips)).collect();
     let report = Report { slips, accounts };
-    let printed = if to.json { report.document(to.out) } else { report.print(to.out) };
-    worse(report.outcome(), printed.map_err(Failure::from))
+    let printed = if to.json { report.document(to) } else { report.print(to.out).map_err(Failure::from) };
+    worse(report.outcome(), printed)
 }
 
 fn account<'m>(track: &'m Track, slips: &[Checked]) -> Account<'m> {
@@ -95,8 +96,8 @@ impl Report<'_> {
         }
     }
 
-    fn document(&self, out: &mut dyn Write) -> io::Result<()> {
-        document(out, |o| {
+    fn document(&self, to: Answer) -> Result<(), Failure> {
+        to.document(|o| {
             o.list("slips", &self.slips, slip_fields)?.list("tracks", &self.accounts, account_fields)?;
             o.put("all_good", self.is_all_good()).map(drop)
         })
@@ -159,18 +160,20 @@ fn slip_fields(o: &mut Object, checked: &Checked) -> io::Result<()> {
     let (slip, wrong) = (checked.slip.as_ref(), checked.wrong.as_ref());
     o.put("file", checked.name.to_string_lossy().into_owned())?;
     o.put("track", slip.map(|slip| slip.id.0))?.put("scale", slip.map(|slip| slip.scale))?;
-    o.put("a", slip.map(|slip| slip.a.0))?.put("b", slip.map(|slip| slip.b.0))?;
+    match slip {
+        Some(slip) => time_fields(o, &(slip.a..slip.b), slip.scale)?,
+        None => o.no_time("a")?.no_time("b").map(drop)?,
+    }
     o.put("good", wrong.is_none())?.put("fault", wrong.map(|wrong| wrong.kind.name().to_string()))?;
     let place = wrong.and_then(|wrong| wrong.place).and_then(|place| u64::try_from(place).ok());
     o.put("place", place)?.put("reason", wrong.map(|wrong| wrong.reason.clone())).map(drop)
 }
 
 fn account_fields(o: &mut Object, Account { track, filed }: &Account) -> io::Result<()> {
-    o.put("id", track.id.0)?.put("scale", track.scale)?.put("filed", filed.units)?.put("total", track.total.0)?;
-    o.list("gaps", &filed.gaps, time_fields)?.list("overlaps", &filed.overlaps, time_fields)?;
+    let scale = track.scale;
+    let times = |o: &mut Object, time: &Range<MediaTime>| time_fields(o, time, scale);
+    o.put("id", track.id.0)?.put("scale", scale)?;
+    o.time("filed", filed.units, scale)?.time("total", track.total.0, scale)?;
+    o.list("gaps", &filed.gaps, times)?.list("overlaps", &filed.overlaps, times)?;
     o.put("adds_up", filed.adds_up()).map(drop)
-}
-
-fn time_fields(o: &mut Object, time: &Range<MediaTime>) -> io::Result<()> {
-    o.put("a", time.start.0)?.put("b", time.end.0).map(drop)
 }

@@ -1,7 +1,8 @@
 //! Features, and which second of a track has the highest bit rate.
+use super::ranges::time_fields;
 use super::Answer;
 use crate::failure::{hint, Failure};
-use crate::json::{document, Object};
+use crate::json::Object;
 use crate::table::{self, number, text};
 use crate::time::clock;
 use chaldoref::{Feature, FourCC, Movie, Peak, Refusal, Track, TrackId};
@@ -53,10 +54,10 @@ fn only_for(track: &Track, code: FourCC) -> Option<&'static str> {
 
 fn print(track: &Track, all: &[Found], to: Answer) -> Result<(), Failure> {
     if to.json {
-        return Ok(document(to.out, |o| {
-            o.put("track", track.id.0)?.list("features", all, fields)?;
-            Ok(())
-        })?);
+        return to.document(|o| {
+            let fields = |o: &mut Object, found: &Found| fields(o, found, track.scale);
+            o.put("track", track.id.0)?.list("features", all, fields).map(drop)
+        });
     }
     let columns = [text("code"), text("name"), number("value"), text("meaning")];
     let row = |found: &Found| {
@@ -85,13 +86,13 @@ fn print_peak(track: &Track, code: FourCC, peak: &Peak, out: &mut dyn Write) -> 
     writeln!(out, "peak of {code}: samples {first} to {last}, media time {a} to {b} ({begin} to {end}){whole}")
 }
 
-fn fields(o: &mut Object, found: &Found) -> io::Result<()> {
+fn fields(o: &mut Object, found: &Found, scale: u32) -> io::Result<()> {
     let refused = found.value.err().map(Refusal::number);
     o.put("code", found.code.to_string())?.put("name", name(found.code))?.put("value", found.value.ok())?;
     o.put("refused", refused)?.put("reason", found.reason.clone())?;
     o.object("peak", found.peak.as_ref(), |o, peak| {
         o.put("first", *peak.samples.start())?.put("last", *peak.samples.end())?;
-        o.put("a", peak.time.start.0)?.put("b", peak.time.end.0).map(drop)
+        time_fields(o, &peak.time, scale)
     })?;
     Ok(())
 }

@@ -1,7 +1,7 @@
 //! Tracks, samples, times and profiles.
 use super::{scale, Answer, CLOCK};
 use crate::failure::Failure;
-use crate::json::{document, Object, Value};
+use crate::json::{Object, Value};
 use crate::table::{self, number, text};
 use crate::time::{clock, Time};
 use crate::warnings;
@@ -10,11 +10,9 @@ use std::io;
 
 pub fn tracks(movie: &Movie, to: Answer) -> Result<(), Failure> {
     let warnings = warnings::of_tracks(movie.file());
-    warnings::tell(&warnings);
+    to.tell(&warnings);
     if to.json {
-        return Ok(document(to.out, |o| {
-            o.list("tracks", movie.tracks(), track_fields)?.texts("warnings", &warnings).map(drop)
-        })?);
+        return to.document(|o| o.list("tracks", movie.tracks(), track_fields)?.texts("warnings", &warnings).map(drop));
     }
     let columns = [
         number("id"),
@@ -37,19 +35,21 @@ pub fn tracks(movie: &Movie, to: Answer) -> Result<(), Failure> {
 
 fn track_fields(o: &mut Object, t: &Track) -> io::Result<()> {
     o.put("id", t.id.0)?.put("subtype", t.subtype.to_string())?.put("scale", t.scale)?;
-    o.put("total", t.total.0)?.put("samples", t.samples)?.put("chunks", t.chunks)?.put("edits", t.edits)?;
+    o.time("total", t.total.0, t.scale)?.put("samples", t.samples)?.put("chunks", t.chunks)?.put("edits", t.edits)?;
     Ok(())
 }
 
 pub fn sample(movie: &Movie, track: TrackId, n: u32, to: Answer) -> Result<(), Failure> {
     let s = movie.sample(track, n)?;
+    let scale = scale(movie, track)?;
     if to.json {
-        return Ok(document(to.out, |o| {
-            o.put("track", track.0)?.put("sample", n)?.put("decode", s.decode.0)?.put("duration", s.duration)?;
-            o.put("composition", s.composition)?.put("sync", s.sync)?.put("description", s.description)?;
-            o.put("chunk", s.chunk)?.put("offset", s.offset)?.put("size", s.size)?;
-            Ok(())
-        })?);
+        return to.document(|o| {
+            o.put("track", track.0)?.put("sample", n)?;
+            o.time("decode", s.decode.0, scale)?.time("duration", s.duration, scale)?;
+            o.time("composition", s.composition, scale)?;
+            o.put("sync", s.sync)?.put("description", s.description)?;
+            o.put("chunk", s.chunk)?.put("offset", s.offset)?.put("size", s.size).map(drop)
+        });
     }
     let columns = [
         number("sample"),
@@ -63,7 +63,7 @@ pub fn sample(movie: &Movie, track: TrackId, n: u32, to: Answer) -> Result<(), F
         number("offset"),
         number("size"),
     ];
-    let start = clock(s.decode, scale(movie, track)?);
+    let start = clock(s.decode, scale);
     let sync = if s.sync { "yes" } else { "no" };
     let [n, decode, duration] = [n, s.decode.0, s.duration].map(|n| n.to_string());
     let [description, chunk, offset, size] = [s.description, s.chunk, s.offset, s.size].map(|n| n.to_string());
@@ -78,12 +78,11 @@ pub fn sample_bytes(movie: &Movie, track: TrackId, n: u32, to: Answer) -> Result
 
 pub fn at(movie: &Movie, track: TrackId, time: &Time, to: Answer) -> Result<(), Failure> {
     let (time, n) = time.ask(movie, track, |time| movie.sample_at(track, time))?;
+    let scale = scale(movie, track)?;
     if to.json {
-        return Ok(document(to.out, |o| {
-            o.put("track", track.0)?.put("media_time", time.0)?.put("sample", n).map(drop)
-        })?);
+        return to.document(|o| o.put("track", track.0)?.time("media_time", time.0, scale)?.put("sample", n).map(drop));
     }
-    let row = [time.to_string(), clock(time, scale(movie, track)?), n.to_string()];
+    let row = [time.to_string(), clock(time, scale), n.to_string()];
     let columns = [number("media time"), CLOCK, number("sample")];
     Ok(table::write(to.out, columns, &[row], |row| row.clone())?)
 }
@@ -93,12 +92,17 @@ pub fn map(movie: &Movie, track: TrackId, time: MovieTime, to: Answer) -> Result
         Shown::At(media) => Some(media),
         Shown::Nothing => None,
     };
-    if to.json {
-        return Ok(document(to.out, |o| {
-            o.put("track", track.0)?.put("movie_time", time.0)?.put("media_time", media.map(|t| t.0)).map(drop)
-        })?);
-    }
     let scale = scale(movie, track)?;
+    if to.json {
+        return to.document(|o| {
+            o.put("track", track.0)?.put("movie_time", time.0)?;
+            match media {
+                Some(media) => o.time("media_time", media.0, scale),
+                None => o.no_time("media_time"),
+            }
+            .map(drop)
+        });
+    }
     let [shown, start] = match media {
         Some(media) => [media.to_string(), clock(media, scale)],
         None => ["nothing".into(), "-".into()],
@@ -113,10 +117,10 @@ pub fn profile(movie: &Movie, track: Option<TrackId>, to: Answer) -> Result<(), 
         None => movie.movie_profile(),
     };
     if to.json {
-        return Ok(document(to.out, |o| {
+        return to.document(|o| {
             let track = track.map_or(Value::Null, |track| track.0.into());
             o.put("track", track)?.list("records", &records, record_fields).map(drop)
-        })?);
+        });
     }
     let columns = [number("part"), text("code"), number("value"), text("hex")];
     let row =

@@ -2,7 +2,7 @@
 use super::{scale, Answer};
 use crate::failure::Failure;
 use crate::input::{self, STANDARD};
-use crate::json::{document, Object, Value};
+use crate::json::{Object, Value};
 use crate::output;
 use crate::table::{self, number};
 use crate::time::{stretch_in_words, Span};
@@ -16,17 +16,18 @@ use std::os::unix::fs::MetadataExt;
 
 pub fn stretch(movie: &Movie, track: TrackId, span: &Span, to: Answer) -> Result<(), Failure> {
     let (time, stretch) = span.ask(movie, track, |time| movie.stretch(track, time))?;
+    let scale = scale(movie, track)?;
     let warnings = warnings::of_stretch(movie.file(), track);
     warnings::tell(&warnings);
     if to.json {
-        return Ok(document(to.out, |o| {
-            o.put("track", track.0)?.put("a", time.start.0)?.put("b", time.end.0)?;
+        return to.document(|o| {
+            time_fields(o.put("track", track.0)?, &time, scale)?;
             o.list("pairs", &stretch.pairs, pair_fields)?.put("bytes", stretch.bytes)?;
             o.texts("warnings", &warnings).map(drop)
-        })?);
+        });
     }
     print_pairs(&stretch.pairs, stretch.bytes, to.out)?;
-    Ok(writeln!(to.out, "{}", stretch_in_words(&time, scale(movie, track)?))?)
+    Ok(writeln!(to.out, "{}", stretch_in_words(&time, scale))?)
 }
 
 /// The film's own bytes, range after range.
@@ -56,10 +57,11 @@ fn slip_document(movie: &Movie, track: TrackId, span: &Span, to: Answer) -> Resu
     let (time, slip) = span.ask(movie, track, |time| movie.write_slip(track, time))?;
     let warnings = warnings::of_stretch(movie.file(), track);
     warnings::tell(&warnings);
-    Ok(document(to.out, |o| {
-        o.put("track", track.0)?.put("a", time.start.0)?.put("b", time.end.0)?;
+    let scale = scale(movie, track)?;
+    to.document(|o| {
+        time_fields(o.put("track", track.0)?, &time, scale)?;
         o.put("slip", Value::Hex(slip))?.texts("warnings", &warnings).map(drop)
-    })?)
+    })
 }
 
 /// The bytes of the slip, and on standard error what people must know of it.
@@ -98,6 +100,11 @@ fn same_file(name: &OsStr, film: &OsStr) -> bool {
     let place = |file: fs::Metadata| (file.dev(), file.ino());
     let (one, other) = (fs::metadata(name).map(place), input::metadata(film).map(place));
     matches!((one, other), (Ok(one), Ok(other)) if one == other)
+}
+
+/// From where a stretch lasts, and up to where.
+pub fn time_fields(o: &mut Object, time: &Range<MediaTime>, scale: u32) -> io::Result<()> {
+    o.time("a", time.start.0, scale)?.time("b", time.end.0, scale).map(drop)
 }
 
 pub fn pair_fields(o: &mut Object, pair: &ByteRange) -> io::Result<()> {

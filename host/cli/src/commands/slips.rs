@@ -3,27 +3,22 @@ use super::ranges::{pair_fields, print_pairs};
 use super::{refusal_fields, Answer, CLOCK};
 use crate::failure::Failure;
 use crate::fault::Fault;
-use crate::input;
-use crate::json::document;
+use crate::json::Object;
 use crate::table::{self, number};
 use crate::time::clock;
 use chaldoref::{MediaTime, Slip};
-use std::ffi::OsStr;
-use std::io::{self, Write};
+use std::io;
 
-/// What a slip says; beside others its name comes first.
-pub fn read(bytes: &[u8], name: &OsStr, beside_others: bool, to: Answer) -> Result<(), Failure> {
+/// What a slip says.
+pub fn read(bytes: &[u8], to: Answer) -> Result<(), Failure> {
     let read = Slip::try_read(bytes).map_err(|no_memory| Failure::Input(no_memory.into()))?;
     let slip = read.map_err(|malformed| Failure::Malformed(Fault::of(bytes, malformed)))?;
     if to.json {
-        return Ok(document(to.out, |o| {
-            o.put("file", name.to_string_lossy().into_owned())?.put("track", slip.id.0)?.put("scale", slip.scale)?;
-            o.put("a", slip.a.0)?.put("b", slip.b.0)?;
+        return to.document(|o| {
+            o.put("track", slip.id.0)?.put("scale", slip.scale)?;
+            o.time("a", slip.a.0, slip.scale)?.time("b", slip.b.0, slip.scale)?;
             o.list("pairs", &slip.pairs, pair_fields)?.put("bytes", slip.bytes()).map(drop)
-        })?);
-    }
-    if beside_others {
-        writeln!(to.out, "{}:", input::called(name))?;
+        });
     }
     let columns = [number("track"), number("scale"), number("a"), number("b"), number("film time"), CLOCK];
     let film_time = MediaTime(slip.film_time());
@@ -31,18 +26,11 @@ pub fn read(bytes: &[u8], name: &OsStr, beside_others: bool, to: Answer) -> Resu
     let row = [track, scale, a, b, time, clock(film_time, slip.scale)];
     table::write(to.out, columns, &[row], |row| row.clone())?;
     writeln!(to.out)?;
-    print_pairs(&slip.pairs, slip.bytes(), to.out)?;
-    if beside_others {
-        writeln!(to.out)?;
-    }
-    Ok(())
+    Ok(print_pairs(&slip.pairs, slip.bytes(), to.out)?)
 }
 
 /// Where a slip goes wrong, for machines.
-pub fn refused(fault: &Fault, name: &OsStr, out: &mut dyn Write) -> io::Result<()> {
-    document(out, |o| {
-        o.put("file", name.to_string_lossy().into_owned())?;
-        refusal_fields(o, fault.refusal())?.put("place", u64::try_from(fault.place).unwrap_or(u64::MAX))?;
-        o.put("number", fault.number.clone())?.put("rule", fault.rule.clone()).map(drop)
-    })
+pub fn fault_fields(o: &mut Object, fault: &Fault) -> io::Result<()> {
+    refusal_fields(o, fault.refusal())?.put("place", u64::try_from(fault.place).unwrap_or(u64::MAX))?;
+    o.put("number", fault.number.clone())?.put("rule", fault.rule.clone()).map(drop)
 }
