@@ -1,8 +1,10 @@
 //! The arguments: which command, which film, and the numbers asked.
+use crate::completion;
 use crate::failure::Failure;
 use crate::help;
 use crate::input;
-use crate::syntax::{Command, Opt, BYTES, JSON};
+use crate::suggest;
+use crate::syntax::{Command, Opt, BYTES, COMMANDS, HELPERS, JSON};
 use crate::time::{Span, Time};
 use chaldoref::{FourCC, MediaTime, MovieTime, TrackId};
 use std::ffi::{OsStr, OsString};
@@ -39,6 +41,7 @@ pub fn parse(words: impl IntoIterator<Item = OsString>) -> Result<Parsed, Failur
     let first = words.next().ok_or_else(|| Failure::Usage("no command is named".into(), help::usage()))?;
     match first.to_str() {
         Some("-h" | "--help" | "help") => help_on(words),
+        Some("completion") => completion(words),
         Some("-V" | "--version") => alone(help::version(), words),
         _ => Words::sort(command(&first)?, words),
     }
@@ -52,10 +55,22 @@ pub fn has_json(words: &[OsString]) -> bool {
 /// The help on the command named, or on all.
 fn help_on(mut words: impl Iterator<Item = OsString>) -> Result<Parsed, Failure> {
     let text = match words.next() {
+        Some(name) if name == "completion" => help::completion(),
         Some(name) if !["help", "-h", "--help"].iter().any(|all| name == *all) => command(&name)?.help(),
         _ => help::help(),
     };
     alone(text, words)
+}
+
+/// The script for the shell named.
+fn completion(mut words: impl Iterator<Item = OsString>) -> Result<Parsed, Failure> {
+    let wrong = |message: String| Err(Failure::Usage(message, help::completion_usage()));
+    match words.next() {
+        Some(shell) if shell == "bash" => alone(completion::bash(), words),
+        Some(flag) if flag == "-h" || flag == "--help" => Ok(Parsed::Text(help::completion())),
+        Some(other) => wrong(format!("there is no completion for {}", quoted(&other))),
+        None => wrong("the shell is missing".into()),
+    }
 }
 
 /// A text after whose words no other may stand.
@@ -72,7 +87,14 @@ fn too_many(surplus: &OsStr) -> String {
 
 fn command(name: &OsStr) -> Result<&'static Command, Failure> {
     let found = name.to_str().and_then(Command::named);
-    found.ok_or_else(|| Failure::Usage(format!("there is no command {}", quoted(name)), help::usage()))
+    found.ok_or_else(|| Failure::Usage(format!("there is no command {}{}", quoted(name), meant(name)), help::usage()))
+}
+
+/// A question for whoever mistyped the name of a command.
+fn meant(name: &OsStr) -> String {
+    let names = COMMANDS.iter().map(|command| command.name).chain(HELPERS);
+    let near = name.to_str().and_then(|typed| suggest::nearest(typed, names));
+    near.map_or(String::new(), |near| format!("; did you mean {near}?"))
 }
 
 /// An argument as messages quote it.

@@ -1,5 +1,8 @@
 //! The texts that tell how to use the commands.
-use crate::syntax::{Command, Opt, COMMANDS};
+use crate::syntax::{Command, Opt, COMMANDS, HELPERS};
+
+/// The width of a terminal.
+const COLUMNS: usize = 80;
 
 const OPERANDS: &str = "\
 FILE is a whole film, and for read-slip a slip; - is standard input. SLIP is a
@@ -13,10 +16,10 @@ is in units of the movie's time scale only.
 
 const REST: &str = "\
 --json prints one JSON document for each FILE. chaldoref COMMAND --help tells
-the options of a command; the page chaldoref(1) tells all. Exit status: 0
-answered; 1 refused, for the reason on standard error, or something that check
-found is not good; 2 bad usage, unreadable file or no memory. Of several files
-the greatest status counts.
+the options of a command; the page chaldoref(1) tells all. chaldoref completion
+bash prints the completion for bash. Exit status: 0 answered; 1 refused, for the
+reason on standard error, or something that check found is not good; 2 bad
+usage, unreadable file or no memory. Of several files the greatest counts.
 ";
 
 impl Command {
@@ -34,7 +37,8 @@ impl Command {
     pub fn help(&self) -> String {
         let line = |option: &&Opt| format!("  {:<9} {}\n", option.form(), option.about);
         let options: String = self.options.iter().map(line).collect();
-        format!("{}\nPrints {}.\n\n{options}\n{OPERANDS}", self.usage(), self.about)
+        let about = wrapped(&format!("Prints {}.", self.about), 0);
+        format!("{}\n{about}\n{options}\n{OPERANDS}", self.usage())
     }
 }
 
@@ -44,21 +48,69 @@ impl Opt {
     }
 }
 
-/// Two lines for whoever named no command.
+/// Text in lines that begin after so many columns; the first one is not moved there.
+fn wrapped(text: &str, start: usize) -> String {
+    let (mut lines, mut column) = (String::new(), start);
+    for word in text.split(' ') {
+        if column > start && column + 1 + word.len() > COLUMNS {
+            lines.push('\n');
+            lines.push_str(&" ".repeat(start));
+            column = start;
+        } else if column > start {
+            lines.push(' ');
+            column += 1;
+        }
+        lines.push_str(word);
+        column += word.len();
+    }
+    lines + "\n"
+}
+
+/// For whoever named no command.
 pub fn usage() -> String {
-    let names: Vec<&str> = COMMANDS.iter().map(|command| command.name).collect();
-    format!("usage: chaldoref {} FILE ...\n       chaldoref --help\n", names.join("|"))
+    let names: Vec<&str> = COMMANDS.iter().map(|command| command.name).chain(HELPERS).collect();
+    let commands = wrapped(&format!("commands: {}", names.join(", ")), 0);
+    format!("usage: chaldoref COMMAND FILE ...\n       chaldoref --help\n{commands}")
 }
 
 pub fn help() -> String {
     let wide = COMMANDS.iter().map(|command| command.form().len()).max().unwrap_or(0);
-    let line = |command: &Command| format!("  {:<wide$}  {}\n", command.form(), command.about);
+    let line = |command: &Command| format!("  {:<wide$}  {}", command.form(), wrapped(command.about, wide + 4));
     let commands: String = COMMANDS.iter().map(line).collect();
     format!(
         "Asks the tables of a QuickTime movie.\n\nusage: chaldoref COMMAND FILE ...\n\n{commands}\n{OPERANDS}\n{REST}"
     )
 }
 
+pub fn completion_usage() -> String {
+    "usage: chaldoref completion bash\n".into()
+}
+
+pub fn completion() -> String {
+    let usage = completion_usage();
+    format!("{usage}\nPrints the completion for bash. It is used after\n\n  source <(chaldoref completion bash)\n")
+}
+
 pub fn version() -> String {
     format!("chaldoref {}\n", env!("CARGO_PKG_VERSION"))
+}
+
+#[cfg(test)]
+mod tests {
+    use super::*;
+
+    #[test]
+    fn lines_are_no_longer_than_a_terminal_is_wide() {
+        let text = ["word"; 40].join(" ");
+        for start in [0, 1, 33, 76] {
+            let lines = " ".repeat(start) + &wrapped(&text, start);
+            assert!(lines.lines().all(|line| line.len() <= COLUMNS), "{lines}");
+            assert!(lines.lines().all(|line| line.starts_with(&(" ".repeat(start) + "word"))), "{lines}");
+            assert_eq!(lines.split_whitespace().count(), 40);
+        }
+        // Lines are filled as far as they can be, and a word that is too long has a line of its own.
+        assert_eq!(wrapped(&text, 0).lines().next().unwrap().len(), 79);
+        assert_eq!(wrapped(&["of"; 40].join(" "), 0).lines().next().unwrap().len(), COLUMNS);
+        assert_eq!(wrapped(&format!("a {} b", "c".repeat(90)), 2), format!("a\n  {}\n  b\n", "c".repeat(90)));
+    }
 }

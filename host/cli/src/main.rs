@@ -7,6 +7,7 @@ mod checked;
 #[allow(unsafe_code)]
 mod closed;
 mod commands;
+mod completion;
 mod explain;
 mod failure;
 mod fault;
@@ -15,6 +16,7 @@ mod help;
 mod input;
 mod json;
 mod output;
+mod suggest;
 mod syntax;
 mod table;
 mod time;

@@ -23,6 +23,9 @@ pub const BYTES: Opt = Opt { flag: "--bytes", value: None, about: "write the fil
 pub const HEX: Opt = Opt { flag: "--hex", value: None, about: "read hex text, whatever it begins with" };
 pub const OUT: Opt = Opt { flag: "-o", value: Some("OUT"), about: "write raw bytes to OUT; - is standard output" };
 
+/// What stands in the place of a command and asks no film.
+pub const HELPERS: [&str; 2] = ["completion", "help"];
+
 pub static COMMANDS: [Command; 10] = [
     Command {
         name: "tracks",

@@ -125,14 +125,22 @@ fn bad_usage(line: &str, wrong: &str, usage: &str) {
 
 #[test]
 fn usage() {
-    let all = "tracks|sample|at|map|stretch|slip|read-slip|check|features|profile FILE ...\n       chaldoref --help";
+    let all = "COMMAND FILE ...\n       chaldoref --help\n\
+               commands: tracks, sample, at, map, stretch, slip, read-slip, check, features,\n\
+               profile, completion, help";
     bad_usage("", "no command is named", all);
-    bad_usage("track films/w.mov", "there is no command 'track'", all);
+    for line in ["track films/w.mov", "help track"] {
+        bad_usage(line, "there is no command 'track'; did you mean tracks?", all);
+    }
+    bad_usage("chekc films/w.mov", "there is no command 'chekc'; did you mean check?", all);
+    bad_usage("hlep", "there is no command 'hlep'; did you mean help?", all);
+    bad_usage("films/w.mov", "there is no command 'films/w.mov'", all);
     bad_usage("--bytes", "there is no command '--bytes'", all);
-    bad_usage("help track", "there is no command 'track'", all);
-    for line in ["help tracks x", "help help x", "--help -h x", "--version x"] {
+    for line in ["help tracks x", "help help x", "--help -h x", "--version x", "completion bash x"] {
         bad_usage(line, "'x' is one argument too many", all);
     }
+    bad_usage("completion", "the shell is missing", "completion bash");
+    bad_usage("completion zsh", "there is no completion for 'zsh'", "completion bash");
     bad_usage("tracks", "FILE is missing", "tracks FILE... [--json]");
     bad_usage("profile a 1 b", "'b' is one argument too many", "profile FILE [TRACK] [--json]");
     bad_usage("tracks a --bytes", "tracks has no option '--bytes'", "tracks FILE... [--json]");

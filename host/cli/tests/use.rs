@@ -7,7 +7,7 @@ use reference::film::w;
 use std::ffi::OsString;
 use std::fs::File;
 use std::os::unix::ffi::OsStringExt;
-use std::process::Stdio;
+use std::process::{Command, Stdio};
 
 const COMMANDS: [&str; 10] =
     ["tracks", "sample", "at", "map", "stretch", "slip", "read-slip", "check", "features", "profile"];
@@ -32,6 +32,58 @@ fn help() {
         assert_eq!((&one, &one), (&run(&["help", name]), &run(&[name, "no-such-file", "-h"])));
         assert_eq!((one.status, one.err.as_str()), (0, ""));
     }
+}
+
+/// Also what is said of bad usage, from the second line on.
+#[test]
+fn help_is_no_wider_than_a_terminal() {
+    let narrow = |text: &str| {
+        for line in text.lines() {
+            assert!(line.chars().count() <= 80, "{line}");
+        }
+    };
+    narrow(&run(&["--help"]).out);
+    for name in COMMANDS.into_iter().chain(["completion"]) {
+        narrow(&run(&[name, "--help"]).out);
+        narrow(&run(&[name]).err);
+    }
+    narrow(&run::<&str>(&[]).err);
+}
+
+/// What bash offers for the last of those words.
+fn offered(words: &[&str]) -> Vec<String> {
+    let script = "source <(\"$0\" completion bash); COMP_WORDS=(\"$@\"); COMP_CWORD=$(($# - 1)); _chaldoref; \
+                  printf '%s\\n' \"${COMPREPLY[@]}\"";
+    let output =
+        Command::new("bash").args(["-c", script, env!("CARGO_BIN_EXE_chaldoref")]).args(words).output().unwrap();
+    assert_eq!((String::from_utf8(output.stderr).unwrap().as_str(), output.status.code()), ("", Some(0)));
+    String::from_utf8(output.stdout).unwrap().split_whitespace().map(String::from).collect()
+}
+
+#[test]
+fn completion() {
+    let others = ["completion", "help", "--help", "--version"];
+    assert_eq!(offered(&["chaldoref", ""]), [&COMMANDS[..], &others].concat());
+    assert_eq!(offered(&["chaldoref", "s"]), ["sample", "stretch", "slip"]);
+    assert_eq!(offered(&["chaldoref", "help", ""]), COMMANDS);
+    assert_eq!(offered(&["chaldoref", "completion", "b"]), ["bash"]);
+    assert_eq!(offered(&["chaldoref", "slip", "-"]), ["-o", "--json", "--help"]);
+    assert_eq!(offered(&["chaldoref", "sample", W, "1", "--b"]), ["--bytes"]);
+    // Each option that a command takes is in its help, and is offered.
+    for name in COMMANDS {
+        let help = run(&[name, "--help"]).out;
+        let options = offered(&["chaldoref", name, W, "-"]);
+        let taken = help.lines().filter_map(|line| line.strip_prefix("  -")).count();
+        assert_eq!(options.len(), taken + 1, "{name}");
+        assert!(options.iter().all(|option| option == "--help" || help.contains(&format!("\n  {option} "))), "{name}");
+    }
+    // Files are bash's own.
+    for words in [&["chaldoref", "tracks", ""][..], &["chaldoref", "tracks", "w"], &["chaldoref", "none", "-"]] {
+        assert_eq!(offered(words), [""; 0]);
+    }
+    let complete = "complete -o default -F _chaldoref chaldoref\n";
+    assert!(run(&["completion", "bash"]).out.ends_with(complete));
+    assert_eq!(run(&["completion", "--help"]), run(&["help", "completion"]));
 }
 
 #[test]
