@@ -70,7 +70,8 @@ fn samples() {
     answers(
         "sample --json films/w.mov 1 4",
         "{\"format\":1,\"file\":\"films/w.mov\",\"track\":1,\"sample\":4,\"decode\":72,\"decode_seconds\":0.12,\
-         \"duration\":48,\"duration_seconds\":0.08,\"composition\":72,\"composition_seconds\":0.12,\"sync\":true,\"description\":1,\
+         \"duration\":48,\"duration_seconds\":0.08,\"composition\":72,\"composition_seconds\":0.12,\"sync\":true,\
+              \"description\":1,\
          \"chunk\":2,\"offset\":900,\"size\":70}\n",
     );
     let film = film_of(vec![film::Track { ctts: Some(vec![(4, -7)]), stss: Some(vec![]), ..w_track() }]);
@@ -92,9 +93,17 @@ fn bytes() {
 #[test]
 fn times() {
     answers("at films/w.mov 1 24", "media time  hh:mm:ss.mmm  sample\n        24  00:00:00.040       2\n");
-    answers("at films/w.mov 0x1 0x77 --json", "{\"format\":1,\"file\":\"films/w.mov\",\"track\":1,\"media_time\":119,\"media_time_seconds\":0.19833333333333333,\"sample\":4}\n");
+    answers(
+        "at films/w.mov 0x1 0x77 --json",
+        "{\"format\":1,\"file\":\"films/w.mov\",\"track\":1,\"media_time\":119,\
+         \"media_time_seconds\":0.19833333333333333,\"sample\":4}\n",
+    );
     answers("map films/w.mov 1 60", "movie time  media time  hh:mm:ss.mmm\n        60          60  00:00:00.100\n");
-    answers("map films/w.mov 1 60 --json", "{\"format\":1,\"file\":\"films/w.mov\",\"track\":1,\"movie_time\":60,\"media_time\":60,\"media_time_seconds\":0.1}\n");
+    answers(
+        "map films/w.mov 1 60 --json",
+        "{\"format\":1,\"file\":\"films/w.mov\",\"track\":1,\"movie_time\":60,\
+         \"media_time\":60,\"media_time_seconds\":0.1}\n",
+    );
 }
 
 #[test]
@@ -122,7 +131,8 @@ fn times_in_edits() {
 fn stretches() {
     answers(
         "stretch films/w.mov 1 24 73",
-        "offset  length\n  1100      50\n   900      70\n2 ranges, 120 bytes\nmedia time 24 to 73 (00:00:00.040 to 00:00:00.121), film time 49 (00:00:00.081)\n",
+        "offset  length\n  1100      50\n   900      70\n2 ranges, 120 bytes\n\
+         media time 24 to 73 (00:00:00.040 to 00:00:00.121), film time 49 (00:00:00.081)\n",
     );
     answers(
         "stretch films/w.mov 1 0 1",
@@ -160,8 +170,8 @@ const SLIP_READ: &str =
 
 #[test]
 fn slips_read() {
-    let json =
-        "{\"format\":1,\"file\":\"-\",\"track\":1,\"scale\":600,\"a\":24,\"a_seconds\":0.04,\"b\":73,\"b_seconds\":0.12166666666666667,\
+    let json = "{\"format\":1,\"file\":\"-\",\"track\":1,\"scale\":600,\"a\":24,\"a_seconds\":0.04,\"b\":73,\
+         \"b_seconds\":0.12166666666666667,\
         \"pairs\":[{\"offset\":1100,\"length\":50},\
                 {\"offset\":900,\"length\":70}],\"bytes\":120}\n";
     // Raw bytes, and hex text with white space and line breaks: nobody has to say which.
@@ -207,7 +217,8 @@ fn features() {
     answers(
         "features films/w.mov 1 --json",
         &format!(
-            "{{\"format\":1,\"file\":\"films/w.mov\",\"track\":1,\"features\":[{{\"code\":\"avvb\",\"name\":\"average video bit rate\",\"value\":8800,{found},\
+            "{{\"format\":1,\"file\":\"films/w.mov\",\"track\":1,\"features\":[{{\"code\":\"avvb\",\
+             \"name\":\"average video bit rate\",\"value\":8800,{found},\
              {{\"code\":\"avab\",\"name\":\"average audio bit rate\",{refused},\
              {{\"code\":\"tvsz\",\"name\":\"greatest picture\",\"value\":20971760,{found},\
              {{\"code\":\"vfps\",\"name\":\"highest frame rate\",\"value\":1638400,{found},\
@@ -223,7 +234,8 @@ fn features() {
     answers(
         "features films/w.mov 1 0x76667073 --json",
         &format!(
-            "{{\"format\":1,\"file\":\"films/w.mov\",\"track\":1,\"features\":[{{\"code\":\"vfps\",\"name\":\"highest frame rate\",\"value\":1638400,{found}]}}\n"
+            "{{\"format\":1,\"file\":\"films/w.mov\",\"track\":1,\"features\":[{{\"code\":\"vfps\",\
+             \"name\":\"highest frame rate\",\"value\":1638400,{found}]}}\n"
         ),
     );
 }
@@ -263,7 +275,8 @@ fn peaks() {
     answers_on(
         &sound,
         &["features", "-", "1", "mabr", "--json"],
-        "{\"format\":1,\"file\":\"-\",\"track\":1,\"features\":[{\"code\":\"mabr\",\"name\":\"highest audio bit rate over one second\",\
+        "{\"format\":1,\"file\":\"-\",\"track\":1,\"features\":[{\"code\":\"mabr\",\
+         \"name\":\"highest audio bit rate over one second\",\
          \"value\":1680,\"refused\":null,\"reason\":null,\"peak\":{\"first\":3,\"last\":5,\"a\":10,\"a_seconds\":1,\
          \"b\":20,\"b_seconds\":2}}]}\n",
     );

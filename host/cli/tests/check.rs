@@ -85,13 +85,15 @@ fn two_hoses_filed_whole() {
     desk.finds("1a.slip 1b.slip 2a.slip 2b.slip", 0, ADDS_UP);
     let track = |id| {
         format!(
-            "{{\"id\":{id},\"scale\":600,\"filed\":144,\"filed_seconds\":0.24,\"total\":144,\"total_seconds\":0.24,\"gaps\":[],\"overlaps\":[],\"adds_up\":true}}"
+            "{{\"id\":{id},\"scale\":600,\"filed\":144,\"filed_seconds\":0.24,\"total\":144,\"total_seconds\":0.24,\
+             \"gaps\":[],\"overlaps\":[],\"adds_up\":true}}"
         )
     };
     let slip = |name, track, a: u32, b: u32| {
         let [a_seconds, b_seconds] = [a, b].map(|time| f64::from(time) / 600.0);
         format!(
-            "{{\"file\":\"{name}\",\"track\":{track},\"scale\":600,\"a\":{a},\"a_seconds\":{a_seconds},\"b\":{b},\"b_seconds\":{b_seconds},\"good\":true,\"fault\":null,\
+            "{{\"file\":\"{name}\",\"track\":{track},\"scale\":600,\"a\":{a},\"a_seconds\":{a_seconds},\"b\":{b},\
+             \"b_seconds\":{b_seconds},\"good\":true,\"fault\":null,\
              \"place\":null,\"reason\":null}}"
         )
     };
@@ -156,7 +158,9 @@ fn gaps() {
     let whole = "track 2: gap from media time 0 to 144 (00:00:00.000 to 00:00:00.240), film time 144 (00:00:00.240)\n";
     assert!(out.ends_with(&format!("{whole}every slip is good, and 2 tracks do not add up\n")), "{out}");
     let json = desk.check("2b.slip 2c.slip --json").out;
-    let gaps = "\"filed\":113,\"filed_seconds\":0.18833333333333332,\"total\":144,\"total_seconds\":0.24,\"gaps\":[{\"a\":0,\"a_seconds\":0,\"b\":30,\"b_seconds\":0.05},{\"a\":71,\"a_seconds\":0.11833333333333333,\"b\":72,\"b_seconds\":0.12}],\"overlaps\":[],\
+    let gaps = "\"filed\":113,\"filed_seconds\":0.18833333333333332,\"total\":144,\"total_seconds\":0.24,\
+         \"gaps\":[{\"a\":0,\"a_seconds\":0,\"b\":30,\"b_seconds\":0.05},{\"a\":71,\"a_seconds\":0.11833333333333333,\
+         \"b\":72,\"b_seconds\":0.12}],\"overlaps\":[],\
                 \"adds_up\":false}],\"all_good\":false}\n";
     assert!(json.ends_with(gaps), "{json}");
 }
@@ -173,13 +177,16 @@ fn overlaps() {
     assert_eq!(ran.status, 1);
     // The same slip twice: what is filed counts once.
     let ran = desk.check("1a.slip 1a.slip 1b.slip 2a.slip 2b.slip --json");
-    let twice = "{\"id\":1,\"scale\":600,\"filed\":144,\"filed_seconds\":0.24,\"total\":144,\"total_seconds\":0.24,\"gaps\":[],\"overlaps\":[{\"a\":0,\"a_seconds\":0,\"b\":24,\"b_seconds\":0.04}],\
+    let twice = "{\"id\":1,\"scale\":600,\"filed\":144,\"filed_seconds\":0.24,\"total\":144,\"total_seconds\":0.24,\
+         \"gaps\":[],\"overlaps\":[{\"a\":0,\"a_seconds\":0,\"b\":24,\"b_seconds\":0.04}],\
                  \"adds_up\":false}";
     assert!(ran.out.contains(twice), "{}", ran.out);
     assert_eq!(ran.status, 1);
     // What one slip leaves out, another that is filed twice does not make good.
     let ran = desk.slip("1c.slip", 1, 48, 144).check("1a.slip 1a.slip 1c.slip 2a.slip 2b.slip --json");
-    let both = "\"filed\":120,\"filed_seconds\":0.2,\"total\":144,\"total_seconds\":0.24,\"gaps\":[{\"a\":24,\"a_seconds\":0.04,\"b\":48,\"b_seconds\":0.08}],\"overlaps\":[{\"a\":0,\"a_seconds\":0,\"b\":24,\"b_seconds\":0.04}],";
+    let both = "\"filed\":120,\"filed_seconds\":0.2,\"total\":144,\"total_seconds\":0.24,\"gaps\":[{\"a\":24,\
+         \"a_seconds\":0.04,\"b\":48,\"b_seconds\":0.08}],\"overlaps\":[{\"a\":0,\"a_seconds\":0,\"b\":24,\
+         \"b_seconds\":0.04}],";
     assert!(ran.out.contains(both), "{}", ran.out);
     // A slip that is not good files nothing there.
     let out = desk.slip("1d.slip", 1, 20, 30).typed("w", OF_W).check("w 1b.slip 1d.slip").out;
@@ -258,7 +265,8 @@ fn malformed_slips() {
          2 slips are not good, and every track adds up\n",
     );
     let json = desk.check("x --json").out;
-    let fields = "{\"format\":1,\"file\":\"film.mov\",\"slips\":[{\"file\":\"x\",\"track\":null,\"scale\":null,\"a\":null,\"a_seconds\":null,\"b\":null,\"b_seconds\":null,\"good\":false,\
+    let fields = "{\"format\":1,\"file\":\"film.mov\",\"slips\":[{\"file\":\"x\",\"track\":null,\"scale\":null,\
+         \"a\":null,\"a_seconds\":null,\"b\":null,\"b_seconds\":null,\"good\":false,\
                   \"fault\":\"malformed\",\"place\":5,\"reason\":\"malformed at place 5, b: it is 24, and must be \
                   above a, which is 24\"}],\"tracks\":[";
     assert!(json.starts_with(fields), "{json}");

@@ -41,7 +41,9 @@ fn questions_refused() {
 #[test]
 fn a_refusal_is_a_document_too() {
     let expected = Ran {
-        out: "{\"format\":1,\"file\":\"films/w.mov\",\"refused\":14,\"reason\":\"no track has that ID\",\"explanation\":null}\n".into(),
+        out: "{\"format\":1,\"file\":\"films/w.mov\",\"refused\":14,\"reason\":\"no track has that ID\",\
+             \"explanation\":null}\n"
+            .into(),
         err: "chaldoref: films/w.mov: refused 14: no track has that ID\n".into(),
         status: 1,
     };
@@ -69,7 +71,8 @@ fn a_refused_film_is_explained() {
     let film = Movie { tracks: vec![w_track(), second], ..w_movie() }.file_of(4096).bytes();
     let words = "track 2 (ID 2), stts at byte 728: counts 5 samples, stsz 4";
     let expected = Ran {
-        out: format!("{{\"format\":1,\"file\":\"-\",\"refused\":9,\"reason\":\"sample tables contradict each other\",\"explanation\":\"{words}\"}}\n"),
+        out: format!("{{\"format\":1,\"file\":\"-\",\"refused\":9,\"reason\":\"sample tables contradict each other\",\
+             \"explanation\":\"{words}\"}}\n"),
         err: format!(
             "chaldoref: standard input: refused 9: sample tables contradict each other\nchaldoref: not proved: {words}\n"
         ),

@@ -25,7 +25,8 @@ fn fragmented_films() {
                    1  vide       600      0  00:00:00.000        0       0      0\n";
     let document = |warnings: &str| {
         format!(
-            "{{\"format\":1,\"file\":\"-\",\"tracks\":[{{\"id\":1,\"subtype\":\"vide\",\"scale\":600,\"total\":0,\"total_seconds\":0,\"samples\":0,\"chunks\":0,\
+            "{{\"format\":1,\"file\":\"-\",\"tracks\":[{{\"id\":1,\"subtype\":\"vide\",\"scale\":600,\"total\":0,\
+             \"total_seconds\":0,\"samples\":0,\"chunks\":0,\
              \"edits\":0}}],\"warnings\":[{warnings}]}}\n"
         )
     };
