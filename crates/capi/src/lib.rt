@@ -1,12 +1,12 @@
 // The questions of document 01 for programs in C and Rust: numbers and slices alone. Each function answers the number of a refusal, or 0, and puts
 // the values that documents 01 and 02 name into lent places, in its order. Each is one call: a function that is exported must stand in this crate.
-use host_samples::feature::hand_feature;
-use host_samples::feature::hand_peak;
-use host_samples::samples::hand_sample;
-use host_samples::samples::hand_sample_bytes;
-use host_slips::slips::hand_read_slip;
-use host_slips::slips::hand_written_slip;
-use host_slips::stretches::hand_stretch;
+use host_features::hand_feature;
+use host_features::hand_peak;
+use host_samples::hand_sample;
+use host_samples::hand_sample_bytes;
+use host_slips::hand_read_slip;
+use host_stretches::slips::hand_written_slip;
+use host_stretches::stretches::hand_stretch;
 use host_times::hand_media_time;
 use host_times::hand_sample_at;
 use host_tracks::profile::hand_profile;
@@ -20,9 +20,11 @@ ghost use Rattle.profiles.specs.Profiles.{profileNumbers};
 ghost use Rattle.hand.specs.Places.{Answers, SignedAnswers, Fills};
 ghost use Rattle.hand.specs.Times.{media};
 ghost use Rattle.host_tracks.specs.Numbers.{ofTrackList, ofProfile};
-ghost use Rattle.host_samples.specs.Numbers.{ofSample, ofSampleBytes, ofFeature, ofPeak};
+ghost use Rattle.host_samples.specs.Numbers.{ofSample, ofSampleBytes};
+ghost use Rattle.host_features.specs.Numbers.{ofFeature, ofPeak};
 ghost use Rattle.host_times.specs.Numbers.{ofSampleAt, ofMediaTime};
-ghost use Rattle.host_slips.specs.Numbers.{ofStretch, ofSlipWriting, ofSlipReading, pairsOf};
+ghost use Rattle.host_stretches.specs.Numbers.{ofStretch, ofSlipWriting};
+ghost use Rattle.host_slips.specs.Numbers.{ofSlipReading, pairsOf};
 
 // Lists the tracks of a film: seven numbers for each in the room, and in one place how many tracks.
 #[no_mangle]

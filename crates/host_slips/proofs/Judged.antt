@@ -1,4 +1,4 @@
--- The numbers of a stretch and of slips: each is given or refused, and its own refusal is the one before the room is looked at, then 16.
+-- The numbers of a slip that is read: its own refusal is the one before the room is looked at, then 16.
 -- Assumes nothing.
 use Prim.Native.Nat.{ℕ}
 use mathlib.Core.Path.{_≡_, refl}
@@ -9,30 +9,9 @@ use lib.ListN.{length}
 use Rattle.slip.specs.Slip.{Outcome, accepted, malformed, refused, numbersFor, roomFor}
 use Rattle.slip.specs.declared.Head.{Head}
 use Rattle.structure.specs.Rows.{orElse}
-use Rattle.track.specs.Track.{trackOf}
 use Rattle.movie.specs.Rooms.{noRoom, filledRoom, roomAfter}
-use Rattle.questions.specs.Asked.{trackAsked}
-use Rattle.stretch.specs.Stretches.{stretchPairs, bytesIn, stretchRefusal, stretchAnswer, stretchNumbers}
-use Rattle.stretch.specs.declared.StretchAnswer.the-variants as stretches
-use Rattle.stretch.specs.Slips.{slipOfStretch, slipRefusal, slipAnswer, slipNumbers}
-use Rattle.stretch.specs.declared.slips.SlipAnswer.the-variants as slips
 use Rattle.hand.specs.Places.{refusalIn, valuesIn}
-use Rattle.hand.specs.Times.{media}
-use Rattle.hand.proofs.Answered.{judged, numbers-are}
-use Rattle.host_slips.specs.Numbers.{ofStretch, ofSlipWriting, pairsOf, outcomeRefusal}
-
-module _ (s : List ℕ) (id a b : ℕ) (room : List ℕ) where
-  pub stretch-judged : ofStretch s id a b room
-      ≡ judged (stretchRefusal s id (media a) (media b) room) (length (stretchPairs s id (media a) (media b)) ∷ bytesIn (trackOf (trackAsked s id)) (media a) (media b) ∷ [])
-  unfolding stretchAnswer stretchNumbers
-  stretch-judged =
-      numbers-are stretchNumbers (stretches.Pairs _ _) stretches.Refused _ refl (λ r. refl) (stretchRefusal s id (media a) (media b) room)
-
-  pub slip-judged : ofSlipWriting s id a b room ≡ judged (slipRefusal s id (media a) (media b) room) (length (slipOfStretch s id (media a) (media b)) ∷ [])
-  unfolding slipAnswer slipNumbers
-  slip-judged = numbers-are slipNumbers (slips.Written _) slips.Refused _ refl (λ r. refl) (slipRefusal s id (media a) (media b) room)
-
--- ---- a slip that is read
+use Rattle.host_slips.specs.Numbers.{pairsOf, outcomeRefusal}
 
 abbrev pub readRefusal : Outcome → List ℕ → ℕ
 readRefusal o room = orElse (outcomeRefusal o) (noRoom (pairsOf o) room)
