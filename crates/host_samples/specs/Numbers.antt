@@ -7,7 +7,8 @@ use Rattle.questions.specs.Samples.{sampleAnswer, sampleNumbers}
 use Rattle.questions.specs.declared.samples.SampleAnswer.{SampleAnswer}
 use Rattle.questions.specs.declared.samples.SampleAnswer.the-variants.{Found, Refused}
 
--- "decode time .., duration, composition time .., whether sync .., description ID, chunk, offset .., size": signed, for the composition time's sake
+-- "decode time .., duration, composition time .., whether sync .., description ID, chunk, offset .., size": signed, since a composition time
+-- may be negative
 abbrev pub ofSample : List ℕ → ℕ → ℕ → List ℤ
 ofSample s id n = sampleNumbers (sampleAnswer s id n)
 

@@ -1,5 +1,5 @@
--- The numbers of a slip that is read, in the order of documents 01 and 02: the refusal, 0 for none, and the values, zeros with a refusal but
--- for the place of 17.
+-- The numbers of a slip that is read, in the order of documents 01 and 02: the refusal, 0 for none, and the values, zeros with a refusal
+-- but for the place of 17.
 use Prim.Native.Nat.{ℕ}
 use mathlib.Core.List.{List, []}
 use lib.ListN.{length}
