@@ -18,7 +18,9 @@
  *
  * Places fewer than a function names are refused 16 as room is, and then nothing
  * at all is written. The order of refusals is: the file's (1 to 13), 14, 15 or 18,
- * then 16; in reading a slip 17, then 16. docs/RULES.md has each rule in full.
+ * then 16; in reading a slip 17, then 16. Of the file's, 11 is the slip writer's
+ * alone: every other function accepts a film whose stored duration is not the total
+ * of its samples' durations. docs/RULES.md has each rule in full.
  *
  * Limits. A file has at most 2,147,483,647 bytes, a movie 16 tracks, a track
  * 1,048,576 samples, 1,048,576 chunks, 256 edits and 64 sample descriptions, a
@@ -73,7 +75,7 @@ enum {
     CHALDOREF_TIME_SCALE = 8,         /* a movie or media time scale is 0 */
     CHALDOREF_TABLES = 9,             /* the sample tables contradict each other */
     CHALDOREF_TOTAL_DURATION = 10,    /* sample or edit durations total over 4,294,967,295 */
-    CHALDOREF_STORED_DURATION = 11,   /* the mdhd duration is not the total of the sample durations */
+    CHALDOREF_STORED_DURATION = 11,   /* the mdhd duration is not the total of the sample durations: chaldoref_write_slip only */
     CHALDOREF_PAST_END = 12,          /* a chunk's offset plus the sizes of its samples passes the file's end */
     CHALDOREF_EDIT_LIST = 13,         /* an edit list is wrong */
     CHALDOREF_NO_TRACK = 14,          /* no track has that ID */
@@ -100,7 +102,7 @@ enum {
 
 /* How many numbers a track, a pair and a profile's record have in a room, and the most of each. */
 enum {
-    CHALDOREF_TRACK_NUMBERS = 7,
+    CHALDOREF_TRACK_NUMBERS = 8,
     CHALDOREF_PAIR_NUMBERS = 2,
     CHALDOREF_RECORD_NUMBERS = 3,
     CHALDOREF_MAX_TRACKS = 16,
@@ -115,10 +117,11 @@ enum {
 };
 
 /*
- * The tracks of a movie, in file order. Refusals 1 to 13, 16.
+ * The tracks of a movie, in file order. Refusals: the file's but 11; 16.
  * room: for each track ID, subtype (four characters as a big-endian number), media
  *       time scale, total of the sample durations, number of samples, of chunks, of
- *       edits; 7 * CHALDOREF_MAX_TRACKS numbers are always enough.
+ *       edits, and the duration that mdhd stores, which may be another than the total;
+ *       CHALDOREF_TRACK_NUMBERS * CHALDOREF_MAX_TRACKS numbers are always enough.
  * places: 1: the number of tracks.
  */
 uint32_t chaldoref_track_list(
@@ -127,7 +130,7 @@ uint32_t chaldoref_track_list(
     uint64_t *places, size_t places_len);
 
 /*
- * Sample n of a track, numbered from 1. Refusals 1 to 13, 14, 15, 16.
+ * Sample n of a track, numbered from 1. Refusals: the file's but 11; 14, 15, 16.
  * places: 8: decode time, duration, composition time (it may be negative), whether
  *         the sample is a sync sample (1 or 0), sample description ID, chunk
  *         (numbered from 1), offset in the file, size.
@@ -138,7 +141,7 @@ uint32_t chaldoref_sample(
     int64_t *places, size_t places_len);
 
 /*
- * Where the bytes of sample n are: file + offset, as many as its length. Refusals 1 to 13, 14, 15, 16.
+ * Where the bytes of sample n are: file + offset, as many as its length. Refusals: the file's but 11; 14, 15, 16.
  * places: 2: offset in the file, length.
  */
 uint32_t chaldoref_sample_bytes(
@@ -147,7 +150,7 @@ uint32_t chaldoref_sample_bytes(
     uint64_t *places, size_t places_len);
 
 /*
- * The sample at media time t: decode time <= t < decode time + duration. Refusals 1 to 13, 14, 15, 16.
+ * The sample at media time t: decode time <= t < decode time + duration. Refusals: the file's but 11; 14, 15, 16.
  * places: 1: the sample's number, from 1.
  */
 uint32_t chaldoref_sample_at(
@@ -156,7 +159,7 @@ uint32_t chaldoref_sample_at(
     uint64_t *places, size_t places_len);
 
 /*
- * Movie time t, in the movie's time scale, to media time, in the track's own. Refusals 1 to 13, 14, 15, 16.
+ * Movie time t, in the movie's time scale, to media time, in the track's own. Refusals: the file's but 11; 14, 15, 16.
  * places: 2: 1 and the media time; or 0 and 0 where nothing is shown.
  */
 uint32_t chaldoref_media_time(
@@ -166,7 +169,7 @@ uint32_t chaldoref_media_time(
 
 /*
  * The stretch of a track from media time a to b (a < b <= total): all samples from
- * the one at a to the one at b - 1, as byte ranges. Refusals 1 to 13, 14, 15, 16.
+ * the one at a to the one at b - 1, as byte ranges. Refusals: the file's but 11; 14, 15, 16.
  * room: for each chunk touched, in chunk order, offset in the file and length; twice
  *       the track's number of chunks is always enough.
  * places: 2: the number of pairs, the total of bytes.
@@ -178,9 +181,9 @@ uint32_t chaldoref_stretch(
     uint64_t *places, size_t places_len);
 
 /*
- * The stored profile of a track, or for id 0 of the movie. Refusals 1 to 13, 14 (not for id 0), 16.
+ * The stored profile of a track, or for id 0 of the movie. Refusals: the file's but 11; 14 (not for id 0), 16.
  * room: for each record with a code other than 0 part-ID, code, value;
- *       3 * CHALDOREF_MAX_RECORDS numbers are always enough.
+ *       CHALDOREF_RECORD_NUMBERS * CHALDOREF_MAX_RECORDS numbers are always enough.
  * places: 1: the number of records; 0 where there is no profile.
  */
 uint32_t chaldoref_profile(
@@ -199,7 +202,7 @@ uint32_t chaldoref_profile(
 #define CHALDOREF_MABR UINT32_C(0x6d616272)
 
 /*
- * A feature of a track, by its four-character code. Refusals 1 to 13, 14, 18, 16.
+ * A feature of a track, by its four-character code. Refusals: the file's but 11; 14, 18, 16.
  * places: 1: the value: bits a second for avvb, avab, mvbr and mabr; width * 65536 +
  *         height for tvsz; frames a second * 65536 for vfps. Quotients are rounded up.
  * mvbr and mabr are the greatest rate of a run of samples. There is a run for each sample:
@@ -213,7 +216,7 @@ uint32_t chaldoref_feature(
 
 /*
  * Where the highest bit rate over one second is, by its code, mvbr or mabr. Refused as that
- * feature is, and 18 for any other code: refusals 1 to 13, 14, 18, 16.
+ * feature is, and 18 for any other code: the file's but 11; 14, 18, 16.
  * places: 2: the number, from 1, of the first sample whose run has the greatest rate; how
  *         many samples that run has.
  */
@@ -236,7 +239,8 @@ uint32_t chaldoref_read_slip(
     uint64_t *places, size_t places_len);
 
 /*
- * Writes the slip of a track's stretch from media time a to b. Refusals 1 to 13, 14, 15, 16.
+ * Writes the slip of a track's stretch from media time a to b. Refusals: the file's, 11
+ * among them, as the proof that the file was closed properly; 14, 15, 16.
  * out: the slip; CHALDOREF_SLIP_HEAD_BYTES + CHALDOREF_SLIP_PAIR_BYTES * (the track's
  *      number of chunks) bytes are always enough.
  * places: 1: the slip's length in bytes.
@@ -339,6 +343,7 @@ struct chaldoref_track {
     uint32_t samples;
     uint32_t chunks;
     uint32_t edits;
+    uint32_t stored;  /* the duration that mdhd stores */
 };
 
 /* Track i, counted from 0 and below the number of tracks, of the room of chaldoref_track_list. */
@@ -353,6 +358,7 @@ static inline struct chaldoref_track chaldoref_track_of(const uint32_t *room, si
     track.samples = numbers[4];
     track.chunks = numbers[5];
     track.edits = numbers[6];
+    track.stored = numbers[7];
     return track;
 }
 

@@ -76,11 +76,11 @@ static uint32_t list_tracks(struct film film, struct track_list *list)
 
 static void print_tracks(const struct track_list *list)
 {
-    printf("id subtype scale total samples chunks edits\n");
+    printf("id subtype scale total samples chunks edits stored\n");
     for (size_t i = 0; i < list->count; i++) {
         const struct chaldoref_track *t = &list->tracks[i];
-        printf("%" PRIu32 " %08" PRIx32 " %" PRIu32 " %" PRIu32 " %" PRIu32 " %" PRIu32 " %" PRIu32 "\n",
-               t->id, t->subtype, t->scale, t->total, t->samples, t->chunks, t->edits);
+        printf("%" PRIu32 " %08" PRIx32 " %" PRIu32 " %" PRIu32 " %" PRIu32 " %" PRIu32 " %" PRIu32 " %" PRIu32 "\n",
+               t->id, t->subtype, t->scale, t->total, t->samples, t->chunks, t->edits, t->stored);
     }
 }
 

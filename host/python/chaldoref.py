@@ -42,7 +42,7 @@ FEATURES = {
 }
 
 # As include/chaldoref.h has them.
-_TRACK_NUMBERS, _PAIR_NUMBERS, _RECORD_NUMBERS = 7, 2, 3
+_TRACK_NUMBERS, _PAIR_NUMBERS, _RECORD_NUMBERS = 8, 2, 3
 _MAX_TRACKS, _MAX_PAIRS, _MAX_RECORDS = 16, 1_048_576, 64
 _SLIP_HEAD_BYTES, _SLIP_PAIR_BYTES = 24, 10
 
@@ -153,6 +153,8 @@ class Track:
     chunks: int
     #: The number of its edits; 0 without an edit list.
     edits: int
+    #: The duration that the file stores for its media. Where it is not the total, no slip is written of the film.
+    stored: int
 
 
 @dataclass(frozen=True)
@@ -252,7 +254,7 @@ class Movie:
     """
 
     def __init__(self, file: Bytes) -> None:
-        """Judges a whole movie file and reads its track list. Refusals 1 to 13."""
+        """Judges a whole movie file and reads its track list. Refusals 1 to 13 but 11."""
         self._file = _lent(file)
         room = _room(ctypes.c_uint32, _TRACK_NUMBERS * _MAX_TRACKS)
         count, = self._ask("track_list", 1, room=room)
@@ -297,7 +299,8 @@ class Movie:
         return Stretch(_pairs(room, count), total)
 
     def write_slip(self, track: int, a: int, b: int) -> bytes:
-        """The slip of a track's stretch from media time a to b. Refusals 14, 15."""
+        """The slip of a track's stretch from media time a to b. Refusals 14, 15; and 11 where a track of the movie stores
+        another duration than the total of its samples' durations."""
         out = _room(ctypes.c_uint8, _SLIP_HEAD_BYTES + _SLIP_PAIR_BYTES * self._chunks(track))
         length, = self._ask("write_slip", 1, track, a, b, room=out)
         return bytes(memoryview(out)[:length])

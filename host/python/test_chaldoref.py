@@ -80,7 +80,7 @@ class FilmW(Case):
         self.movie = Movie(W)
 
     def test_tracks(self):
-        self.assertEqual(self.movie.tracks(), (Track(1, "vide", 600, 120, 4, 2, 0),))
+        self.assertEqual(self.movie.tracks(), (Track(1, "vide", 600, 120, 4, 2, 0, 120),))
         self.assertIs(self.movie.file, W)
 
     def test_samples_at_times(self):
@@ -112,6 +112,15 @@ class FilmW(Case):
         self.assertEqual(self.movie.write_slip(1, 24, 73), SLIP)
         self.assertRefused(15, self.movie.write_slip, 1, 24, 24)
         self.assertRefused(14, self.movie.write_slip, 2, 24, 73)
+
+    def test_stored_duration(self):
+        at = W.index(b"mdhd") + 20
+        film = W[:at] + numbers(121) + W[at + 4:]
+        movie = Movie(film)
+        self.assertEqual((movie.tracks()[0].total, movie.tracks()[0].stored), (120, 121))
+        self.assertEqual(movie.stretch(1, 24, 73), self.movie.stretch(1, 24, 73))
+        self.assertRefused(11, movie.write_slip, 1, 24, 73)
+        self.assertRefused(11, movie.write_slip, 2, 24, 73)
 
     def test_features(self):
         self.assertEqual(self.movie.feature(1, "avvb"), 8800)

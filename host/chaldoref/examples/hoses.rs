@@ -37,9 +37,10 @@ fn print_answers(movie: &Movie) {
 }
 
 fn print_tracks(movie: &Movie) {
-    println!("id subtype scale total samples chunks edits");
+    println!("id subtype scale total samples chunks edits stored");
     for t in movie.tracks() {
-        println!("{} {:08x} {} {} {} {} {}", t.id, t.subtype.0, t.scale, t.total, t.samples, t.chunks, t.edits);
+        print!("{} {:08x} {} {} {} {}", t.id, t.subtype.0, t.scale, t.total, t.samples, t.chunks);
+        println!(" {} {}", t.edits, t.stored);
     }
 }
 

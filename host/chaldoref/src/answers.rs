@@ -22,6 +22,9 @@ pub struct Track {
     pub chunks: u32,
     /// The number of its edits; 0 without an edit list.
     pub edits: u32,
+    /// The duration that the file stores for its media. Older cameras store one that is not the total; then no slip is
+    /// written of the film.
+    pub stored: MediaTime,
 }
 
 impl Track {
@@ -29,6 +32,13 @@ impl Track {
     #[must_use]
     pub fn slip_room(&self) -> usize {
         24 + 10 * self.chunks as usize
+    }
+
+    /// Whether the stored duration is another than the total, for which the slip writer refuses the film
+    /// ([`Refusal::StoredDuration`](crate::Refusal::StoredDuration)).
+    #[must_use]
+    pub fn has_other_duration(&self) -> bool {
+        self.stored != self.total
     }
 }
 

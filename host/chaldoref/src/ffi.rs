@@ -23,8 +23,8 @@ unsafe impl Entry for ByteRange {}
 // SAFETY: the same.
 unsafe impl Entry for ProfileRecord {}
 
-// Seven numbers a track, two a pair, three a record, as include/chaldoref.h counts them.
-const _: () = assert!(size_of::<Track>() == 28 && size_of::<ByteRange>() == 8 && size_of::<ProfileRecord>() == 12);
+// Eight numbers a track, two a pair, three a record, as include/chaldoref.h counts them.
+const _: () = assert!(size_of::<Track>() == 32 && size_of::<ByteRange>() == 8 && size_of::<ProfileRecord>() == 12);
 
 /// Room for entries as the numbers that the library fills.
 fn numbers<T: Entry>(room: &mut [T]) -> &mut [u32] {

@@ -70,7 +70,7 @@ mod units;
 
 pub use answers::{Peak, ProfileRecord, Sample, Shown, Stretch, StretchSize, Track};
 pub use feature::{Feature, UnknownFeature};
-pub use movie::{Movie, MAX_FILE_BYTES};
+pub use movie::{strict_refusal, Movie, MAX_FILE_BYTES};
 pub use refusal::{Refusal, UnknownRefusal};
 pub use slip::{MalformedSlip, Slip};
 pub use units::{ByteRange, FourCC, MediaTime, MovieTime, ParseFourCCError, TrackId};

@@ -14,11 +14,30 @@ pub const MAX_FILE_BYTES: u64 = 2_147_483_647;
 const MAX_TRACKS: usize = 16;
 const MAX_RECORDS: usize = 64;
 
+/// The refusal of a whole movie file where strict reading is asked for, as the slip writer asks: the lowest of refusals
+/// 1 to 13 that applies, if one does.
+///
+/// ```
+/// # std::env::set_current_dir("../..")?;
+/// let file = std::fs::read("films/w.mov")?;
+/// assert_eq!(chaldoref::strict_refusal(&file), None);
+/// # Ok::<(), Box<dyn std::error::Error>>(())
+/// ```
+#[must_use]
+pub fn strict_refusal(file: &[u8]) -> Option<Refusal> {
+    // No track has ID 0, so that a slip of it is refused 14 where the file is not.
+    match ffi::write_slip(file, 0, 0, 0, &mut []) {
+        Err(Refusal::NoTrack) => None,
+        Err(refusal) => Some(refusal),
+        Ok(_) => broken(),
+    }
+}
+
 /// A movie file that the reader has accepted.
 ///
 /// It borrows the file's bytes and keeps the track list beside them. See the [crate](crate) for what a question costs.
-/// Each question gets the library's own answer, also for an ID that no track has ([`Refusal::NoTrack`]); no refusal 1
-/// to 13 comes after [`Movie::open`].
+/// Each question gets the library's own answer, also for an ID that no track has ([`Refusal::NoTrack`]). Of refusals 1
+/// to 13 only [`Refusal::StoredDuration`] comes after [`Movie::open`], and only of a slip that is written.
 #[derive(Clone)]
 pub struct Movie<'a> {
     file: &'a [u8],
@@ -31,7 +50,7 @@ impl<'a> Movie<'a> {
     ///
     /// # Errors
     ///
-    /// The lowest of refusals 1 to 13 that applies, if one does.
+    /// The lowest of refusals 1 to 13 that applies, if one does; 11, [`Refusal::StoredDuration`], is not among them.
     pub fn open(file: &'a [u8]) -> Result<Movie<'a>, Refusal> {
         let mut tracks = [Track::default(); MAX_TRACKS];
         let [count] = ffi::track_list(file, &mut tracks)?;
@@ -180,7 +199,8 @@ impl<'a> Movie<'a> {
     ///
     /// # Errors
     ///
-    /// [`Refusal::NoTrack`]; [`Refusal::Outside`] unless start < end ≤ the track's total; [`Refusal::NoRoom`] where
+    /// [`Refusal::StoredDuration`] where a track of the movie, this or another, stores another duration than the total
+    /// of its samples' ([`Track::has_other_duration`]); [`Refusal::NoTrack`]; [`Refusal::Outside`] unless start < end ≤ the track's total; [`Refusal::NoRoom`] where
     /// there is no memory for [`Track::slip_room`] bytes.
     pub fn write_slip(&self, id: TrackId, time: Range<MediaTime>) -> Result<Vec<u8>, Refusal> {
         // Without memory no bytes are lent, and the library says so.

@@ -36,7 +36,8 @@ pub enum Refusal {
     Tables = 9,
     /// 10: sample or edit durations total over 4,294,967,295.
     TotalDuration = 10,
-    /// 11: the stored duration of a track's media is not the total of its samples' durations.
+    /// 11: the stored duration of a track's media is not the total of its samples' durations. Only the slip writer
+    /// refuses a film for it.
     StoredDuration = 11,
     /// 12: a chunk passes the file's end.
     PastEnd = 12,

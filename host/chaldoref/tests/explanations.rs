@@ -1,17 +1,20 @@
 //! The reference explains each film that the library refuses, and with the same number.
-use chaldoref::{Movie, Refusal};
+use chaldoref::{strict_refusal, Movie, Refusal};
 use reference::maker::damage::damage_bytes;
 use reference::maker::{film, valid, Random};
-use reference::movie::{explain, refusal};
+use reference::movie::{self, explain, explain_strictly, refusal};
 
-/// The number of each refusal of a film, 0 for none: the library's, which the explanation and the reference share.
+/// The number with which a film is refused where strict reading is asked for, 0 for none: the library's, which the explanation and the reference
+/// share; and so by default.
 #[track_caller]
 fn number(film: &[u8]) -> usize {
-    let number = Movie::open(film).err().map_or(0, Refusal::number);
-    let explained = explain(film);
-    assert_eq!(explained.as_ref().map_or(0, |refused| refused.0), number, "{explained:?}");
-    assert_eq!(refusal(film), number);
-    number.try_into().unwrap()
+    let same = |said: Option<Refusal>, explained: Option<(u32, String)>, number: u32| {
+        assert_eq!(said.map_or(0, Refusal::number), number);
+        assert_eq!(explained.as_ref().map_or(0, |refused| refused.0), number, "{explained:?}");
+        number
+    };
+    same(Movie::open(film).err(), explain(film), refusal(film));
+    same(strict_refusal(film), explain_strictly(film), movie::strict_refusal(film)).try_into().unwrap()
 }
 
 #[test]

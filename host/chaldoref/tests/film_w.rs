@@ -1,7 +1,7 @@
 //! Every case of document 01, "Film W" and "Misreadings to shut out", that a caller can put.
 use chaldoref::{
-    ByteRange, Feature, FourCC, MediaTime, Movie, MovieTime, Refusal, Sample, Shown, Slip, Stretch, StretchSize, Track,
-    TrackId,
+    strict_refusal, ByteRange, Feature, FourCC, MediaTime, Movie, MovieTime, Refusal, Sample, Shown, Slip, Stretch,
+    StretchSize, Track, TrackId,
 };
 use reference::film::{self, w, w_movie, w_track, Sizes};
 use std::ops::Range;
@@ -38,6 +38,7 @@ fn tracks() {
     (track.id, track.subtype) = (ONE, FourCC::from_bytes(*b"vide"));
     (track.scale, track.total) = (600, MediaTime(120));
     (track.samples, track.chunks, track.edits) = (4, 2, 0);
+    track.stored = MediaTime(120);
     let movie = opened(&file);
     assert_eq!(movie.tracks(), [track]);
     assert_eq!(movie.track(ONE), Some(&track));
@@ -185,13 +186,36 @@ fn edits() {
 
 #[test]
 fn refusals_of_w() {
-    let track = film::Track { duration: 121, ..w_track() };
-    assert_eq!(Movie::open(&with_track(track)).err(), Some(Refusal::StoredDuration));
     for (offset, refusal) in [(4027, Some(Refusal::PastEnd)), (4026, None)] {
         let track = film::Track { stco: vec![1000, offset], ..w_track() };
         assert_eq!(Movie::open(&with_track(track)).err(), refusal);
     }
     assert_eq!(Movie::open(&[]).err(), Some(Refusal::AtomCount));
+}
+
+#[test]
+fn a_stored_duration_that_is_not_the_total() {
+    let file = with_track(film::Track { duration: 121, ..w_track() });
+    let movie = opened(&file);
+    let track = movie.tracks()[0];
+    assert_eq!((track.total, track.stored, track.has_other_duration()), (MediaTime(120), MediaTime(121), true));
+    assert!(!opened(&w().bytes()).tracks()[0].has_other_duration());
+    assert_eq!(movie.sample_at(ONE, MediaTime(120)), Err(Refusal::Outside));
+    let time = MediaTime(24)..MediaTime(73);
+    assert_eq!(movie.stretch(ONE, time.clone()), opened(&w().bytes()).stretch(ONE, time.clone()));
+    let mut out = [9; 13];
+    assert_eq!(movie.write_slip(ONE, time.clone()), Err(Refusal::StoredDuration));
+    assert_eq!(movie.write_slip_into(TrackId(2), time, &mut out), Err(Refusal::StoredDuration));
+    assert_eq!(out, [9; 13]);
+    assert_eq!(strict_refusal(&file), Some(Refusal::StoredDuration));
+    assert_eq!(strict_refusal(&w().bytes()), None);
+    let both = with_track(film::Track { duration: 121, stco: vec![1000, 4027], ..w_track() });
+    assert_eq!(
+        (Movie::open(&both).err(), strict_refusal(&both)),
+        (Some(Refusal::PastEnd), Some(Refusal::StoredDuration))
+    );
+    let past_end = with_track(film::Track { stco: vec![1000, 4027], ..w_track() });
+    assert_eq!(strict_refusal(&past_end), Some(Refusal::PastEnd));
 }
 
 #[test]

@@ -35,8 +35,9 @@ static void print_tracks(const struct film *film)
     chaldoref_track_list(film->bytes, film->len, room, sizeof room / sizeof *room, count, CHALDOREF_TRACK_LIST_PLACES);
     for (i = 0; i < count[0]; i++) {
         struct chaldoref_track t = chaldoref_track_of(room, i);
-        printf("track %" PRIu32 " %08" PRIx32 " %" PRIu32 " %" PRIu32 " %" PRIu32 " %" PRIu32 " %" PRIu32 "\n",
-               t.id, t.subtype, t.scale, t.total, t.samples, t.chunks, t.edits);
+        printf("track %" PRIu32 " %08" PRIx32 " %" PRIu32 " %" PRIu32 " %" PRIu32 " %" PRIu32 " %" PRIu32
+               " %" PRIu32 "\n",
+               t.id, t.subtype, t.scale, t.total, t.samples, t.chunks, t.edits, t.stored);
     }
 }
 

@@ -36,7 +36,7 @@ fn words() -> String {
 fn tracks(movie: &Movie) -> String {
     let line = |t: &chaldoref::Track| {
         let [id, subtype, scale, total] = [t.id.0, t.subtype.0, t.scale, t.total.0];
-        format!("track {id} {subtype:08x} {scale} {total} {} {} {}\n", t.samples, t.chunks, t.edits)
+        format!("track {id} {subtype:08x} {scale} {total} {} {} {} {}\n", t.samples, t.chunks, t.edits, t.stored)
     };
     movie.tracks().iter().map(line).collect()
 }

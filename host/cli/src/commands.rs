@@ -11,7 +11,7 @@ use crate::input;
 use crate::json::{document, Object};
 use crate::table::{number, Column};
 use crate::warnings;
-use chaldoref::{Movie, Refusal, TrackId};
+use chaldoref::{strict_refusal, Movie, Refusal, TrackId};
 use std::ffi::OsStr;
 use std::io::{self, Write};
 
@@ -72,6 +72,9 @@ pub fn run(request: &Request, name: &OsStr, out: &mut dyn Write) -> Result<(), F
 fn answer(request: &Request, name: &OsStr, out: &mut dyn Write) -> Result<(), Failure> {
     let file = input::read(name).map_err(Failure::Input)?;
     let movie = || Movie::open(&file).map_err(|refusal| Failure::of_film(&file, refusal));
+    // The slip writer reads strictly, so that its refusal of the film is the one to tell.
+    let strictly = |refusal| Failure::of_film(&file, strict_refusal(&file).unwrap_or(refusal));
+    let filed = || Movie::open(&file).map_err(strictly);
     let to = Answer { out, json: request.json, file: name, beside_others: request.files.len() > 1 };
     match &request.ask {
         Ask::Tracks => questions::tracks(&movie()?, to),
@@ -84,9 +87,9 @@ fn answer(request: &Request, name: &OsStr, out: &mut dyn Write) -> Result<(), Fa
         Ask::Profile { track } => questions::profile(&movie()?, *track, to),
         Ask::Stretch { track, time, bytes: false } => ranges::stretch(&movie()?, *track, time, to),
         Ask::Stretch { track, time, bytes: true } => ranges::stretch_bytes(&movie()?, *track, time, to),
-        Ask::Slip { track, time, out: None } => ranges::slip(&movie()?, *track, time, to),
+        Ask::Slip { track, time, out: None } => ranges::slip(&filed()?, *track, time, to),
         Ask::Slip { track, time, out: Some(slip_name) } => {
-            let slip = ranges::slip_of(&movie()?, *track, time)?;
+            let slip = ranges::slip_of(&filed()?, *track, time)?;
             ranges::write_out(&slip, slip_name, name, to)
         }
         Ask::ReadSlip { hex } => {
@@ -102,7 +105,7 @@ fn answer(request: &Request, name: &OsStr, out: &mut dyn Write) -> Result<(), Fa
 pub fn failed(failure: &Failure, file: Option<&OsStr>, out: &mut dyn Write) -> io::Result<()> {
     let explained = |o: &mut Object, refusal, why| refusal_fields(o, refusal)?.put("explanation", why).map(drop);
     match failure {
-        Failure::Film(refusal, why) => document(out, file, |o| explained(o, *refusal, why.clone())),
+        Failure::Film(refusal, why, _) => document(out, file, |o| explained(o, *refusal, why.clone())),
         Failure::Refused(refusal, _) => document(out, file, |o| explained(o, *refusal, None)),
         Failure::Malformed(fault) => document(out, file, |o| slips::fault_fields(o, fault)),
         Failure::Usage(wrong, _) => document(out, file, |o| o.put("error", wrong.clone()).map(drop)),

@@ -13,7 +13,10 @@ fn unless_it_stops<T>(function: impl FnOnce() -> T + UnwindSafe) -> Option<T> {
 }
 
 pub fn explanation(film: &[u8], refusal: Refusal) -> Option<String> {
-    let (number, words) = unless_it_stops(|| reference::movie::explain(film))??;
+    // Only the slip writer, which reads strictly, refuses 11.
+    let strictly = refusal == Refusal::StoredDuration;
+    let explain = if strictly { reference::movie::explain_strictly } else { reference::movie::explain };
+    let (number, words) = unless_it_stops(|| explain(film))??;
     (number == refusal.number()).then_some(words)
 }
 

@@ -2,7 +2,8 @@
 use crate::explain::explanation;
 use crate::fault::Fault;
 use crate::input;
-use chaldoref::Refusal;
+use crate::warnings::disagreements;
+use chaldoref::{Movie, Refusal};
 use std::ffi::OsString;
 use std::io;
 
@@ -16,8 +17,8 @@ pub enum Failure {
     Usage(String, String),
     /// The film or slip could not be read.
     Input(io::Error),
-    /// The film was refused, and why, if that is known.
-    Film(Refusal, Option<String>),
+    /// The film was refused, and why, if that is known; what more there is to say of it is a line of its own.
+    Film(Refusal, Option<String>, String),
     /// The question was refused; what more there is to say of it is a line of its own.
     Refused(Refusal, String),
     /// The slip is malformed.
@@ -49,7 +50,18 @@ impl From<io::Error> for Failure {
 impl Failure {
     /// Refuses the film of these bytes.
     pub fn of_film(film: &[u8], refusal: Refusal) -> Failure {
-        Failure::Film(refusal, explanation(film, refusal))
+        Failure::Film(refusal, explanation(film, refusal), of_ffmpeg(refusal))
+    }
+
+    /// A slip that is not written, for the film's sake where it stores another duration than its samples total.
+    pub fn of_slip(movie: &Movie, failure: Failure) -> Failure {
+        match failure {
+            Failure::Refused(refusal @ Refusal::StoredDuration, _) => {
+                let words = disagreements(movie).collect::<Vec<_>>().join("; ");
+                Failure::Film(refusal, explanation(movie.file(), refusal), hint(&words))
+            }
+            other => other,
+        }
     }
 
     /// Whoever reads standard output has seen enough, which is no failure.
@@ -73,7 +85,7 @@ impl Failure {
         match self {
             Failure::Usage(wrong, usage) => format!("chaldoref: {wrong}\n{usage}"),
             Failure::Input(error) => format!("chaldoref: {file}: {error}\n"),
-            Failure::Film(refusal, why) => refused(file, *refusal, &(not_proved(why) + &of_ffmpeg(*refusal))),
+            Failure::Film(refusal, why, more) => refused(file, *refusal, &(not_proved(why) + more)),
             Failure::Refused(refusal, more) => refused(file, *refusal, more),
             Failure::Malformed(fault) => refused(file, fault.refusal(), &fault.lines()),
             Failure::NotWritten(name, error) => format!("chaldoref: {}: {error}\n", input::named(name)),

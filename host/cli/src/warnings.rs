@@ -1,14 +1,23 @@
 //! What an answer does not say of a film. A warning changes neither the answer nor the exit status.
 use crate::atoms;
-use chaldoref::TrackId;
+use chaldoref::{Movie, Track, TrackId};
 use std::io::{self, Write};
 
 /// Of a film whose tracks are listed.
-pub fn of_tracks(file: &[u8]) -> Vec<String> {
-    if !atoms::has_fragments(file) {
-        return Vec::new();
+pub fn of_tracks(movie: &Movie) -> Vec<String> {
+    let mut warnings = Vec::new();
+    if atoms::has_fragments(movie.file()) {
+        warnings.push("the film is fragmented: samples in moof atoms are not read, and are not counted here".into());
     }
-    vec!["the film is fragmented: samples in moof atoms are not read, and are not counted here".into()]
+    warnings.extend(disagreements(movie).map(|words| format!("{words}: no slip can be written of this film")));
+    warnings
+}
+
+/// The tracks whose stored duration is not the total of their samples' durations, in words.
+pub fn disagreements<'m>(movie: &'m Movie) -> impl Iterator<Item = String> + 'm {
+    let words =
+        |t: &Track| format!("track {} stores the duration {}, and its samples total {}", t.id, t.stored, t.total);
+    movie.tracks().iter().filter(|track| track.has_other_duration()).map(words)
 }
 
 /// Of a stretch of a track.

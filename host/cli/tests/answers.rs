@@ -22,14 +22,14 @@ fn answers_on(film: &[u8], args: &[&str], out: &str) {
 fn tracks() {
     answers(
         "tracks films/w.mov",
-        "id  subtype  scale  total  hh:mm:ss.mmm  samples  chunks  edits\n \
-          1  vide       600    120  00:00:00.200        4       2      0\n",
+        "id  subtype  scale  total  hh:mm:ss.mmm  samples  chunks  edits  stored\n \
+          1  vide       600    120  00:00:00.200        4       2      0     120\n",
     );
     answers(
         "tracks films/w.mov --json",
         "{\"format\":1,\"file\":\"films/w.mov\",\"tracks\":[{\"id\":1,\"subtype\":\"vide\",\"scale\":600,\"total\":120,\
          \"total_seconds\":0.2,\"samples\":4,\"chunks\":2,\
-         \"edits\":0}],\"warnings\":[]}\n",
+         \"edits\":0,\"stored\":120,\"stored_seconds\":0.2}],\"warnings\":[]}\n",
     );
 }
 
@@ -40,10 +40,10 @@ fn tracks_with_odd_subtypes() {
     answers_on(
         &film,
         &["tracks", "-"],
-        "        id  subtype     scale  total  hh:mm:ss.mmm  samples  chunks  edits\n         \
-                  1  a\"\\b          600    120  00:00:00.200        4       2      0\n\
-         4000000000  0x00016162    600    120  00:00:00.200        4       2      0\n         \
-                  7  soun        44100      9  00:00:00.000        9       3      1\n",
+        "        id  subtype     scale  total  hh:mm:ss.mmm  samples  chunks  edits  stored\n         \
+                  1  a\"\\b          600    120  00:00:00.200        4       2      0     120\n\
+         4000000000  0x00016162    600    120  00:00:00.200        4       2      0     120\n         \
+                  7  soun        44100      9  00:00:00.000        9       3      1       9\n",
     );
     let json = run_on(&film, &["tracks", "-", "--json"]).out;
     assert!(json.contains("\"id\":1,\"subtype\":\"a\\\"\\\\b\","), "{json}");
@@ -52,7 +52,8 @@ fn tracks_with_odd_subtypes() {
 
 #[test]
 fn no_tracks() {
-    answers_on(&film_of(vec![]), &["tracks", "-"], "id  subtype  scale  total  hh:mm:ss.mmm  samples  chunks  edits\n");
+    let heading = "id  subtype  scale  total  hh:mm:ss.mmm  samples  chunks  edits  stored\n";
+    answers_on(&film_of(vec![]), &["tracks", "-"], heading);
     answers_on(
         &film_of(vec![]),
         &["tracks", "-", "--json"],

@@ -305,16 +305,24 @@ fn unreadable_files() {
 
 #[test]
 fn a_film_that_is_refused() {
-    let desk = Desk::of_tracks("refused", vec![w_with(|track| track.duration = 121)]);
-    let reason = "the mdhd duration is not the total of the sample durations";
-    let why = "track 1 (ID 1), mdhd at byte 224: has duration 121, the samples of stts total 120";
-    let err = format!("chaldoref: film.mov: refused 11: {reason}\nchaldoref: not proved: {why}\n");
+    let desk = Desk::of_tracks("refused", vec![w_with(|track| track.stts = vec![(5, 24)])]);
+    let reason = "sample tables contradict each other";
+    let why = "track 1 (ID 1), stts at byte 356: counts 5 samples, stsz 4";
+    let err = format!("chaldoref: film.mov: refused 9: {reason}\nchaldoref: not proved: {why}\n");
     desk.typed("w", OF_W);
     assert_eq!(desk.check("w"), Ran { out: String::new(), err: err.clone(), status: 1 });
     let out = format!(
-        "{{\"format\":1,\"file\":\"film.mov\",\"refused\":11,\"reason\":\"{reason}\",\"explanation\":\"{why}\"}}\n"
+        "{{\"format\":1,\"file\":\"film.mov\",\"refused\":9,\"reason\":\"{reason}\",\"explanation\":\"{why}\"}}\n"
     );
     assert_eq!(desk.check("--json w"), Ran { out, err, status: 1 });
+}
+
+#[test]
+fn a_stored_duration_that_is_not_the_total() {
+    // What was filed of the film, by whatever wrote it, is compared and added up by its samples.
+    let desk = Desk::of_tracks("stored", vec![w_with(|track| track.duration = 121)]);
+    desk.typed("w", OF_W).says("w", 1, "good");
+    assert!(desk.check("w").out.contains("gap from media time 73 to 120"));
 }
 
 #[test]

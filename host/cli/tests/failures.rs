@@ -66,6 +66,37 @@ fn films_refused() {
 }
 
 #[test]
+fn only_a_slip_is_refused_for_a_stored_duration() {
+    let film = |change: fn(&mut Track)| {
+        let mut track = w_track();
+        change(&mut track);
+        Movie { tracks: vec![track], ..w_movie() }.file_of(4096).bytes()
+    };
+    let other = film(|track| track.duration = 121);
+    for line in ["sample - 1 3", "at - 1 24", "map - 1 60", "stretch - 1 24 73", "features - 1", "profile -"] {
+        let expected = run(&words(&line.replace(" - ", " films/w.mov ").replace(" -", " films/w.mov")));
+        assert_eq!(run_on(&other, &words(line)), expected, "{line}");
+    }
+    let reason = "the mdhd duration is not the total of the sample durations";
+    let why = "track 1 (ID 1), mdhd at byte 224: has duration 121, the samples of stts total 120";
+    let said = format!("chaldoref: standard input: refused 11: {reason}\nchaldoref: not proved: {why}\n");
+    let hint = "chaldoref: hint: track 1 stores the duration 121, and its samples total 120\n";
+    // It comes before what is wrong with the question.
+    for line in ["slip - 1 24 73", "slip - 1", "slip - 2 24 73", "slip - 1 73 24", "slip - 1 0 121"] {
+        let expected = Ran { out: String::new(), err: format!("{said}{hint}"), status: 1 };
+        assert_eq!(run_on(&other, &words(line)), expected, "{line}");
+    }
+    let document =
+        format!("{{\"format\":1,\"file\":\"-\",\"refused\":11,\"reason\":\"{reason}\",\"explanation\":\"{why}\"}}\n");
+    assert_eq!(run_on(&other, &words("slip - 1 24 73 --json")).out, document);
+    // Of two faults the slip writer tells the one that it judges first, and the other questions the one that they judge.
+    let both = film(|track| (track.duration, track.stco[1]) = (121, 4027));
+    assert_eq!(run_on(&both, &words("slip - 1 24 73")), Ran { out: String::new(), err: said, status: 1 });
+    let listed = run_on(&both, &words("tracks -"));
+    assert!(listed.err.starts_with("chaldoref: standard input: refused 12: "), "{}", listed.err);
+}
+
+#[test]
 fn a_refused_film_is_explained() {
     let second = Track { id: 2, stts: vec![(5, 24)], ..w_track() };
     let film = Movie { tracks: vec![w_track(), second], ..w_movie() }.file_of(4096).bytes();

@@ -21,13 +21,13 @@ fn warns(ran: Ran, out: &str, words: &str) {
 
 #[test]
 fn fragmented_films() {
-    let listed = "id  subtype  scale  total  hh:mm:ss.mmm  samples  chunks  edits\n \
-                   1  vide       600      0  00:00:00.000        0       0      0\n";
+    let listed = "id  subtype  scale  total  hh:mm:ss.mmm  samples  chunks  edits  stored\n \
+                   1  vide       600      0  00:00:00.000        0       0      0       0\n";
     let document = |warnings: &str| {
         format!(
             "{{\"format\":1,\"file\":\"-\",\"tracks\":[{{\"id\":1,\"subtype\":\"vide\",\"scale\":600,\"total\":0,\
              \"total_seconds\":0,\"samples\":0,\"chunks\":0,\
-             \"edits\":0}}],\"warnings\":[{warnings}]}}\n"
+             \"edits\":0,\"stored\":0,\"stored_seconds\":0}}],\"warnings\":[{warnings}]}}\n"
         )
     };
     let changes: [&dyn Fn(&mut Node); 4] = [
@@ -52,6 +52,29 @@ fn fragmented_films() {
     assert_eq!((beside.err, beside.status), (format!("chaldoref: warning: standard input: {FRAGMENTED}\n"), 0));
     let whole = run_on(&film_of(vec![empty_track(1)]).bytes(), &["tracks", "-"]);
     assert_eq!(whole, Ran { out: listed.into(), err: String::new(), status: 0 });
+}
+
+#[test]
+fn stored_durations_that_are_not_the_total() {
+    let film = film_of(vec![w_with(|track| track.duration = 121)]).bytes();
+    let words = "track 1 stores the duration 121, and its samples total 120: no slip can be written of this film";
+    let listed = "id  subtype  scale  total  hh:mm:ss.mmm  samples  chunks  edits  stored\n \
+                   1  vide       600    120  00:00:00.200        4       2      0     121\n";
+    warns(run_on(&film, &["tracks", "-"]), listed, words);
+    let json = run_on(&film, &["tracks", "-", "--json"]);
+    assert_eq!(json.err, format!("chaldoref: warning: {words}\n"));
+    let end = format!("\"stored\":121,\"stored_seconds\":0.20166666666666666}}],\"warnings\":[\"{words}\"]}}\n");
+    assert!(json.out.contains("\"total\":120,") && json.out.ends_with(&end), "{}", json.out);
+    // Each track that disagrees is told, and no other.
+    let tracks = [119, 120, 4_294_967_295].iter().zip(1..);
+    let three = tracks.map(|(stored, id)| w_with(|track| (track.id, track.duration) = (id, *stored))).collect();
+    let ran = run_on(&film_of(three).bytes(), &["tracks", "-"]);
+    let said: Vec<&str> = ran.err.lines().map(|line| line.split(':').nth(2).unwrap()).collect();
+    let expected = [
+        " track 1 stores the duration 119, and its samples total 120",
+        " track 3 stores the duration 4294967295, and its samples total 120",
+    ];
+    assert_eq!((said, ran.status), (expected.to_vec(), 0));
 }
 
 #[test]

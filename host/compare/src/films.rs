@@ -3,10 +3,8 @@ use crate::case::{compare, Difference, Lengths};
 use crate::choose::{peaks, questions};
 use crate::counts::Counts;
 use crate::faults;
-use crate::question::{slip_answer, Answered, Question};
+use crate::question::{slip_answer, Answered, Film, Question};
 use reference::maker::Random;
-use reference::movie::refusals::read;
-use reference::movie::tables::Movie;
 
 /// The comparison so far.
 #[derive(Default)]
@@ -73,12 +71,15 @@ impl Comparison {
         &mut self,
         random: &mut Random,
         bytes: &Bytes,
-        film: &Result<Movie, u32>,
+        film: &Film,
         question: Question,
     ) -> Result<(), Box<Difference>> {
         let answer = question.answer(film);
         let lengths = Lengths::any(random, question, &answer);
         let (number, places, written) = self.case(bytes, question, &answer, lengths)?;
+        if film.strict != film.number() {
+            self.counts.strict(question.kind(), number);
+        }
         if number != 0 {
             return Ok(());
         }
@@ -96,17 +97,12 @@ impl Comparison {
     }
 
     /// The numbers read from a slip are those of the stretch of which it was written.
-    fn same_numbers(
-        &self,
-        film: &Result<Movie, u32>,
-        (id, a, b): (u32, u32, u32),
-        slip: Answered,
-    ) -> Result<(), &'static str> {
+    fn same_numbers(&self, film: &Film, (id, a, b): (u32, u32, u32), slip: Answered) -> Result<(), &'static str> {
         let Ok(slip) = slip else {
             return Err("the slip written is refused");
         };
         let stretch = Question::Stretch { id, a, b }.answer(film).unwrap();
-        let scale = film.as_ref().unwrap().track(id).unwrap().tables.scale;
+        let scale = film.movie.as_ref().unwrap().track(id).unwrap().tables.scale;
         let head = vec![u64::from(id), scale, u64::from(a), u64::from(b), stretch.places[0], 0];
         if slip.places == head && slip.numbers == stretch.numbers {
             Ok(())
@@ -117,16 +113,16 @@ impl Comparison {
 
     /// Puts so many rounds of every question about a film, and once the questions about the highest rates of each track.
     pub fn film(&mut self, random: &mut Random, bytes: &Bytes, rounds: usize) -> Result<(), Box<Difference>> {
-        let film = read(bytes.lent());
-        self.counts.film(film.as_ref().err().copied().unwrap_or(0));
+        let film = Film::of(bytes.lent());
+        self.counts.film(film.number(), film.strict);
         // Another round for a refused film would ask the same.
-        let rounds = if film.is_ok() { rounds } else { 1 };
+        let rounds = if film.movie.is_ok() { rounds } else { 1 };
         for _ in 0..rounds {
-            for question in questions(random, &film) {
+            for question in questions(random, &film.movie) {
                 self.question(random, bytes, &film, question)?;
             }
         }
-        for question in peaks(&film) {
+        for question in peaks(&film.movie) {
             self.question(random, bytes, &film, question)?;
         }
         Ok(())

@@ -27,7 +27,7 @@ fn main() -> ExitCode {
     let mut run = run::Run::new(options.seed);
     let compared = run.all(&options);
     let counts = run.counts();
-    println!("{}{}", counts.table(), counts.slip_lines());
+    println!("{}{}\n{}", counts.table(), counts.strict_line(), counts.slip_lines());
     if let Err(words) = compared {
         println!("{words}");
         return ExitCode::FAILURE;

@@ -1,4 +1,6 @@
 //! The questions, and what the reference answers.
+use reference::movie::refusals::read;
+use reference::movie::strict_refusal;
 use reference::movie::tables::{Movie, Sample};
 use reference::slip::read_slip;
 
@@ -35,6 +37,25 @@ pub const KINDS: [&str; 11] = [
 
 /// How many places each question fills, in the same order.
 const PLACES: [usize; 11] = [1, 8, 2, 1, 2, 2, 1, 1, 2, 6, 1];
+
+/// A film as the reference reads it.
+pub struct Film {
+    /// By default: the movie, or the number with which the file is refused.
+    pub movie: Result<Movie, u32>,
+    /// The number with which it is refused where strict reading is asked for, 0 for none.
+    pub strict: u32,
+}
+
+impl Film {
+    pub fn of(file: &[u8]) -> Film {
+        Film { movie: read(file), strict: strict_refusal(file) }
+    }
+
+    /// The number with which it is refused by default, 0 for none.
+    pub fn number(&self) -> u32 {
+        self.movie.as_ref().err().copied().unwrap_or(0)
+    }
+}
 
 /// An answer: its own numbers, and what goes to the lent numbers or bytes.
 #[derive(Clone, Debug, Default, PartialEq)]
@@ -85,9 +106,12 @@ impl Question {
         PLACES[self.kind()]
     }
 
-    /// The reference's answer about a film.
-    pub fn answer(&self, film: &Result<Movie, u32>) -> Answered {
-        let movie = film.as_ref().map_err(|number| *number)?;
+    /// The reference's answer about a film. The slip writer alone reads it strictly.
+    pub fn answer(&self, film: &Film) -> Answered {
+        if matches!(self, Question::WriteSlip { .. }) && film.strict != 0 {
+            return Err(film.strict.into());
+        }
+        let movie = film.movie.as_ref().map_err(|number| *number)?;
         Ok(match *self {
             Question::TrackList => listed(movie.track_list().into_iter()),
             Question::Sample { id, n } => only(&sample_places(&movie.sample(id, n)?)),

@@ -9,7 +9,7 @@ use chaldoref::{Movie, MovieTime, ProfileRecord, Shown, Track, TrackId};
 use std::io;
 
 pub fn tracks(movie: &Movie, to: Answer) -> Result<(), Failure> {
-    let warnings = warnings::of_tracks(movie.file());
+    let warnings = warnings::of_tracks(movie);
     to.tell(&warnings);
     if to.json {
         return to.document(|o| o.list("tracks", movie.tracks(), track_fields)?.texts("warnings", &warnings).map(drop));
@@ -23,12 +23,13 @@ pub fn tracks(movie: &Movie, to: Answer) -> Result<(), Failure> {
         number("samples"),
         number("chunks"),
         number("edits"),
+        number("stored"),
     ];
     let row = |t: &Track| {
-        let numbers = [t.scale, t.total.0, t.samples, t.chunks, t.edits].map(|n| n.to_string());
-        let [scale, total, samples, chunks, edits] = numbers;
+        let numbers = [t.scale, t.total.0, t.samples, t.chunks, t.edits, t.stored.0].map(|n| n.to_string());
+        let [scale, total, samples, chunks, edits, stored] = numbers;
         let subtype = t.subtype.to_string();
-        [t.id.to_string(), subtype, scale, total, clock(t.total, t.scale), samples, chunks, edits]
+        [t.id.to_string(), subtype, scale, total, clock(t.total, t.scale), samples, chunks, edits, stored]
     };
     Ok(table::write(to.out, columns, movie.tracks(), row)?)
 }
@@ -36,7 +37,7 @@ pub fn tracks(movie: &Movie, to: Answer) -> Result<(), Failure> {
 fn track_fields(o: &mut Object, t: &Track) -> io::Result<()> {
     o.put("id", t.id.0)?.put("subtype", t.subtype.to_string())?.put("scale", t.scale)?;
     o.time("total", t.total.0, t.scale)?.put("samples", t.samples)?.put("chunks", t.chunks)?.put("edits", t.edits)?;
-    Ok(())
+    o.time("stored", t.stored.0, t.scale).map(drop)
 }
 
 pub fn sample(movie: &Movie, track: TrackId, n: u32, to: Answer) -> Result<(), Failure> {

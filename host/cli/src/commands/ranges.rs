@@ -54,7 +54,7 @@ pub fn slip(movie: &Movie, track: TrackId, span: &Span, to: Answer) -> Result<()
 }
 
 fn slip_document(movie: &Movie, track: TrackId, span: &Span, to: Answer) -> Result<(), Failure> {
-    let (time, slip) = span.ask(movie, track, |time| movie.write_slip(track, time))?;
+    let (time, slip) = written(movie, track, span)?;
     let warnings = warnings::of_stretch(movie.file(), track);
     warnings::tell(&warnings);
     let scale = scale(movie, track)?;
@@ -64,9 +64,14 @@ fn slip_document(movie: &Movie, track: TrackId, span: &Span, to: Answer) -> Resu
     })
 }
 
+/// The stretch that a slip is of, and the slip's bytes.
+fn written(movie: &Movie, track: TrackId, span: &Span) -> Result<(Range<MediaTime>, Vec<u8>), Failure> {
+    span.ask(movie, track, |time| movie.write_slip(track, time)).map_err(|failure| Failure::of_slip(movie, failure))
+}
+
 /// The bytes of the slip, and on standard error what people must know of it.
 pub fn slip_of(movie: &Movie, track: TrackId, span: &Span) -> Result<Vec<u8>, Failure> {
-    let (time, slip) = span.ask(movie, track, |time| movie.write_slip(track, time))?;
+    let (time, slip) = written(movie, track, span)?;
     tell_units(movie, track, span, &time)?;
     warnings::tell(&warnings::of_stretch(movie.file(), track));
     Ok(slip)
