@@ -5,6 +5,7 @@ use hand::or_short;
 use stretch::slips::SlipAnswer;
 use stretch::slips::write_slip;
 use stretch::span_refusal;
+use structure::source::Source;
 ghost use Rattle.stretch.specs.Slips.{slipOfStretch};
 ghost use Rattle.hand.specs.Places.{Fills};
 ghost use Rattle.hand.specs.Times.{media};
@@ -22,7 +23,8 @@ pub fn hand_written_slip(
     ensures { λ r. ⌜ Fills (ofSlipWriting (now (file .entry)) id a b (now (out .entry))) (now (places .entry)) (slipOfStretch (now (file .entry)) id (media a) (media b)) (now (out .entry)) r (now (places .exit)) (now (out .exit)) ⌝ }
 {
     if places.len() < 1 {
-        return or_short(span_refusal(file, id, MediaTime(a), MediaTime(b)));
+        let source = Source::whole().strictly();
+        return or_short(span_refusal(file, source, id, MediaTime(a), MediaTime(b)));
     }
     match write_slip(file, id, MediaTime(a), MediaTime(b), out) {
         SlipAnswer::Written(n) => hand(0, &[n as u64], places),
