@@ -177,7 +177,8 @@ pub struct Slide {
     pub bytes: u64,
 }
 
-// Over listed sizes, those at the window's tail and those at its head: while its bytes are no more than `most`.
+// Over listed sizes, those at the window's tail and those at its head: while its bytes are no more than `most`. What entered and what left are two sums,
+// so that the compiler reads both sizes as whole words.
 fn slide_listed(tails: &[u8], heads: &[u8], bytes: u64, most: u64) -> Slide
     requires { ⌜ Stays (wordsIn (now tails)) (wordsIn (now heads)) bytes most × (length (now heads) ≤ length (now tails)) ⌝ }
     ensures { λ r. ⌜ SlidOver (wordsIn (now (tails .entry))) (wordsIn (now (heads .entry))) bytes most r ⌝ }
@@ -185,20 +186,22 @@ fn slide_listed(tails: &[u8], heads: &[u8], bytes: u64, most: u64) -> Slide
     let mut t = tails;
     let mut h = heads;
     let mut moved: u32 = 0;
-    let mut total = bytes;
+    let mut entered = bytes;
+    let mut left: u64 = 0;
     while 4 <= h.len() {
-        let next = total + u32_at(h, 0) as u64 - u32_at(t, 0) as u64;
+        let more = entered + u32_at(h, 0) as u64;
+        let gone = left + u32_at(t, 0) as u64;
+        let next = more - gone;
         if most < next {
-            return Slide {
-                moved,
-                bytes: total,
-            };
+            break;
         }
-        total = next;
+        entered = more;
+        left = gone;
         moved += 1;
         t = &t[4..];
         h = &h[4..];
     }
+    let total = entered - left;
     Slide {
         moved,
         bytes: total,
