@@ -4,5 +4,6 @@ pub mod Sliding
 pub mod Overs
 pub mod Passing
 pub mod Skipping
+pub mod EntrySlides
 pub mod Placing
 mod Examples

@@ -1,3 +1,4 @@
 pub mod Peaks
 pub mod Windows
 pub mod Slides
+pub mod EntrySlides

@@ -2,6 +2,7 @@
 // as they stand in the file and never expanded.
 use bigendian::after;
 use bigendian::u32_at;
+use bigendian::whole32;
 use rates::Feature;
 use rates::rate;
 use runs::cursor::RunCursor;
@@ -12,12 +13,15 @@ use words::size_of;
 ghost use mathlib.Core.Path.{_≡_};
 ghost use mathlib.Core.Bool.{true};
 ghost use Prim.Native.Nat.{_+_, _-_, _*_, _≤_, _<_};
+ghost use Rattle.bigendian.specs.BigEndian.{u32At};
 ghost use Rattle.runs.specs.Runs.{perSample};
 ghost use lib.ListN.{length};
 ghost use Rattle.words.specs.Words.{wordsIn, sizes};
 ghost use Rattle.peaks.specs.Peaks.{peakIn, Timed};
 ghost use Rattle.peaks.specs.Windows.{startWindow, grownBy, Slides, Reaches, ratedRun, IsRated, Raises, toPeak};
+ghost use Rattle.peaks.specs.declared.Best.the-variants.{Run};
 ghost use Rattle.peaks.specs.Slides.{Stays, SlidOver, MaySlide, Slid, Levels, slidBy, Absorbs, Skips};
+ghost use Rattle.peaks.specs.EntrySlides.{windowAt, HasEntries, MayStand};
 
 // The samples from index `first` up to, not including, `stop`: how long they last, their bytes, and a cursor of stts at each end.
 pub struct Window {
@@ -189,8 +193,8 @@ fn slide_listed(tails: &[u8], heads: &[u8], bytes: u64, most: u64) -> Slide
     let mut entered = bytes;
     let mut left: u64 = 0;
     while 4 <= h.len() {
-        let more = entered + u32_at(h, 0) as u64;
-        let gone = left + u32_at(t, 0) as u64;
+        let more = entered + whole32(h, 0) as u64;
+        let gone = left + whole32(t, 0) as u64;
         let next = more - gone;
         if most < next {
             break;
@@ -273,7 +277,142 @@ fn moved_by(stts: &[u8], w: Window, s: Slide) -> Window
     }
 }
 
-// The window slid on, in long runs of one duration, while it is no higher than the best run.
+// A window that slides entry by entry: how many samples it has moved, the durations of the sample at its tail and of the one at its head, how long it lasts,
+// and its bytes as what entered without what left.
+pub struct EntrySlide {
+    pub moved: u32,
+    pub out: u32,
+    pub into: u32,
+    pub span: u64,
+    pub entered: u64,
+    pub left: u64,
+}
+
+// Whether both ends of a window stand in entries of one sample, and sizes are listed.
+fn has_entries(stts: &[u8], stsz: &[u8], w: Window) -> bool
+    ensures { λ r. ⌜ (r ≡ true → HasEntries (now (stts .entry)) (now (stsz .entry)) w) ⌝ }
+{
+    let tail = w.tail;
+    let head = w.head;
+    if tail.count != 1 {
+        return false;
+    }
+    if head.count != 1 {
+        return false;
+    }
+    if head.at < tail.at {
+        return false;
+    }
+    if stts.len() < head.at {
+        return false;
+    }
+    u32_at(stsz, 12) == 0
+}
+
+// Whether a window that lasts `rest` without its last sample is the run of its first one, and no higher than the best run.
+fn is_no_higher_run(rest: u64, span: u64, bytes: u64, scale: u32, best: RatedRun) -> bool
+    requires { ⌜ (span < 4294967296) × (best .span < 4294967296) ⌝ }
+    ensures { λ r. ⌜ (r ≡ true → (rest < scale) × (scale ≤ span) × (bytes * best .span ≤ best .bytes * span)) ⌝ }
+{
+    if scale as u64 <= rest {
+        return false;
+    }
+    if span < scale as u64 {
+        return false;
+    }
+    is_no_higher(bytes, span, best)
+}
+
+// Whether two entries have one sample each.
+fn are_single(a: &[u8], b: &[u8]) -> bool
+    requires { ⌜ (8 ≤ length (now a)) × (8 ≤ length (now b)) ⌝ }
+    ensures { λ r. ⌜ (r ≡ true → (u32At (now (a .entry)) 0 ≡ 1) × (u32At (now (b .entry)) 0 ≡ 1)) ⌝ }
+{
+    if whole32(a, 0) != 1 {
+        return false;
+    }
+    whole32(b, 0) == 1
+}
+
+// The window where a slide by entries has taken it.
+fn window_at(w: Window, x: EntrySlide) -> Window
+    requires { ⌜ MayStand w x ⌝ }
+    ensures { λ r. ⌜ r ≡ windowAt w x ⌝ }
+{
+    let tail = w.tail;
+    let head = w.head;
+    let moved = x.moved;
+    let far = (moved as usize) * 8;
+    Window {
+        tail: RunCursor {
+            at: tail.at + far,
+            count: 1,
+            each: x.out,
+        },
+        head: RunCursor {
+            at: head.at + far,
+            count: 1,
+            each: x.into,
+        },
+        first: w.first + moved,
+        stop: w.stop + moved,
+        span: x.span,
+        bytes: x.entered - x.left,
+    }
+}
+
+// The window slid on entry by entry, while it keeps its number of samples and is no higher than the best run.
+fn slide_entries(stts: &[u8], stsz: &[u8], w: Window, best: RatedRun, scale: u32) -> Window
+    requires { ⌜ Slides scale (now stts) (now stsz) w × Timed scale (perSample (now stts)) (sizes (now stsz)) × (scale ≤ w .span) × IsRated scale (Run best) × Absorbs scale (Run best) w × HasEntries (now stts) (now stsz) w ⌝ }
+    ensures { λ r. ⌜ Skips scale (now (stts .entry)) (now (stsz .entry)) (Run best) w r ⌝ }
+{
+    let tail = w.tail;
+    let head = w.head;
+    let part = after(stsz, 20);
+    let mut t = after(stts, tail.at);
+    let mut h = after(stts, head.at);
+    let mut o = after(part, (w.first as usize) * 4);
+    let mut i = after(part, (w.stop as usize) * 4);
+    let mut x = EntrySlide {
+        moved: 0,
+        out: tail.each,
+        into: head.each,
+        span: w.span,
+        entered: w.bytes,
+        left: 0,
+    };
+    while 8 <= h.len() {
+        if i.len() < 4 {
+            break;
+        }
+        let rest = x.span - x.out as u64;
+        let span = rest + x.into as u64;
+        let entered = x.entered + whole32(i, 0) as u64;
+        let left = x.left + whole32(o, 0) as u64;
+        let bytes = entered - left;
+        if !is_no_higher_run(rest, span, bytes, scale, best) {
+            break;
+        }
+        if !are_single(t, h) {
+            break;
+        }
+        x = EntrySlide {
+            moved: x.moved + 1,
+            out: whole32(t, 4),
+            into: whole32(h, 4),
+            span,
+            entered,
+            left,
+        };
+        t = &t[8..];
+        h = &h[8..];
+        o = &o[4..];
+        i = &i[4..];
+    }
+    window_at(w, x)
+}
+
+// The window slid on, by entries of one sample or in long runs of one duration, while it is no higher than the best run.
 fn slid(stts: &[u8], stsz: &[u8], w: Window, best: Best, scale: u32) -> Window
     requires { ⌜ Slides scale (now stts) (now stsz) w × Timed scale (perSample (now stts)) (sizes (now stsz)) × (scale ≤ w .span) × IsRated scale best × Absorbs scale best w ⌝ }
     ensures { λ r. ⌜ Skips scale (now (stts .entry)) (now (stsz .entry)) best w r ⌝ }
@@ -281,6 +420,9 @@ fn slid(stts: &[u8], stsz: &[u8], w: Window, best: Best, scale: u32) -> Window
     let Best::Run(b) = best else {
         return w;
     };
+    if has_entries(stts, stsz, w) {
+        return slide_entries(stts, stsz, w, b, scale);
+    }
     let steps = level_steps(w, scale);
     if steps < 8 {
         return w;

@@ -3,10 +3,9 @@
 use borrow.Author.Needs.{needs}
 use borrow.Author.Tests.{leb-true}
 use Prim.Native.Nat.{ℕ, _*_, _≤_, _<_}
-use mathlib.Core.Path.{_≡_}
-use mathlib.Core.Bool.{Bool, true, false}
 use native.Mathlib.Omega.{arith}
 use native.Mathlib.Nat.{mul-le-mul}
+use Rattle.peaks.proofs.Bests.{untrue}
 use Rattle.peaks.proofs.is_no_higher.Statement.{statement}
 use Rattle.peaks.proofs.is_no_higher.Tie as tie
 
@@ -15,9 +14,6 @@ small a b h k =
     let l : b ≤ 4294967295 = omega arith in
     let m : a * b ≤ 4294967295 * 4294967295 = mul-le-mul h l in
     omega arith
-
-untrue : {A : Type 0} → false ≡ true → A
-untrue e = let z : _≡_ {A = ℕ} 0 1 = cc in absurd (omega arith)
 
 returns : tie.Need-returns
 returns c = untrue

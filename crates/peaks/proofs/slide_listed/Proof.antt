@@ -19,8 +19,8 @@ abbrev μ-loop : tie.MeasureT-loop
 loop-holds : tie.Need-loop-holds Inv-loop μ-loop
 loop-holds c = let s = c .before .before in over-start _ _ _ _ (s .pre .0) (s .pre .1)
 
-u32-at-requires : tie.Need-u32-at-requires Inv-loop μ-loop
-u32-at-requires c κs = search needs
+whole32-requires : tie.Need-whole32-requires Inv-loop μ-loop
+whole32-requires c κs = search needs
 
 cast-more : tie.Need-cast-more Inv-loop μ-loop
 cast-more c = search needs
@@ -31,10 +31,10 @@ add-more c =
     let l = t .before in
     let s = l .before .before .before .pre .0 in
     let m = moves _ _ _ _ s _ _ _ _ _ (l .loop .inv) (t .loop-test .taken) in
-    record { fits = omega (arith, l .loop .inv .few, s .fits, c .u32-at .ok) }
+    record { fits = omega (arith, l .loop .inv .few, s .fits, c .whole32 .ok) }
 
-u32-at-requires-2 : tie.Need-u32-at-requires-2 Inv-loop μ-loop
-u32-at-requires-2 c κs = search needs
+whole32-requires-2 : tie.Need-whole32-requires-2 Inv-loop μ-loop
+whole32-requires-2 c κs = search needs
 
 cast-gone : tie.Need-cast-gone Inv-loop μ-loop
 cast-gone c = search needs
@@ -46,14 +46,14 @@ add-gone c =
     let s = l .before .before .before .pre .0 in
     let i = l .loop .inv in
     let m = moves _ _ _ _ s _ _ _ _ _ i (t .loop-test .taken) in
-    let k = leaves _ _ _ _ s _ _ _ _ _ i (t .loop-test .taken) (c .u32-at2 .ensures) in
+    let k = leaves _ _ _ _ s _ _ _ _ _ i (t .loop-test .taken) (c .whole322 .ensures) in
     record { fits = omega (arith, i .few, s .fits) }
 
 sub-next : tie.Need-sub-next Inv-loop μ-loop
 sub-next c =
     let t = c .before .before in
     let l = t .before in
-    let k = leaves _ _ _ _ (l .before .before .before .pre .0) _ _ _ _ _ (l .loop .inv) (t .loop-test .taken) (c .u32-at2 .ensures) in
+    let k = leaves _ _ _ _ (l .before .before .before .pre .0) _ _ _ _ _ (l .loop .inv) (t .loop-test .taken) (c .whole322 .ensures) in
     omega arith
 
 add-moved : tie.Need-add-moved Inv-loop μ-loop
@@ -95,7 +95,7 @@ loop-again c =
     let t = x .before in
     let l = t .before in
     rw (part-rest 4 (now (l .loop .h)), part-rest 4 (now (l .loop .t)))
-    (over-next _ _ _ _ (l .before .before .before .pre .0) _ _ _ _ _ (l .loop .inv) (t .loop-test .taken) (x .u32-at .ensures) (y .u32-at2 .ensures) (omega (arith, x .u32-at .ok)) (e .if1 .left))
+    (over-next _ _ _ _ (l .before .before .before .pre .0) _ _ _ _ _ (l .loop .inv) (t .loop-test .taken) (x .whole32 .ensures) (y .whole322 .ensures) (omega (arith, x .whole32 .ok)) (e .if1 .left))
 
 sub-total : tie.Need-sub-total Inv-loop μ-loop
 sub-total c = c .before .loop .inv .held
@@ -110,10 +110,10 @@ slide-listed-spec =
     Inv-loop
     μ-loop
     loop-holds
-    u32-at-requires
+    whole32-requires
     cast-more
     add-more
-    u32-at-requires-2
+    whole32-requires-2
     cast-gone
     add-gone
     sub-next
