@@ -1,10 +1,9 @@
 -- The window slid on entry by entry: the sample at its tail leaves it and the one at its head enters it, turn by turn.
 -- Assumes nothing.
-use Prim.Native.Nat.{ℕ, zero, suc, _+_, _-_, _*_, _^_, _≤_, _<_}
+use Prim.Native.Nat.{ℕ, suc, _+_, _-_, _*_, _^_, _≤_, _<_}
 use mathlib.Core.Path.{_≡_, refl, sym, ap, _∙_}
 use mathlib.Core.List.{List}
 use native.Mathlib.Omega.{arith}
-use native.Mathlib.Numerals.{add-one}
 use lib.ListN.{length, getD, drop, length-drop}
 use lib.Seq.{drop-drop}
 use Rattle.bigendian.specs.BigEndian.{u32At}
@@ -16,19 +15,19 @@ use Rattle.runs.specs.declared.cursor.RunCursor.{RunCursor}
 use Rattle.runs.proofs.Cursors.{ready-stop, ready-next}
 use Rattle.words.specs.Words.{wordsIn, sizes}
 use Rattle.words.proofs.Turns.{words-next, words-drop, sizes-listed}
-use Rattle.peaks.specs.Peaks.{Timed}
-use Rattle.peaks.specs.declared.Window.{Window}
-use Rattle.peaks.specs.declared.RatedRun.{RatedRun}
+use Rattle.windows.specs.Windows.{Timed}
+use Rattle.windows.specs.declared.Window.{Window}
+use Rattle.windows.specs.declared.RatedRun.{RatedRun}
 use Rattle.peaks.specs.declared.EntrySlide.{EntrySlide}
-use Rattle.peaks.specs.declared.Best.{Best}
-use Rattle.peaks.specs.declared.Best.the-variants.{Run}
-use Rattle.peaks.specs.Windows.{Slides, ratedRun, better, bestFrom}
+use Rattle.windows.specs.declared.Best.{Best}
+use Rattle.windows.specs.declared.Best.the-variants.{Run}
+use Rattle.windows.specs.Windows.{Slides, ratedRun, better, bestFrom}
 use Rattle.peaks.specs.Slides.{Absorbs, Skips}
-use Rattle.peaks.specs.EntrySlides.{furtherOn, windowAt, HasEntries, MayStand}
-use Rattle.peaks.proofs.Bests.{better-assoc, better-kept}
+use Rattle.peaks.specs.EntrySlides.{windowAt, HasEntries, MayStand}
+use Rattle.windows.proofs.Bests.{better-assoc, better-kept}
 use Rattle.lists.proofs.Places.{before-suc, before-le}
-use Rattle.peaks.proofs.Sliding.{at-cons, before-at, peak-here, slides-grown, slides-shrunk, tail-fits, bytes-fit}
-use Rattle.peaks.proofs.Passing.{span-fits}
+use Rattle.windows.proofs.Sliding.{at-cons, before-at, peak-here, slides-grown, slides-shrunk, tail-fits, bytes-fit}
+use Rattle.windows.proofs.Rating.{span-fits}
 
 -- ---- a cursor in an entry of one sample, and the next entry, which has one sample too
 

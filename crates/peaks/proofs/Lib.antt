@@ -1,6 +1,4 @@
 pub mod Sentences
-pub mod Bests
-pub mod Sliding
 pub mod Overs
 pub mod Passing
 pub mod Skipping

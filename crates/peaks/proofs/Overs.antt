@@ -1,8 +1,8 @@
 -- A window slid on over sizes: what leaves it and what enters it, turn by turn, over listed sizes and over a common one.
 -- Assumes nothing.
-use Prim.Native.Nat.{ℕ, zero, suc, _+_, _-_, _*_, _/_, _≤_, _<_}
+use Prim.Native.Nat.{ℕ, zero, suc, _+_, _-_, _*_, _≤_, _<_}
 use mathlib.Core.Path.{_≡_, refl, sym, ap, _∙_}
-use mathlib.Core.List.{List, [], _∷_}
+use mathlib.Core.List.{List}
 use native.Mathlib.Omega.{arith}
 use native.Mathlib.Numerals.{add-one}
 use native.Mathlib.Nat.{add-mul}
@@ -14,10 +14,10 @@ use Rattle.lists.specs.Lists.{sum, before}
 use Rattle.lists.proofs.Laws.{sum-replicate, replicate-take}
 use Rattle.lists.proofs.Places.{before-suc, before-mono, before-drop}
 use Rattle.words.specs.Words.{wordsIn, sizes}
-use Rattle.words.proofs.Turns.{words-none, words-next, words-drop, words-take, length-words, sizes-listed, sizes-common}
+use Rattle.words.proofs.Turns.{words-next, words-drop, words-take, length-words, sizes-listed, sizes-common}
 use Rattle.peaks.specs.declared.Slide.{Slide}
 use Rattle.peaks.specs.Slides.{Stays, SlidOver, MaySlide, Slid}
-use Rattle.peaks.proofs.Sliding.{at-cons}
+use Rattle.windows.proofs.Sliding.{at-cons}
 
 -- ---- turn by turn over listed sizes
 

@@ -5,7 +5,7 @@ use mathlib.Core.List.{List}
 use lib.ListN.{length}
 use Rattle.bigendian.specs.BigEndian.{u32At}
 use Rattle.runs.specs.declared.cursor.RunCursor.{RunCursor}
-use Rattle.peaks.specs.declared.Window.{Window}
+use Rattle.windows.specs.declared.Window.{Window}
 use Rattle.peaks.specs.declared.EntrySlide.{EntrySlide}
 
 -- the cursor so many entries further on, in an entry of one sample

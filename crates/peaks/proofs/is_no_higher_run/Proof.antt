@@ -2,7 +2,7 @@
 -- Assumes nothing.
 use borrow.Author.Needs.{needs}
 use native.Mathlib.Omega.{arith}
-use Rattle.peaks.proofs.Bests.{untrue}
+use Rattle.windows.proofs.Bests.{untrue}
 use Rattle.peaks.proofs.is_no_higher_run.Statement.{statement}
 use Rattle.peaks.proofs.is_no_higher_run.Tie as tie
 

@@ -4,7 +4,7 @@ use borrow.Author.Needs.{needs}
 use mathlib.Core.Path.{sym}
 use native.Mathlib.Omega.{arith}
 use Rattle.rates.proofs.Orders.{rate-known}
-use Rattle.peaks.proofs.Passing.{span-fits}
+use Rattle.windows.proofs.Rating.{span-fits}
 use Rattle.peaks.proofs.Skipping.{run-length, may-slide, skips, skips-none}
 use Rattle.peaks.proofs.slid.Statement.{statement}
 use Rattle.peaks.proofs.slid.Tie as tie

@@ -2,18 +2,18 @@
 -- Assumes nothing.
 use Prim.Native.Nat.{ℕ, _*_, _≤_, _<_}
 use mathlib.Core.Path.{_≡_, refl, sym, ap, _∙_}
-use mathlib.Core.Bool.{Bool, true, false}
+use mathlib.Core.Bool.{true, false}
 use native.Mathlib.Omega.{arith}
 use native.Mathlib.Decide.{decLt}
 use borrow.Author.Tests.{lt-ltb, le-ltb}
 use Rattle.rates.specs.Rates.{rateOf}
 use Rattle.rates.specs.declared.Feature.{Feature}
 use Rattle.rates.specs.declared.Feature.the-variants as features
-use Rattle.rates.proofs.Orders.{eightfold, NoHigher, no-higher}
-use Rattle.peaks.specs.declared.RatedRun.{RatedRun}
-use Rattle.peaks.specs.declared.Best.{Best}
-use Rattle.peaks.specs.declared.Best.the-variants.{Run, NotComputed}
-use Rattle.peaks.specs.Windows.{ratedAs, ratedRun, better, noRun}
+use Rattle.rates.proofs.Orders.{eightfold, no-higher}
+use Rattle.windows.specs.declared.RatedRun.{RatedRun}
+use Rattle.windows.specs.declared.Best.{Best}
+use Rattle.windows.specs.declared.Best.the-variants.{Run, NotComputed}
+use Rattle.windows.specs.Windows.{ratedAs, ratedRun, better, noRun}
 
 -- what a test that failed says of an answer that is true
 pub untrue : {A : Type 0} → false ≡ true → A

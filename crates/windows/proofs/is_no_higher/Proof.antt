@@ -1,13 +1,13 @@
--- `peaks::is_no_higher` meets its contract: of numbers below 2 ^ 32 the products fit, and their comparison is the answer.
+-- `windows::is_no_higher` meets its contract: of numbers below 2 ^ 32 the products fit, and their comparison is the answer.
 -- Assumes nothing.
 use borrow.Author.Needs.{needs}
 use borrow.Author.Tests.{leb-true}
 use Prim.Native.Nat.{ℕ, _*_, _≤_, _<_}
 use native.Mathlib.Omega.{arith}
 use native.Mathlib.Nat.{mul-le-mul}
-use Rattle.peaks.proofs.Bests.{untrue}
-use Rattle.peaks.proofs.is_no_higher.Statement.{statement}
-use Rattle.peaks.proofs.is_no_higher.Tie as tie
+use Rattle.windows.proofs.Bests.{untrue}
+use Rattle.windows.proofs.is_no_higher.Statement.{statement}
+use Rattle.windows.proofs.is_no_higher.Tie as tie
 
 small : (a b : ℕ) → a ≤ 4294967295 → b < 4294967296 → a * b < 18446744073709551616
 small a b h k =
