@@ -19,7 +19,8 @@ use Rattle.track.specs.Refusals.{totalIn}
 use Rattle.rates.specs.declared.Feature.{Feature}
 use Rattle.rates.specs.declared.Feature.the-variants.{Value, NotComputed}
 use Rattle.rates.specs.Rates.{valueOf, rateOf}
-use Rattle.peaks.specs.Peaks.{peakIn, Timed}
+use Rattle.windows.specs.Windows.{Timed}
+use Rattle.peaks.specs.Peaks.{peakIn}
 use Rattle.peaks.specs.declared.Peak.{Peak}
 use Rattle.peaks.specs.declared.Peak.the-variants as peaks
 use Rattle.features.specs.Features.{average, picture, frames, peakOnlyIn, Computable}

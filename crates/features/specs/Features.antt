@@ -14,7 +14,8 @@ use Rattle.track.specs.Track.{Track}
 use Rattle.rates.specs.declared.Feature.{Feature}
 use Rattle.rates.specs.declared.Feature.the-variants.{NotComputed}
 use Rattle.rates.specs.Rates.{valueOf, rateOf}
-use Rattle.peaks.specs.Peaks.{peakOf, peakIn, Timed}
+use Rattle.windows.specs.Windows.{Timed}
+use Rattle.peaks.specs.Peaks.{peakOf, peakIn}
 use Rattle.peaks.specs.declared.Peak.{Peak}
 use Rattle.peaks.specs.declared.Peak.the-variants as peaks
 

@@ -1,11 +1,11 @@
--- `peaks::start_window` meets its contract: both cursors are ready before the first sample.
+-- `windows::start_window` meets its contract: both cursors are ready before the first sample.
 -- Assumes nothing.
 use borrow.Author.Needs.{needs}
 use mathlib.Core.Path.{_≡_, ap, _∙_}
 use denote.Ref.{now}
 use Rattle.runs.specs.Cursors.{startRun, readiedRun}
-use Rattle.peaks.proofs.start_window.Statement.{statement}
-use Rattle.peaks.proofs.start_window.Tie as tie
+use Rattle.windows.proofs.start_window.Statement.{statement}
+use Rattle.windows.proofs.start_window.Tie as tie
 
 -- the cursor of both ends
 ready : (c : tie.After-run-ready) → c .run-ready .result ≡ readiedRun (now (c .before .before .before .args .stts)) startRun

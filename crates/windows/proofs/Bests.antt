@@ -2,17 +2,22 @@
 -- Assumes nothing.
 use Prim.Native.Nat.{ℕ, _*_, _≤_, _<_}
 use mathlib.Core.Path.{_≡_, refl, sym, ap, _∙_}
+use mathlib.Core.Bool.{true, false}
 use native.Mathlib.Omega.{arith}
 use native.Mathlib.Decide.{decLt}
 use borrow.Author.Tests.{lt-ltb, le-ltb}
 use Rattle.rates.specs.Rates.{rateOf}
 use Rattle.rates.specs.declared.Feature.{Feature}
 use Rattle.rates.specs.declared.Feature.the-variants as features
-use Rattle.rates.proofs.Orders.{eightfold, NoHigher, no-higher}
-use Rattle.peaks.specs.declared.RatedRun.{RatedRun}
-use Rattle.peaks.specs.declared.Best.{Best}
-use Rattle.peaks.specs.declared.Best.the-variants.{Run, NotComputed}
-use Rattle.peaks.specs.Windows.{ratedAs, ratedRun, better, noRun}
+use Rattle.rates.proofs.Orders.{eightfold, no-higher}
+use Rattle.windows.specs.declared.RatedRun.{RatedRun}
+use Rattle.windows.specs.declared.Best.{Best}
+use Rattle.windows.specs.declared.Best.the-variants.{Run, NotComputed}
+use Rattle.windows.specs.Windows.{ratedAs, ratedRun, better, noRun}
+
+-- what a test that failed says of an answer that is true
+pub untrue : {A : Type 0} → false ≡ true → A
+untrue e = let z : _≡_ {A = ℕ} 0 1 = cc in absurd (omega arith)
 
 pub better-second : (a b : RatedRun) → a .rate < b .rate → better (Run a) (Run b) ≡ Run b
 better-second a b h = rw (lt-ltb (a .rate) (b .rate) h)

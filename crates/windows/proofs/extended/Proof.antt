@@ -1,4 +1,4 @@
--- `peaks::extended` meets its contract: each sample that is taken in leaves the window the start of the shortest run, until it reaches or no sample is left.
+-- `windows::extended` meets its contract: each sample that is taken in leaves the window the start of the shortest run, until it reaches or no sample is left.
 -- Assumes nothing.
 use borrow.Author.Needs.{needs}
 use Prim.Native.Nat.{_-_}
@@ -7,11 +7,11 @@ use native.Mathlib.Omega.{arith}
 use denote.Ref.{now}
 use lib.ListN.{length}
 use Rattle.runs.specs.Runs.{perSample}
-use Rattle.peaks.specs.Windows.{Slides}
-use Rattle.peaks.specs.declared.Window.{Window}
-use Rattle.peaks.proofs.Sliding.{slides-grown, before-at, before-none}
-use Rattle.peaks.proofs.extended.Statement.{statement}
-use Rattle.peaks.proofs.extended.Tie as tie
+use Rattle.windows.specs.Windows.{Slides}
+use Rattle.windows.specs.declared.Window.{Window}
+use Rattle.windows.proofs.Sliding.{slides-grown, before-at, before-none}
+use Rattle.windows.proofs.extended.Statement.{statement}
+use Rattle.windows.proofs.extended.Tie as tie
 
 abbrev Inv-loop : tie.InvT-loop
 Inv-loop stts stsz scale r₀ r = Slides scale stts stsz r × (r .first ≡ r₀ .first)

@@ -1,10 +1,10 @@
--- `peaks::raised` meets its contract: a run that is no higher by cross-multiplication leaves the best as it is, and of another the rates are compared.
+-- `windows::raised` meets its contract: a run that is no higher by cross-multiplication leaves the best as it is, and of another the rates are compared.
 -- Assumes nothing.
 use borrow.Author.Needs.{needs}
 use mathlib.Core.Path.{sym, _∙_}
-use Rattle.peaks.proofs.Passing.{raised-kept, raised-none, raised-uncomputed, raised-higher, raised-lower}
-use Rattle.peaks.proofs.raised.Statement.{statement}
-use Rattle.peaks.proofs.raised.Tie as tie
+use Rattle.windows.proofs.Rating.{raised-kept, raised-none, raised-uncomputed, raised-higher, raised-lower}
+use Rattle.windows.proofs.raised.Statement.{statement}
+use Rattle.windows.proofs.raised.Tie as tie
 
 enum-known-best : tie.Need-enum-known-best
 enum-known-best c = search needs

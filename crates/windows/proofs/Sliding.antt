@@ -1,7 +1,7 @@
 -- The window: one sample more at its head and one less at its tail leave it the start of the shortest run, so that one pass meets every run. What makes
 -- that right is that a run which is too short without its last sample stays so without its first.
 -- Assumes nothing.
-use Prim.Native.Nat.{ℕ, zero, suc, _+_, _-_, _*_, _≤_, _<_}
+use Prim.Native.Nat.{ℕ, zero, suc, _+_, _-_, _≤_, _<_}
 use mathlib.Core.Path.{_≡_, refl, sym, ap, _∙_}
 use mathlib.Core.List.{List, [], _∷_}
 use native.Mathlib.Omega.{arith}
@@ -17,10 +17,9 @@ use Rattle.runs.specs.Cursors.{runAhead, startRun, readiedRun, pastRun}
 use Rattle.runs.specs.declared.cursor.RunCursor.{RunCursor}
 use Rattle.runs.proofs.Cursors.{run-start, run-same, run-cons}
 use Rattle.words.specs.Words.{sizes}
-use Rattle.peaks.specs.Peaks.{runLength}
-use Rattle.peaks.specs.declared.Window.{Window}
-use Rattle.peaks.specs.declared.Best.{Best}
-use Rattle.peaks.specs.Windows.{Sliding, startWindow, grownBy, Before, Slides, ratedRun, better, noRun, bestFrom}
+use Rattle.windows.specs.Lengths.{runLength}
+use Rattle.windows.specs.declared.Window.{Window}
+use Rattle.windows.specs.Windows.{Sliding, startWindow, grownBy, Before, Slides, ratedRun, better, noRun, bestFrom}
 
 -- ---- the best of the runs from an index on
 

@@ -1,4 +1,4 @@
--- `peaks::grown` meets its contract: the cursor is passed on and made ready.
+-- `windows::grown` meets its contract: the cursor is passed on and made ready.
 -- Assumes nothing.
 use borrow.Author.Needs.{needs}
 use Prim.Native.Nat.{_+_}
@@ -6,8 +6,8 @@ use mathlib.Core.Path.{ap, _∙_}
 use native.Mathlib.Omega.{arith}
 use denote.Ref.{now}
 use Rattle.runs.specs.Cursors.{readiedRun}
-use Rattle.peaks.proofs.grown.Statement.{statement}
-use Rattle.peaks.proofs.grown.Tie as tie
+use Rattle.windows.proofs.grown.Statement.{statement}
+use Rattle.windows.proofs.grown.Tie as tie
 
 run-pass-requires : tie.Need-run-pass-requires
 run-pass-requires c κs = search needs

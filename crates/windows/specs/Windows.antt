@@ -14,13 +14,18 @@ use Rattle.words.specs.Words.{sizes}
 use Rattle.rates.specs.Rates.{rateOf}
 use Rattle.rates.specs.declared.Feature.{Feature}
 use Rattle.rates.specs.declared.Feature.the-variants.{Value, NotComputed}
-use Rattle.peaks.specs.Peaks.{runLength}
-use Rattle.peaks.specs.declared.Window.{Window}
-use Rattle.peaks.specs.declared.RatedRun.{RatedRun}
-use Rattle.peaks.specs.declared.Best.{Best}
-use Rattle.peaks.specs.declared.Best.the-variants as best
-use Rattle.peaks.specs.declared.Peak.{Peak}
-use Rattle.peaks.specs.declared.Peak.the-variants as peaks
+use Rattle.windows.specs.Lengths.{runLength}
+use Rattle.windows.specs.declared.Window.{Window}
+use Rattle.windows.specs.declared.RatedRun.{RatedRun}
+use Rattle.windows.specs.declared.Best.{Best}
+use Rattle.windows.specs.declared.Best.the-variants as best
+
+-- ---- what an accepted track's time scale, durations and sizes are
+pub record Timed (s : ℕ) (ds zs : List ℕ) : Type 0 where
+  pub some-scale : 0 < s
+  pub total-fits : sum ds < 4294967296
+  pub few : length ds ≤ 1048576
+  pub agree : length zs ≡ length ds
 
 -- ---- the window
 
@@ -108,7 +113,3 @@ IsRated s x = (b : RatedRun) → x ≡ best.Run b → (rateOf (8 * b .bytes * s)
 pub record Raises (s : ℕ) (x : Best) (w : Window) (r : Best) : Type 0 where
   pub kept : r ≡ better x (ratedRun s (w .first) (w .stop - w .first) (w .bytes) (w .span))
   pub rated : IsRated s r
-
-abbrev pub toPeak : Best → Peak
-toPeak (best.Run b) = peaks.Highest (b .rate) (b .first) (b .count)
-toPeak best.NotComputed = peaks.NotComputed

@@ -1,9 +1,9 @@
--- `peaks::next_window` meets its contract: the sample at the tail was in the window, and without it the window is still the start of the shortest run.
+-- `windows::next_window` meets its contract: the sample at the tail was in the window, and without it the window is still the start of the shortest run.
 -- Assumes nothing.
 use borrow.Author.Needs.{needs}
-use Rattle.peaks.proofs.Sliding.{tail-fits, bytes-fit, slides-shrunk}
-use Rattle.peaks.proofs.next_window.Statement.{statement}
-use Rattle.peaks.proofs.next_window.Tie as tie
+use Rattle.windows.proofs.Sliding.{tail-fits, bytes-fit, slides-shrunk}
+use Rattle.windows.proofs.next_window.Statement.{statement}
+use Rattle.windows.proofs.next_window.Tie as tie
 
 run-pass-requires : tie.Need-run-pass-requires
 run-pass-requires c κs = search needs

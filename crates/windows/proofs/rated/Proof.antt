@@ -1,9 +1,9 @@
--- `peaks::rated` meets its contract: 8 may stand with either factor, and a rate that is computed is that of the bytes and the span.
+-- `windows::rated` meets its contract: 8 may stand with either factor, and a rate that is computed is that of the bytes and the span.
 -- Assumes nothing.
 use borrow.Author.Needs.{needs}
-use Rattle.peaks.proofs.Passing.{rated-some, rated-none}
-use Rattle.peaks.proofs.rated.Statement.{statement}
-use Rattle.peaks.proofs.rated.Tie as tie
+use Rattle.windows.proofs.Rating.{rated-some, rated-none}
+use Rattle.windows.proofs.rated.Statement.{statement}
+use Rattle.windows.proofs.rated.Tie as tie
 
 mul-rate : tie.Need-mul-rate
 mul-rate c = search needs
