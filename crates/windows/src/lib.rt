@@ -55,7 +55,7 @@ pub fn start_window(stts: &[u8]) -> Window
 }
 
 // One sample more at the head.
-pub fn grown(stts: &[u8], w: Window, size: u32) -> Window
+fn grown(stts: &[u8], w: Window, size: u32) -> Window
     requires { ⌜ (w .stop < 4294967295) × (w .span < 4294967296) × (w .bytes < 4611686018427387904) ⌝ }
     ensures { λ r. ⌜ r ≡ grownBy (now (stts .entry)) size w ⌝ }
 {
