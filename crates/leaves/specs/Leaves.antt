@@ -73,7 +73,7 @@ sizeEntry least s = fitting least (u32At s 0) s
 unfoldable pub filledWith : (List ℕ → ℕ) → ℕ → List ℕ → Bool
 filledWith size n s = filledBy size s && eqb n (length (pieces size s))
 
--- "filled exactly by n descriptions", "n at 12; each: size (at least 16)"; "count at 12, then entries of size at least 12": for any least size
+-- "filled exactly by n descriptions", "n at 12; each: size (at least 16)"; "count at 12, then entries of size at least 12"
 unfoldable pub sizedEntries : ℕ → List ℕ → Bool
 sizedEntries least a = leb 16 (length a) && filledWith (sizeEntry least) (u32At a 12) (drop 16 a)
 
