@@ -17,12 +17,13 @@
  *                says where the slip goes wrong), the rest is left
  *
  * Places fewer than a function names are refused 16 as room is, and then nothing
- * at all is written. The order of refusals is: the file's (1 to 13), 14, 15 or 18,
- * then 16; in reading a slip 17, then 16. docs/RULES.md has each rule in full.
+ * at all is written. The order of refusals is: the file's (1 to 13 and 19,
+ * which is judged after 11 and before 12), 14, 15 or 18, then 16; in reading a slip 17,
+ * then 16. docs/RULES.md has each rule in full.
  *
  * Limits. A file has at most 2,147,483,647 bytes, a movie 16 tracks, a track
- * 1,048,576 samples, 1,048,576 chunks, 256 edits and 64 sample descriptions, a
- * profile 64 records; beyond them the file is refused 1 or 6. A slip has at most
+ * 1,048,576 samples, 1,048,576 chunks, 256 edits, 64 sample descriptions and 64
+ * data references, a profile 64 records; beyond them the file is refused 1 or 6. A slip has at most
  * 1,048,576 pairs. No function allocates memory, and the stack it needs does not
  * grow with the file: the walk of the atom tree is six levels deep.
  *
@@ -59,8 +60,8 @@ extern "C" {
 #define CHALDOREF_VERSION_PATCH 0
 #define CHALDOREF_VERSION "0.1.0"
 
-/* The refusals, by their numbers in document 01. Of a file the lowest number that
-   applies is given. */
+/* The refusals, by their numbers in documents 01 and 02. Of a file the lowest number that
+   applies is given, but that 19 is judged after 11 and before 12. */
 enum {
     CHALDOREF_ANSWERED = 0,
     CHALDOREF_FILE_TOO_LONG = 1,      /* longer than 2,147,483,647 bytes */
@@ -68,7 +69,7 @@ enum {
     CHALDOREF_ATOM_COUNT = 3,         /* an atom is absent or occurs too often */
     CHALDOREF_LEAF_VERSION = 4,       /* a leaf that is read has a version other than 0 */
     CHALDOREF_LEAF_SIZE = 5,          /* a leaf that is read, or a profile, hasn't its size */
-    CHALDOREF_OVER_LIMIT = 6,         /* too many tracks, samples, chunks, edits, descriptions or records */
+    CHALDOREF_OVER_LIMIT = 6,         /* too many tracks, samples, chunks, edits, descriptions, references or records */
     CHALDOREF_TRACK_IDS = 7,          /* a track ID is 0 or occurs twice */
     CHALDOREF_TIME_SCALE = 8,         /* a movie or media time scale is 0 */
     CHALDOREF_TABLES = 9,             /* the sample tables contradict each other */
@@ -80,7 +81,8 @@ enum {
     CHALDOREF_OUTSIDE = 15,           /* the sample number, time or stretch lies outside */
     CHALDOREF_NO_ROOM = 16,           /* the lent room or places are shorter than the answer */
     CHALDOREF_MALFORMED_SLIP = 17,    /* a slip is malformed */
-    CHALDOREF_NOT_COMPUTED = 18       /* the feature cannot be computed */
+    CHALDOREF_NOT_COMPUTED = 18,      /* the feature cannot be computed */
+    CHALDOREF_DATA_ELSEWHERE = 19     /* a description names data elsewhere, or no such data reference */
 };
 
 /* How many places each function fills. */
@@ -115,7 +117,7 @@ enum {
 };
 
 /*
- * The tracks of a movie, in file order. Refusals 1 to 13, 16.
+ * The tracks of a movie, in file order. Refusals 1 to 13, 19, 16.
  * room: for each track ID, subtype (four characters as a big-endian number), media
  *       time scale, total of the sample durations, number of samples, of chunks, of
  *       edits; 7 * CHALDOREF_MAX_TRACKS numbers are always enough.
@@ -127,7 +129,7 @@ uint32_t chaldoref_track_list(
     uint64_t *places, size_t places_len);
 
 /*
- * Sample n of a track, numbered from 1. Refusals 1 to 13, 14, 15, 16.
+ * Sample n of a track, numbered from 1. Refusals 1 to 13, 19, 14, 15, 16.
  * places: 8: decode time, duration, composition time (it may be negative), whether
  *         the sample is a sync sample (1 or 0), sample description ID, chunk
  *         (numbered from 1), offset in the file, size.
@@ -138,7 +140,7 @@ uint32_t chaldoref_sample(
     int64_t *places, size_t places_len);
 
 /*
- * Where the bytes of sample n are: file + offset, as many as its length. Refusals 1 to 13, 14, 15, 16.
+ * Where the bytes of sample n are: file + offset, as many as its length. Refusals 1 to 13, 19, 14, 15, 16.
  * places: 2: offset in the file, length.
  */
 uint32_t chaldoref_sample_bytes(
@@ -147,7 +149,7 @@ uint32_t chaldoref_sample_bytes(
     uint64_t *places, size_t places_len);
 
 /*
- * The sample at media time t: decode time <= t < decode time + duration. Refusals 1 to 13, 14, 15, 16.
+ * The sample at media time t: decode time <= t < decode time + duration. Refusals 1 to 13, 19, 14, 15, 16.
  * places: 1: the sample's number, from 1.
  */
 uint32_t chaldoref_sample_at(
@@ -156,7 +158,7 @@ uint32_t chaldoref_sample_at(
     uint64_t *places, size_t places_len);
 
 /*
- * Movie time t, in the movie's time scale, to media time, in the track's own. Refusals 1 to 13, 14, 15, 16.
+ * Movie time t, in the movie's time scale, to media time, in the track's own. Refusals 1 to 13, 19, 14, 15, 16.
  * places: 2: 1 and the media time; or 0 and 0 where nothing is shown.
  */
 uint32_t chaldoref_media_time(
@@ -166,7 +168,7 @@ uint32_t chaldoref_media_time(
 
 /*
  * The stretch of a track from media time a to b (a < b <= total): all samples from
- * the one at a to the one at b - 1, as byte ranges. Refusals 1 to 13, 14, 15, 16.
+ * the one at a to the one at b - 1, as byte ranges. Refusals 1 to 13, 19, 14, 15, 16.
  * room: for each chunk touched, in chunk order, offset in the file and length; twice
  *       the track's number of chunks is always enough.
  * places: 2: the number of pairs, the total of bytes.
@@ -178,7 +180,7 @@ uint32_t chaldoref_stretch(
     uint64_t *places, size_t places_len);
 
 /*
- * The stored profile of a track, or for id 0 of the movie. Refusals 1 to 13, 14 (not for id 0), 16.
+ * The stored profile of a track, or for id 0 of the movie. Refusals 1 to 13, 19, 14 (not for id 0), 16.
  * room: for each record with a code other than 0 part-ID, code, value;
  *       3 * CHALDOREF_MAX_RECORDS numbers are always enough.
  * places: 1: the number of records; 0 where there is no profile.
@@ -199,7 +201,7 @@ uint32_t chaldoref_profile(
 #define CHALDOREF_MABR UINT32_C(0x6d616272)
 
 /*
- * A feature of a track, by its four-character code. Refusals 1 to 13, 14, 18, 16.
+ * A feature of a track, by its four-character code. Refusals 1 to 13, 19, 14, 18, 16.
  * places: 1: the value: bits a second for avvb, avab, mvbr and mabr; width * 65536 +
  *         height for tvsz; frames a second * 65536 for vfps. Quotients are rounded up.
  * mvbr and mabr are the greatest rate of a run of samples. There is a run for each sample:
@@ -213,7 +215,7 @@ uint32_t chaldoref_feature(
 
 /*
  * Where the highest bit rate over one second is, by its code, mvbr or mabr. Refused as that
- * feature is, and 18 for any other code: refusals 1 to 13, 14, 18, 16.
+ * feature is, and 18 for any other code: refusals 1 to 13, 19, 14, 18, 16.
  * places: 2: the number, from 1, of the first sample whose run has the greatest rate; how
  *         many samples that run has.
  */
@@ -236,7 +238,7 @@ uint32_t chaldoref_read_slip(
     uint64_t *places, size_t places_len);
 
 /*
- * Writes the slip of a track's stretch from media time a to b. Refusals 1 to 13, 14, 15, 16.
+ * Writes the slip of a track's stretch from media time a to b. Refusals 1 to 13, 19, 14, 15, 16.
  * out: the slip; CHALDOREF_SLIP_HEAD_BYTES + CHALDOREF_SLIP_PAIR_BYTES * (the track's
  *      number of chunks) bytes are always enough.
  * places: 1: the slip's length in bytes.
@@ -254,7 +256,7 @@ static inline const char *chaldoref_version(void)
 }
 
 /*
- * The words of document 01 for a refusal, by its number; "answered" for 0. For a number
+ * The words of the documents for a refusal, by its number; "answered" for 0. For a number
  * that no refusal has it says so: the result is never NULL.
  */
 static inline const char *chaldoref_refusal_text(uint32_t number)
@@ -266,7 +268,7 @@ static inline const char *chaldoref_refusal_text(uint32_t number)
         "an atom is absent or occurs too often",
         "a read leaf has a body whose first byte is not 0",
         "a read leaf or profile hasn't its size",
-        "over 16 tracks, or in one track over 1,048,576 samples or chunks, 256 edits or 64 descriptions; in one profile over 64 records",
+        "over 16 tracks, or in one track over 1,048,576 samples or chunks, 256 edits, 64 descriptions or 64 references; in one profile over 64 records",
         "a track ID is 0 or occurs twice",
         "a movie or media time scale is 0",
         "sample tables contradict each other",
@@ -278,7 +280,8 @@ static inline const char *chaldoref_refusal_text(uint32_t number)
         "the sample number is not in 1 to N, or the time or stretch lies outside",
         "the lent room is shorter than the answer",
         "a slip is malformed",
-        "the feature cannot be computed"
+        "the feature cannot be computed",
+        "a description names data elsewhere, or no such data reference"
     };
     return number < sizeof texts / sizeof *texts ? texts[number] : "no refusal has this number";
 }

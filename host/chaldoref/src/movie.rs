@@ -18,7 +18,7 @@ const MAX_RECORDS: usize = 64;
 ///
 /// It borrows the file's bytes and keeps the track list beside them. See the [crate](crate) for what a question costs.
 /// Each question gets the library's own answer, also for an ID that no track has ([`Refusal::NoTrack`]); no refusal 1
-/// to 13 comes after [`Movie::open`].
+/// to 13, nor 19, comes after [`Movie::open`].
 #[derive(Clone)]
 pub struct Movie<'a> {
     file: &'a [u8],
@@ -31,7 +31,7 @@ impl<'a> Movie<'a> {
     ///
     /// # Errors
     ///
-    /// The lowest of refusals 1 to 13 that applies, if one does.
+    /// The first of refusals 1 to 13 and 19, in the order in which they are judged, that applies, if one does.
     pub fn open(file: &'a [u8]) -> Result<Movie<'a>, Refusal> {
         let mut tracks = [Track::default(); MAX_TRACKS];
         let [count] = ffi::track_list(file, &mut tracks)?;

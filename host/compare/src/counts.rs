@@ -3,8 +3,13 @@ use crate::faults::FAULTS;
 use crate::question::KINDS;
 use std::fmt::Write;
 
-/// Refusals are numbered from 1 to 18; 0 is an answer.
-const NUMBERS: usize = 19;
+/// Refusals are numbered from 1 to 19; 0 is an answer.
+const NUMBERS: usize = 20;
+
+/// Whether a film can be refused with that number, or accepted.
+fn is_of_films(number: usize) -> bool {
+    number <= 13 || number == 19
+}
 
 #[derive(Default)]
 pub struct Counts {
@@ -61,7 +66,7 @@ impl Counts {
             write!(text, " {kind:>12}").unwrap();
         }
         for (number, row) in self.questions.iter().enumerate() {
-            let films = if number <= 13 { self.films[number].to_string() } else { "-".to_string() };
+            let films = if is_of_films(number) { self.films[number].to_string() } else { "-".to_string() };
             write!(text, "\n{number:>3} {films:>9} {:>10}", row.iter().sum::<u64>()).unwrap();
             for (kind, count) in KINDS.iter().zip(row) {
                 let shown = if can_meet(number, kind) { count.to_string() } else { "-".to_string() };
@@ -94,7 +99,7 @@ impl Counts {
                 }
             }
         }
-        let never = (0..=13).filter(|number| self.films[*number] == 0);
+        let never = (0..NUMBERS).filter(|number| is_of_films(*number) && self.films[*number] == 0);
         all.extend(never.map(|number| format!("no film was refused {number}")));
         let places = FAULTS.iter().zip(self.faults).filter(|(_, count)| *count == 0);
         all.extend(places.map(|(name, _)| format!("no slip was malformed at: {name}")));
@@ -109,14 +114,14 @@ mod tests {
     /// Everything that can be met, once.
     fn full() -> Counts {
         let mut counts = Counts::default();
-        for number in 0..19 {
+        for number in 0..NUMBERS {
             for (kind, name) in KINDS.iter().enumerate() {
                 if can_meet(number, name) {
                     counts.question(kind, number.try_into().unwrap());
                 }
             }
         }
-        (0..=13).for_each(|number| counts.film(number));
+        (0..NUMBERS).filter(|number| is_of_films(*number)).for_each(|number| counts.film(number.try_into().unwrap()));
         (0..FAULTS.len()).for_each(|kind| counts.slip(Some(kind)));
         counts
     }
