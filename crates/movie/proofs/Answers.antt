@@ -10,8 +10,7 @@ use Rattle.movie.specs.Rooms.{filledRoom, roomAfter}
 use Rattle.movie.specs.Answers.{given, Gives, Puts}
 
 module _ {X Y : Type 0} (tell : X → List Y) (zeros : ℕ → List Y) (refused : ℕ → X) (same : (k : ℕ) → tell (refused k) ≡ zeros k) (x : X) where
-  -- the numbers, case by case
-  pub told : (b : Bool) (k : ℕ) → tell (cond b x (refused k)) ≡ cond b (tell x) (zeros k)
+  told : (b : Bool) (k : ℕ) → tell (cond b x (refused k)) ≡ cond b (tell x) (zeros k)
   told true k = refl
   told false k = same k
 

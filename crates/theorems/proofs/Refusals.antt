@@ -18,7 +18,8 @@ use Rattle.structure.specs.Refusals.{fileRows}
 use Rattle.structure.proofs.Rows.{rank-pos}
 use Rattle.structure.proofs.Tracks.{file-rows-rise}
 use Rattle.movie.specs.Refusals.{moovRows, moovRefusal, filmRefusal}
-use Rattle.theorems.specs.Refusals.{OneHolds, rowsOfMovie, Applies, FirstApplies}
+use Rattle.movie.proofs.Strict.{none-judged, strict-same}
+use Rattle.theorems.specs.Refusals.{OneHolds, rowsOfMovie, Applies, FirstApplies, StrictReading}
 
 -- ---- some rows
 
@@ -104,3 +105,31 @@ first-applies s w =
   where
     pos : {a b : ℕ} → (a ≡ 0 → ⊥) → b ≡ a → 0 < b
     pos h e = omega arith
+
+-- ---- strict reading
+
+-- without it no row has the number 11 and holds
+none-eleven : (w : Source) (scale len : ℕ) (m : List ℕ) (ts : List (List ℕ)) → w .strict ≡ false
+    → OneHolds (λ r. r .whole m || some (r .track) ts) (moovRows w scale len) 11 → ⊥
+unfolding moovRows
+none-eleven w scale len m ts q o =
+    ⊎-elim (λ y. omega (arith, y .1))
+    (⊎-elim (λ y. omega (arith, y .1))
+    (⊎-elim (λ y. omega (arith, y .1))
+    (⊎-elim (λ y. omega (arith, y .1))
+    (⊎-elim (λ y. omega (arith, y .1))
+    (⊎-elim (λ y. omega (arith, y .1))
+    (⊎-elim (λ y. omega (arith, y .1))
+    (⊎-elim (λ y. let e = y .0 in let d = none-judged w ts q in let z : _≡_ {A = ℕ} 0 1 = cc in omega arith)
+    (⊎-elim (λ y. omega (arith, y .1)) (⊎-elim (λ y. omega (arith, y .1)) (⊎-elim (λ y. omega (arith, y .1)) (λ y. y)))))))))))
+    o
+
+only-strict : (s : List ℕ) (w : Source) → w .strict ≡ false → filmRefusal s w ≡ 11 → ⊥
+unfolding rank
+only-strict s w q e =
+    let m = moovOf s in
+    ⊎-elim (λ y. omega (arith, three (λ r. r .whole s) 11 y)) (none-eleven w (movieScale m) (length s) m (tracksOf m) q)
+    (subst (Applies s w) e (first-applies s w .applies (λ z. omega (arith, e, z))))
+
+pub strict-reading : (s : List ℕ) (w : Source) → StrictReading s w
+strict-reading s w = record { only = only-strict s w; others = strict-same s w }

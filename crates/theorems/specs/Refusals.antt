@@ -4,10 +4,11 @@
 use Prim.Native.Nat.{ℕ, _≤_, _<_}
 use mathlib.Core.Path.{_≡_}
 use mathlib.Core.Logic.{_⊎_}
-use mathlib.Core.Bool.{Bool, true, _||_}
+use mathlib.Core.Bool.{Bool, true, false, _||_}
 use mathlib.Core.List.{List, [], _∷_, _++_, map}
 use lib.ListN.{length}
 use Rattle.structure.specs.declared.source.Source.{Source}
+use Rattle.structure.specs.Source.{strictly}
 use Rattle.structure.specs.Rows.{Row, some, rank, ranksRise}
 use Rattle.structure.specs.Movie.{moovOf, movieScale, tracksOf}
 use Rattle.structure.specs.Refusals.{fileRows}
@@ -37,3 +38,10 @@ pub record FirstApplies (s : List ℕ) (w : Source) : Type 0 where
   pub applies : (filmRefusal s w ≡ 0 → ⊥) → Applies s w (filmRefusal s w)
   -- where one applies a number is given, and none that applies is judged earlier
   pub earliest : (n : ℕ) → Applies s w n → (0 < filmRefusal s w) × (rank (filmRefusal s w) ≤ rank n)
+
+-- "11 only where strict reading is asked for, in its old place"
+pub record StrictReading (s : List ℕ) (w : Source) : Type 0 where
+  -- it is not given otherwise
+  pub only : w .strict ≡ false → filmRefusal s w ≡ 11 → ⊥
+  -- where strict reading gives another number, or none, the default gives the same
+  pub others : (k : ℕ) → (k ≡ 11 → ⊥) → filmRefusal s (strictly w) ≡ k → filmRefusal s w ≡ k
