@@ -37,6 +37,7 @@ track scale ds zs descriptions =
       descriptionIds = [];
       chunkOffsets = [];
       descriptions = descriptions;
+      references = [];
       editTable = [];
       edits = [];
       profile = [];

@@ -13,7 +13,7 @@ use Rattle.leaves.specs.Present.{one, atMostOne, tables, present}
 use Rattle.leaves.specs.Leaves.{formOf, skipped, versionOk, holdsEntries, sizeEntry, filledWith, sizedEntries, sizeOk, leafOk}
 use Rattle.structure.specs.Profile.{firstBefore, ofVersion0, profileIn, profileOk}
 use Rattle.structure.specs.Source.{wholeFile, strictly}
-use Rattle.structure.specs.Track.{mdiaOf, minfOf, stblOf, tableOf, elstOf, idOf, scaleOf, durationOf, subtypeOf, profileOf, samplesOf}
+use Rattle.structure.specs.Track.{mdiaOf, minfOf, stblOf, tableOf, elstOf, drefOf, idOf, scaleOf, durationOf, subtypeOf, profileOf, samplesOf}
 use Rattle.structure.specs.Movie.{moovOf, movieScale, movieProfile}
 use Rattle.structure.specs.Limits.{overLimits, tooMany}
 use Rattle.structure.specs.Rows.{some, first, orElse}
@@ -24,8 +24,9 @@ use Rattle.words.specs.Words.{wordsAfter, sizes, chunkOffsets, syncs, syncsAgre
 use Rattle.chunks.specs.Chunks.{deals, perChunk, descriptionIds, dealsContradict, offsetOf}
 use Rattle.pairs.specs.Pairs.{pairOf}
 use Rattle.edits.specs.Edits.{edits, editTotal, editsOk}
+use Rattle.references.specs.References.{isThisFile, namesThisFile, allInThisFile}
 use Rattle.track.specs.Track.{leastSize, trackOf}
-use Rattle.track.specs.Refusals.{miscounted, contradicts, totalIn, totalTooLarge, otherDuration, chunkPastEnd, wrongEdits}
+use Rattle.track.specs.Refusals.{miscounted, contradicts, totalIn, totalTooLarge, otherDuration, dataElsewhere, chunkPastEnd, wrongEdits}
 use Rattle.movie.specs.Tracks.{hasTrack, trackWith}
 use Rattle.movie.specs.Rooms.{noRoom, filledRoom, roomAfter}
 use Rattle.movie.specs.Refusals.{sameIds, idIsZero, movieScaleIsZero, scaleIsZero, moovRows, moovRefusal, filmRefusal}
@@ -45,7 +46,7 @@ length-w = refl
 
 -- unfoldable only so that the lines below, by naming it, open all that it opens
 unfoldable pub accepted-w : filmRefusal bytes wholeFile ≡ 0
-unfolding beAt container piecesAfter total filledBy fitting headerOf bodyOf sizeInside sizeTop sizeIn ofKind all everywhere one atMostOne tables present formOf skipped versionOk holdsEntries sizeEntry filledWith sizedEntries sizeOk leafOk firstBefore ofVersion0 profileIn profileOk mdiaOf minfOf stblOf tableOf elstOf idOf scaleOf durationOf subtypeOf profileOf moovOf movieScale movieProfile overLimits tooMany some first orElse wrongVersion wrongSize shortVideoDescription wrongTrackSize fileRows rowsOf entries runsOf perSample wordsAfter sizes chunkOffsets syncs syncsAgree deals perChunk dealsContradict edits editTotal editsOk miscounted contradicts totalIn totalTooLarge otherDuration chunkPastEnd wrongEdits sameIds idIsZero movieScaleIsZero scaleIsZero moovRows moovRefusal filmRefusal
+unfolding beAt container piecesAfter total filledBy fitting headerOf bodyOf sizeInside sizeTop sizeIn ofKind all everywhere one atMostOne tables present formOf skipped versionOk holdsEntries sizeEntry filledWith sizedEntries sizeOk leafOk firstBefore ofVersion0 profileIn profileOk mdiaOf minfOf stblOf tableOf elstOf drefOf idOf scaleOf durationOf subtypeOf profileOf moovOf movieScale movieProfile overLimits tooMany some first orElse wrongVersion wrongSize shortVideoDescription wrongTrackSize fileRows rowsOf entries runsOf perSample wordsAfter sizes chunkOffsets syncs syncsAgree deals perChunk dealsContradict edits editTotal editsOk miscounted contradicts totalIn totalTooLarge otherDuration isThisFile namesThisFile allInThisFile dataElsewhere chunkPastEnd wrongEdits sameIds idIsZero movieScaleIsZero scaleIsZero moovRows moovRefusal filmRefusal
 accepted-w = refl
 
 -- the track with ID 1: that there is one, its samples, total and scale, and its lists
