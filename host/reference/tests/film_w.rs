@@ -21,10 +21,10 @@ fn w_has_4096_bytes_and_is_accepted() {
 #[test]
 fn times() {
     let film = w().bytes();
-    for (t, n) in [(0, 1), (23, 1), (24, 2), (72, 4), (119, 4)] {
-        assert_eq!(sample_at(&film, 1, t), (0, n), "time {t}");
+    for (t, n, entry) in [(0, 1, 1), (23, 1, 1), (24, 2, 1), (71, 3, 1), (72, 4, 2), (119, 4, 2)] {
+        assert_eq!(sample_at(&film, 1, t), (0, (n, entry)), "time {t}");
     }
-    assert_eq!(sample_at(&film, 1, 120), (15, 0));
+    assert_eq!(sample_at(&film, 1, 120), (15, (0, 0)));
 }
 
 #[test]
@@ -138,7 +138,7 @@ fn misreadings() {
     // "A zero-duration sample returned for the time at which it stands."
     let still = Track { stts: vec![(1, 0), (1, 60), (1, 0), (1, 60)], ..w_track() };
     let film = with_track(still).bytes();
-    assert_eq!([0, 59, 60, 119].map(|t| sample_at(&film, 1, t).1), [2, 2, 4, 4]);
+    assert_eq!([0, 59, 60, 119].map(|t| sample_at(&film, 1, t).1), [(2, 2), (2, 2), (4, 4), (4, 4)]);
     // "Media time -1 read as 4,294,967,295."
     let empty = Track { edits: Some(vec![(1, -1, 65536)]), ..w_track() };
     assert_eq!(media_time(&with_track(empty).bytes(), 1, 0), MediaTime::NothingShown);

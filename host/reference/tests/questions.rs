@@ -23,8 +23,8 @@ fn file_refusals_come_first_and_14_before_the_rest() {
     assert_eq!(sample(&refused, 2, 0), (11, Sample::default()));
     assert_eq!(sample(&film, 2, 0), (14, Sample::default()));
     assert_eq!(sample(&film, 0, 1), (14, Sample::default()));
-    assert_eq!(sample_at(&refused, 2, 0), (11, 0));
-    assert_eq!(sample_at(&film, 2, 500), (14, 0));
+    assert_eq!(sample_at(&refused, 2, 0), (11, (0, 0)));
+    assert_eq!(sample_at(&film, 2, 500), (14, (0, 0)));
     assert_eq!(media_time(&refused, 2, 500), MediaTime::Refused(11));
     assert_eq!(media_time(&film, 2, 500), MediaTime::Refused(14));
     assert_eq!(stretch(&film, 2, 5, 5, &mut []), (14, (0, 0)));
@@ -51,6 +51,20 @@ fn lists_fill_the_first_places() {
     let no_tracks = Movie { tracks: vec![], ..w_movie() }.file().bytes();
     assert_eq!(track_list(&no_tracks, &mut []), (0, 0));
     assert_eq!(listing(&no_tracks), "id subtype scale total samples chunks edits\n");
+}
+
+#[test]
+fn entries_looked_at() {
+    // Entries of no duration, and of one sample, before the answer and after it.
+    let film = with(|track| track.stts = vec![(1, 0), (1, 0), (1, 120), (1, 0)]);
+    for t in [0, 119] {
+        assert_eq!(sample_at(&film, 1, t), (0, (3, 3)));
+    }
+    assert_eq!(sample_at(&film, 1, 120), (15, (0, 0)));
+    let film = with(|track| track.stts = vec![(3, 0), (1, 120)]);
+    assert_eq!(sample_at(&film, 1, 0), (0, (4, 2)));
+    let film = with(|track| track.stts = vec![(4, 30)]);
+    assert_eq!(sample_at(&film, 1, 119), (0, (4, 1)));
 }
 
 #[test]

@@ -24,7 +24,8 @@ fn w_itself(films: &mut Films) {
         .profile(1, &[0, 1, 64])
         .ends()
         .strangers()
-        .says(&["at 1 0: 1", "at 1 23: 1", "at 1 24: 2", "at 1 72: 4", "at 1 119: 4", "at 1 120: refused 15"])
+        .says(&["at 1 0: 1 entry 1", "at 1 23: 1 entry 1", "at 1 24: 2 entry 1", "at 1 71: 3 entry 1"])
+        .says(&["at 1 72: 4 entry 2", "at 1 119: 4 entry 2", "at 1 120: refused 15"])
         .says(&[
             "sample 1 0: refused 15, bytes 0 sum 0",
             "sample 1 1: 0 24 0 sync 1 chunk 1 1000 100, bytes 100 sum 5554",
@@ -50,7 +51,7 @@ pub fn films(films: &mut Films) {
         let film = w_film(|track| track.edits = edits(&[(60, -1), (60, media)]));
         let film = films.node(0, &format!("w-edits-60-empty-and-60-from-{media}"), film);
         film.map(1, &[0, 59, 60, 61, 119, 120, u32::MAX]).at(1, &[0, 59, 60, 119, 120]);
-        film.says(&["map 1 59: nothing", "map 1 120: refused 15", "at 1 119: 4"]);
+        film.says(&["map 1 59: nothing", "map 1 120: refused 15", "at 1 119: 4 entry 2"]);
         film.says(if media == 24 { &["map 1 60: 24", "map 1 119: 83"] } else { &["map 1 60: 60", "map 1 119: 119"] });
     }
     films.node(0, "w-second-chunk-at-4026", w_film(|track| track.stco[1] = 4026)).sample(1, &[3, 4, 5]).says(&[
