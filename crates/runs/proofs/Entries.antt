@@ -5,6 +5,7 @@ use mathlib.Core.Path.{_≡_, refl, sym, ap, _∙_}
 use mathlib.Core.Bool.{Bool, true, false, cond}
 use mathlib.Core.List.{List, [], _∷_, map}
 use native.Mathlib.Nat.{div-lt-iff-lt-mul}
+use native.Mathlib.Decide.{decLt}
 use native.Mathlib.Omega.{arith}
 use borrow.Author.Tests.{lt-ltb, le-ltb}
 use lib.Dec.{ltb}
@@ -12,6 +13,7 @@ use lib.ListN.{length, getD, length-map}
 use Rattle.lists.specs.Lists.{sum, before, Run, expand, holder}
 use Rattle.lists.proofs.Laws.{Walk, walk-in, walk-end, pos-of-lt-mul, holder-hit, holder-miss, length-run, getD-in, getD-past}
 use Rattle.lists.proofs.Places.{holder-holds, holds-below}
+use Rattle.runs.specs.declared.Hit.{Hit}
 use Rattle.runs.specs.declared.Looked.{Looked}
 use Rattle.runs.specs.declared.Looked.the-variants as looked
 use Rattle.runs.specs.declared.Lookup.{Lookup}
@@ -79,6 +81,28 @@ module _ {rs : List Run} {r : Run} {rest : List Run} {n p : ℕ} (a : Passed rs 
 pub looked-past : (rs : List Run) {t p l : ℕ} → Walk (expand rs) [] t p l → looked.Outside ≡ lookedUp rs t
 unfolding lookedUp
 looked-past rs w = rw (le-ltb _ _ (walk-end w)) refl
+
+-- what is found at t, and what it says of t where nothing is
+pub looked-known : (rs : List Run) (t : ℕ) (h : Hit) → lookedUp rs t ≡ looked.Hit h → (t < sum (expand rs)) × (h ≡ hitOf rs t)
+unfolding lookedUp
+looked-known rs t h e = elim (decLt t (sum (expand rs))) [
+  | yes l ↦ let o : lookedUp rs t ≡ looked.Hit (hitOf rs t) = rw (lt-ltb t (sum (expand rs)) l) refl in (l, cc)
+  | no l ↦
+      let k : sum (expand rs) ≤ t = omega arith in
+      let o : lookedUp rs t ≡ looked.Outside = rw (le-ltb t (sum (expand rs)) k) refl in
+      let z : _≡_ {A = ℕ} 0 1 = cc in
+      absurd (omega arith)
+]
+
+pub looked-outside : (rs : List Run) (t : ℕ) → lookedUp rs t ≡ looked.Outside → sum (expand rs) ≤ t
+unfolding lookedUp
+looked-outside rs t e = elim (decLt t (sum (expand rs))) [
+  | yes l ↦
+      let o : lookedUp rs t ≡ looked.Hit (hitOf rs t) = rw (lt-ltb t (sum (expand rs)) l) refl in
+      let z : _≡_ {A = ℕ} 0 1 = cc in
+      absurd (omega arith)
+  | no l ↦ omega arith
+]
 
 -- the index alone of what is found
 unfoldable pub indexIn : Looked → Lookup
