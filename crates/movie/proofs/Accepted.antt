@@ -1,13 +1,14 @@
--- What holds of a file that is not refused, beyond its shape: no row of the table holds of its movie or of one of its tracks.
+-- What holds of a film that is not refused, beyond its shape: no row of the table holds of its movie or of one of its tracks.
 -- Assumes nothing.
 use Prim.Native.Nat.{ℕ, _≤_}
 use mathlib.Core.Path.{_≡_, sym, _∙_}
 use mathlib.Core.List.{List, []}
-use mathlib.Core.Bool.{false, _||_}
+use mathlib.Core.Bool.{true, false, _||_}
 use lib.ListN.{length, getD}
 use lib.Dec.{ltb}
 use borrow.Author.Tests.{eqb-true, eqb-false, ltb-false, not-false}
 use Rattle.lists.proofs.Booleans.{or-left, or-right}
+use Rattle.structure.specs.declared.source.Source.{Source}
 use Rattle.structure.specs.Rows.{some}
 use Rattle.structure.specs.Track.{idOf, scaleOf, durationOf, elstOf}
 use Rattle.structure.specs.Movie.{moovOf, movieScale, tracksOf}
@@ -16,38 +17,38 @@ use Rattle.structure.proofs.Callers.{Clear, clear, some-none, shaped, none-else
 use Rattle.edits.specs.Edits.{editTotal}
 use Rattle.track.specs.Refusals.{contradicts, totalIn, totalTooLarge, otherDuration, chunkPastEnd, wrongEdits}
 use Rattle.movie.specs.Tracks.{idsOf, repeats}
-use Rattle.movie.specs.Refusals.{sameIds, idIsZero, movieScaleIsZero, scaleIsZero, fileRefusal}
+use Rattle.movie.specs.Refusals.{sameIds, idIsZero, movieScaleIsZero, scaleIsZero, filmRefusal}
 use Rattle.movie.specs.TableRows.{tableRows, tablesRefusal}
-use Rattle.movie.proofs.Tables.{file-is, table-rows-rise}
+use Rattle.movie.proofs.Tables.{film-is, table-rows-rise}
 
--- a track of a movie of that time scale, in a file of that length
-pub record Accepted (scale len : ℕ) (t : List ℕ) : Type 0 where
+-- a track of a movie of that source and time scale, in a file of that length
+pub record Accepted (w : Source) (scale len : ℕ) (t : List ℕ) : Type 0 where
   pub shape : Shaped t
   pub some-id : idOf t ≡ 0 → ⊥
   pub some-scale : scaleOf t ≡ 0 → ⊥
   pub agree : contradicts t ≡ false
   pub total-fits : totalIn t ≤ 4294967295
   pub edits-fit : editTotal (elstOf t) ≤ 4294967295
-  pub stored : durationOf t ≡ totalIn t
+  pub stored : w .strict ≡ true → durationOf t ≡ totalIn t
   pub within : chunkPastEnd len t ≡ false
   pub edits : wrongEdits scale t ≡ false
 
-pub record AcceptedMovie (len : ℕ) (m : List ℕ) : Type 0 where
+pub record AcceptedMovie (w : Source) (len : ℕ) (m : List ℕ) : Type 0 where
   pub shape : ShapedMovie m
   pub other-ids : repeats (idsOf m) ≡ false
   pub some-scale : movieScale m ≡ 0 → ⊥
-  pub tracks : Each (Accepted (movieScale m) len) (tracksOf m)
+  pub tracks : Each (Accepted w (movieScale m) len) (tracksOf m)
 
-pub record AcceptedFile (s : List ℕ) : Type 0 where
+pub record AcceptedFile (s : List ℕ) (w : Source) : Type 0 where
   pub shape : ShapedFile s
-  pub movie : AcceptedMovie (length s) (moovOf s)
+  pub movie : AcceptedMovie w (length s) (moovOf s)
 
-module _ (len : ℕ) (m : List ℕ) (shape : ShapedMovie m) (e : tablesRefusal len m ≡ 0) where
-  rows-clear : Clear (λ r. r .whole m || some (r .track) (tracksOf m)) (tableRows (movieScale m) len)
+module _ (w : Source) (len : ℕ) (m : List ℕ) (shape : ShapedMovie m) (e : tablesRefusal w len m ≡ 0) where
+  rows-clear : Clear (λ r. r .whole m || some (r .track) (tracksOf m)) (tableRows w (movieScale m) len)
   unfolding tablesRefusal
-  rows-clear = clear _ 6 (tableRows (movieScale m) len) (table-rows-rise (movieScale m) len) e
+  rows-clear = clear _ 6 (tableRows w (movieScale m) len) (table-rows-rise w (movieScale m) len) e
 
-  accepted-movie : AcceptedMovie len m
+  accepted-movie : AcceptedMovie w len m
   unfolding tableRows sameIds idIsZero movieScaleIsZero scaleIsZero totalTooLarge otherDuration
   accepted-movie =
       let r = rows-clear in
@@ -65,14 +66,14 @@ module _ (len : ℕ) (m : List ℕ) (shape : ShapedMovie m) (e : tablesRefusal l
               agree = some-none contradicts (tracksOf m) i (r .1 .1 .0) h;
               total-fits = ltb-false _ _ (or-left _ _ long);
               edits-fit = ltb-false _ _ (or-right (ltb 4294967295 (totalIn t)) _ long);
-              stored = eqb-true _ _ (not-false _ (some-none otherDuration (tracksOf m) i (r .1 .1 .1 .1 .0) h));
+              stored = λ q. eqb-true _ _ (not-false _ (rw q at (some-none (otherDuration w) (tracksOf m) i (r .1 .1 .1 .1 .0) h)));
               within = some-none (chunkPastEnd len) (tracksOf m) i (r .1 .1 .1 .1 .1 .0) h;
               edits = some-none (wrongEdits (movieScale m)) (tracksOf m) i (r .1 .1 .1 .1 .1 .1 .0) h;
             };
       }
 
-pub accepted : (s : List ℕ) → fileRefusal s ≡ 0 → AcceptedFile s
-accepted s e =
-    let n = none-else _ _ (sym (file-is s) ∙ e) in
+pub accepted : (s : List ℕ) (w : Source) → filmRefusal s w ≡ 0 → AcceptedFile s w
+accepted s w e =
+    let n = none-else _ _ (sym (film-is s w) ∙ e) in
     let h = shaped s (n .0) in
-    record { shape = h; movie = accepted-movie (length s) (moovOf s) (h .movie) (n .1) }
+    record { shape = h; movie = accepted-movie w (length s) (moovOf s) (h .movie) (n .1) }

@@ -1,70 +1,38 @@
--- The answers of the track list, from what the code has of the file's refusal, its moov and its tracks.
+-- The promise of an answer, from what the code has of its refusal: for every question, whatever it answers.
 -- Assumes nothing.
-use Prim.Native.Nat.{ℕ, suc, _*_, _≤_, _<_}
-use mathlib.Core.Path.{_≡_, refl, sym, _∙_}
-use mathlib.Core.List.{List, [], _∷_}
-use native.Mathlib.Omega.{arith}
-use borrow.Author.Tests.{eq-eqb, ne-eqb, lt-ltb, le-ltb}
-use lib.ListN.{length}
-use lib.Seq.{sets}
-use Rattle.structure.specs.Movie.{moovOf, movieScale, tracksOf}
-use Rattle.structure.specs.Rows.{orElse}
-use Rattle.structure.proofs.Callers.{Each}
-use Rattle.track.specs.Refusals.{totalIn}
-use Rattle.movie.specs.Refusals.{fileRefusal}
-use Rattle.movie.specs.Rooms.{noRoom, filledRoom, roomAfter}
-use Rattle.movie.specs.TrackList.{linesOf, trackLines, listRefusal, listAnswer, trackListNumbers, listNumbers, Lists}
-use Rattle.movie.specs.Lines.{TotalsFit}
-use Rattle.movie.specs.declared.list.TrackList.the-variants.{Tracks, Refused}
-use Rattle.movie.proofs.Accepted.{Accepted, accepted}
-use Rattle.movie.proofs.Lines.{lines-length, all-lines}
+use Prim.Native.Nat.{ℕ}
+use mathlib.Core.Path.{_≡_, refl, ap, _∙_}
+use mathlib.Core.List.{List}
+use mathlib.Core.Bool.{Bool, true, false, cond}
+use lib.Dec.{eqb}
+use borrow.Author.Tests.{eq-eqb, ne-eqb}
+use Rattle.movie.specs.Rooms.{filledRoom, roomAfter}
+use Rattle.movie.specs.Answers.{given, Gives, Puts}
 
--- ---- what the code may ask of a file that is not refused
+module _ {X Y : Type 0} (tell : X → List Y) (zeros : ℕ → List Y) (refused : ℕ → X) (same : (k : ℕ) → tell (refused k) ≡ zeros k) (x : X) where
+  told : (b : Bool) (k : ℕ) → tell (cond b x (refused k)) ≡ cond b (tell x) (zeros k)
+  told true k = refl
+  told false k = same k
 
-pub few : (s m : List ℕ) (r n : ℕ) → r ≡ fileRefusal s → r ≡ 0 → m ≡ moovOf s → n ≡ length (tracksOf m) → n ≤ 16
-few s m r n e z d c = rw (c, d) (accepted s (sym e ∙ z) .movie .shape .few-tracks)
+  -- the case says the numbers
+  pub gives : (refusal : ℕ) (r : X) → r ≡ given refusal x refused → Gives tell zeros refused refusal x r
+  gives refusal r e = record { answer = e; numbers = ap tell e ∙ told (eqb refusal 0) refusal }
 
-fitting-each : (scale len : ℕ) (ts : List (List ℕ)) → Each (Accepted scale len) ts → TotalsFit ts
-fitting-each scale len [] h = tt
-fitting-each scale len (t ∷ ts) h =
-    let f : totalIn t ≤ 4294967295 = h 0 (omega arith) .total-fits in
-    (omega arith, fitting-each scale len ts (λ i g. h (suc i) (omega arith)))
+  pub gives-refused : (refusal k : ℕ) → refusal ≡ k → (k ≡ 0 → ⊥) → Gives tell zeros refused refusal x (refused k)
+  gives-refused refusal k e n = gives refusal (refused k) (rw (e, ne-eqb k 0 n))
 
-pub fitting : (s m : List ℕ) (r : ℕ) → r ≡ fileRefusal s → r ≡ 0 → m ≡ moovOf s → TotalsFit (tracksOf m)
-fitting s m r e z d = rw d (fitting-each (movieScale (moovOf s)) (length s) (tracksOf (moovOf s)) (accepted s (sym e ∙ z) .movie .tracks))
+  pub gives-answer : (refusal : ℕ) (r : X) → refusal ≡ 0 → r ≡ x → Gives tell zeros refused refusal x r
+  gives-answer refusal r e d = gives refusal r (rw (eq-eqb refusal 0 e) d)
 
--- ---- the answers
+  module _ {Z : Type 0} (list room : List Z) where
+    pub puts : (refusal : ℕ) (r : X) (after : List Z) → r ≡ given refusal x refused → after ≡ roomAfter refusal list room
+        → Puts tell zeros refused refusal x r list room after
+    puts refusal r after e p = let g = gives refusal r e in record { answer = g .answer; numbers = g .numbers; places = p }
 
-answered : (s room after : List ℕ) (r : ℕ) → listRefusal s room ≡ r → (r ≡ 0 → ⊥) → after ≡ room → Lists s room (Refused r) after
-unfolding listAnswer trackListNumbers listNumbers roomAfter
-answered s room after r e n d =
-    record { answer = rw (e, ne-eqb r 0 n); numbers = rw (e, ne-eqb r 0 n); places = rw (e, ne-eqb r 0 n) d }
+    pub puts-refused : (refusal k : ℕ) → refusal ≡ k → (k ≡ 0 → ⊥) → Puts tell zeros refused refusal x (refused k) list room room
+    unfolding roomAfter
+    puts-refused refusal k e n = puts refusal (refused k) room (gives-refused refusal k e n .answer) (rw (e, ne-eqb k 0 n))
 
-pub refused-list : (s room : List ℕ) (r : ℕ) → r ≡ fileRefusal s → (r ≡ 0 → ⊥) → Lists s room (Refused r) room
-unfolding listRefusal orElse
-refused-list s room r e n = answered s room room r (rw (← e, ne-eqb r 0 n)) n refl
-
-module _ (s room m : List ℕ) (r n : ℕ) (e : r ≡ fileRefusal s) (z : r ≡ 0) (d : m ≡ moovOf s) (c : n ≡ length (tracksOf m)) where
-  lines-are : length (trackLines s) ≡ 7 * n
-  unfolding trackLines
-  lines-are = rw (c, d) (lines-length (tracksOf (moovOf s)))
-
-  then-room : listRefusal s room ≡ noRoom (trackLines s) room
-  unfolding listRefusal orElse
-  then-room = rw (← e, eq-eqb r 0 z)
-
-  pub short-list : length room < 7 * n → Lists s room (Refused 16) room
-  unfolding noRoom
-  short-list h = answered s room room 16 (then-room ∙ rw (lt-ltb (length room) (length (trackLines s)) (omega (arith, lines-are)))) (λ q. omega arith) refl
-
-  pub whole-list : (after : List ℕ) → 7 * n ≤ length room → after ≡ sets room 0 (linesOf (tracksOf m)) → Lists s room (Tracks n) after
-  unfolding noRoom listAnswer trackListNumbers listNumbers roomAfter filledRoom trackLines
-  whole-list after h p =
-      let k : listRefusal s room ≡ 0 = then-room ∙ rw (le-ltb (length room) (length (trackLines s)) (omega (arith, lines-are))) in
-      let g : n ≡ length (tracksOf (moovOf s)) = rw d at c in
-      let q : 7 * length (tracksOf (moovOf s)) ≤ length room = omega arith in
-      record {
-        answer = rw (k, ← g);
-        numbers = rw (k, ← g);
-        places = rw k (p ∙ rw d (all-lines (tracksOf (moovOf s)) room q));
-      }
+    pub puts-answer : (refusal : ℕ) (r : X) (after : List Z) → refusal ≡ 0 → r ≡ x → after ≡ filledRoom list room → Puts tell zeros refused refusal x r list room after
+    unfolding roomAfter
+    puts-answer refusal r after e d p = puts refusal r after (gives-answer refusal r e d .answer) (rw (eq-eqb refusal 0 e) p)

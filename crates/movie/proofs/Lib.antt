@@ -1,5 +1,5 @@
 pub mod Places
 pub mod Tables
 pub mod Accepted
-pub mod Lines
+pub mod Strict
 pub mod Answers

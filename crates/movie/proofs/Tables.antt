@@ -10,6 +10,7 @@ use native.Mathlib.Omega.{arith}
 use borrow.Author.Tests.{eq-eqb, ne-eqb}
 use Rattle.atoms.specs.Kinds.{file, moov}
 use Rattle.atoms.proofs.Lengths.{body-short}
+use Rattle.structure.specs.declared.source.Source.{Source}
 use Rattle.structure.specs.Rows.{first, numbersRise, lowest, ofWhole, orElse}
 use Rattle.structure.specs.ByTracks.{ofTrack, ofTracks, lowerOf}
 use Rattle.structure.specs.Movie.{moovOf, movieScale, tracksOf}
@@ -19,53 +20,53 @@ use Rattle.structure.proofs.Rows.{by-tracks, lowest-append}
 use Rattle.structure.proofs.Tracks.{movie-rows-rise}
 use Rattle.structure.proofs.Callers.{shaped}
 use Rattle.track.specs.TrackRows.{trackRows, timedRows}
-use Rattle.movie.specs.Refusals.{idIsZero, scaleIsZero, moovRows, moovRefusal, fileRefusal}
+use Rattle.movie.specs.Refusals.{idIsZero, scaleIsZero, moovRows, moovRefusal, filmRefusal}
 use Rattle.movie.specs.TableRows.{tableRows, tablesRefusal}
 
-pub rows-are : (scale len : ℕ) → moovRows scale len ≡ movieRows ++ tableRows scale len
+pub rows-are : (w : Source) (scale len : ℕ) → moovRows w scale len ≡ movieRows ++ tableRows w scale len
 unfolding moovRows movieRows tableRows
-rows-are scale len = refl
+rows-are w scale len = refl
 
-pub table-rows-rise : (scale len : ℕ) → numbersRise 6 (tableRows scale len) ≡ true
+pub table-rows-rise : (w : Source) (scale len : ℕ) → numbersRise 6 (tableRows w scale len) ≡ true
 unfolding numbersRise tableRows
-table-rows-rise scale len = refl
+table-rows-rise w scale len = refl
 
 -- a track's own number is what the crate track answers
-pub track-rows : (scale len : ℕ) (t : List ℕ) → ofTrack (trackRows scale len) t ≡ ofTrack (tableRows scale len) t
+pub track-rows : (w : Source) (scale len : ℕ) (t : List ℕ) → ofTrack (trackRows w scale len) t ≡ ofTrack (tableRows w scale len) t
 unfolding first trackRows timedRows tableRows idIsZero scaleIsZero
-track-rows scale len t = refl
+track-rows w scale len t = refl
 
-pub tables-by-tracks : (scale len : ℕ) (m : List ℕ) → scale ≡ movieScale m
-    → tablesRefusal len m ≡ lowerOf (ofWhole (tableRows scale len) m) (ofTracks (tableRows scale len) (tracksOf m))
+pub tables-by-tracks : (w : Source) (scale len : ℕ) (m : List ℕ) → scale ≡ movieScale m
+    → tablesRefusal w len m ≡ lowerOf (ofWhole (tableRows w scale len) m) (ofTracks (tableRows w scale len) (tracksOf m))
 unfolding tablesRefusal
-tables-by-tracks scale len m e = rw (← e) (by-tracks 6 (tableRows scale len) m (tracksOf m) (table-rows-rise scale len))
+tables-by-tracks w scale len m e = rw (← e) (by-tracks 6 (tableRows w scale len) m (tracksOf m) (table-rows-rise w scale len))
 
 -- ---- the whole
 
-pub moov-is : (len : ℕ) (m : List ℕ) → moovRefusal len m ≡ orElse (movieRefusal m) (tablesRefusal len m)
+pub moov-is : (w : Source) (len : ℕ) (m : List ℕ) → moovRefusal w len m ≡ orElse (movieRefusal m) (tablesRefusal w len m)
 unfolding moovRefusal movieRefusal tablesRefusal
-moov-is len m =
-    ap (λ rs. lowest rs m (tracksOf m)) (rows-are (movieScale m) len)
-    ∙ lowest-append 3 movieRows (tableRows (movieScale m) len) m (tracksOf m) movie-rows-rise
+moov-is w len m =
+    ap (λ rs. lowest rs m (tracksOf m)) (rows-are w (movieScale m) len)
+    ∙ lowest-append 3 movieRows (tableRows w (movieScale m) len) m (tracksOf m) movie-rows-rise
 
 else-assoc : (a b c : ℕ) → orElse a (orElse b c) ≡ orElse (orElse a b) c
 unfolding orElse
 else-assoc zero b c = refl
 else-assoc (suc a) b c = rw (eqb·suc-zero a, eqb·suc-zero a)
 
-pub file-is : (s : List ℕ) → fileRefusal s ≡ orElse (refusalOf s) (tablesRefusal (length s) (moovOf s))
-unfolding fileRefusal refusalOf
-file-is s = ap (orElse (ofWhole fileRows s)) (moov-is (length s) (moovOf s)) ∙ else-assoc (ofWhole fileRows s) (movieRefusal (moovOf s)) (tablesRefusal (length s) (moovOf s))
+pub film-is : (s : List ℕ) (w : Source) → filmRefusal s w ≡ orElse (refusalOf s) (tablesRefusal w (length s) (moovOf s))
+unfolding filmRefusal refusalOf
+film-is s w = ap (orElse (ofWhole fileRows s)) (moov-is w (length s) (moovOf s)) ∙ else-assoc (ofWhole fileRows s) (movieRefusal (moovOf s)) (tablesRefusal w (length s) (moovOf s))
 
 -- ---- from what a caller has of `structure::refusal`, `moov_body` and `tables_refusal`
 
-pub refused-first : (s : List ℕ) (r : ℕ) → r ≡ refusalOf s → (r ≡ 0 → ⊥) → r ≡ fileRefusal s
+pub refused-first : (s : List ℕ) (w : Source) (r : ℕ) → r ≡ refusalOf s → (r ≡ 0 → ⊥) → r ≡ filmRefusal s w
 unfolding orElse
-refused-first s r e n = sym (file-is s ∙ rw (← e, ne-eqb r 0 n))
+refused-first s w r e n = sym (film-is s w ∙ rw (← e, ne-eqb r 0 n))
 
-pub then-tables : (s m : List ℕ) (r q : ℕ) → r ≡ refusalOf s → r ≡ 0 → m ≡ moovOf s → q ≡ tablesRefusal (length s) m → q ≡ fileRefusal s
+pub then-tables : (s m : List ℕ) (w : Source) (r q : ℕ) → r ≡ refusalOf s → r ≡ 0 → m ≡ moovOf s → q ≡ tablesRefusal w (length s) m → q ≡ filmRefusal s w
 unfolding orElse
-then-tables s m r q e z d h = sym (file-is s ∙ rw (← e, eq-eqb r 0 z, ← d, ← h))
+then-tables s m w r q e z d h = sym (film-is s w ∙ rw (← e, eq-eqb r 0 z, ← d, ← h))
 
 pub moov-fits : (s m : List ℕ) (r : ℕ) → r ≡ refusalOf s → r ≡ 0 → m ≡ moovOf s → length m < 2 ^ 32
 unfolding moovOf

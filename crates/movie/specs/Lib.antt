@@ -2,5 +2,4 @@ pub mod Tracks
 pub mod Refusals
 pub mod TableRows
 pub mod Rooms
-pub mod TrackList
-pub mod Lines
+pub mod Answers

@@ -5,6 +5,7 @@ use mathlib.Core.List.{List, [], _∷_}
 use mathlib.Core.Bool.{Bool}
 use lib.ListN.{length}
 use lib.Dec.{eqb}
+use Rattle.structure.specs.declared.source.Source.{Source}
 use Rattle.structure.specs.Track.{idOf, scaleOf}
 use Rattle.structure.specs.Movie.{moovOf, tracksOf, movieScale}
 use Rattle.structure.specs.Limits.{overLimits, tooMany}
@@ -27,10 +28,10 @@ movieScaleIsZero m = eqb (movieScale m) 0
 unfoldable pub scaleIsZero : List ℕ → Bool
 scaleIsZero t = eqb (scaleOf t) 0
 
--- the rows that are judged on the movie, its time scale and the file's length given: number, condition on the body of its moov, condition
--- on a track. The rows 1 to 3, which are judged on the file, are `fileRows` of the crate structure
-unfoldable pub moovRows : ℕ → ℕ → List Row
-moovRows scale len =
+-- the rows that are judged on the movie, its source, its time scale and the file's length given: number, condition on the body of its moov,
+-- condition on a track. The rows 1 to 3, which are judged on the file, are `fileRows` of the crate structure
+unfoldable pub moovRows : Source → ℕ → ℕ → List Row
+moovRows w scale len =
     row 4 wrongVersion never
     ∷ row 5 wrongSize wrongTrackSize
     ∷ row 6 tooMany overLimits
@@ -38,15 +39,15 @@ moovRows scale len =
     ∷ row 8 movieScaleIsZero scaleIsZero
     ∷ row 9 never contradicts
     ∷ row 10 never totalTooLarge
-    ∷ row 11 never otherDuration
+    ∷ row 11 never (otherDuration w)
     ∷ row 12 never (chunkPastEnd len)
     ∷ row 13 never (wrongEdits scale)
     ∷ []
 
 -- the refusal of a movie, from the body of its moov and the length of its file; 0 where it is not refused
-unfoldable pub moovRefusal : ℕ → List ℕ → ℕ
-moovRefusal len m = lowest (moovRows (movieScale m) len) m (tracksOf m)
+unfoldable pub moovRefusal : Source → ℕ → List ℕ → ℕ
+moovRefusal w len m = lowest (moovRows w (movieScale m) len) m (tracksOf m)
 
--- the refusal of a file: the lowest number that applies; 0 where the file is not refused
-unfoldable pub fileRefusal : List ℕ → ℕ
-fileRefusal s = orElse (ofWhole fileRows s) (moovRefusal (length s) (moovOf s))
+-- the refusal of a film, from the bytes lent and its source: the lowest number that applies; 0 where the film is not refused
+unfoldable pub filmRefusal : List ℕ → Source → ℕ
+filmRefusal s w = orElse (ofWhole fileRows s) (moovRefusal w (length s) (moovOf s))

@@ -1,5 +1,4 @@
-// A movie file: refusals 1 to 13 as one answer, its tracks by ID, and the list of its tracks.
-pub mod list;
+// A movie file: refusals 1 to 13 as one answer, and its tracks by ID.
 pub mod tracks;
 
 use atoms::body_of;
@@ -9,19 +8,20 @@ use bigendian::u32_at;
 use structure::lower_of;
 use structure::moov::moov_body;
 use structure::moov::movie_scale;
+use structure::source::Source;
 use tracks::ids_repeat;
 ghost use mathlib.Core.Path.{_≡_};
 ghost use Prim.Native.Nat.{_<_, _^_};
 ghost use lib.ListN.{length};
 ghost use Rattle.structure.specs.Movie.{movieScale};
 ghost use Rattle.structure.specs.Rows.{ofWhole};
-ghost use Rattle.movie.specs.Refusals.{fileRefusal};
+ghost use Rattle.movie.specs.Refusals.{filmRefusal};
 ghost use Rattle.movie.specs.TableRows.{tableRows, tablesRefusal};
 
 // What 7 and 8 say of the movie itself: an ID that occurs twice, a time scale of 0.
-fn own_refusal(moov: &[u8], scale: u32, len: u64) -> u32
+fn own_refusal(moov: &[u8], scale: u32, len: u64, source: Source) -> u32
     requires { ⌜ scale ≡ movieScale (now moov) ⌝ }
-    ensures { λ r. ⌜ r ≡ ofWhole (tableRows scale len) (now (moov .entry)) ⌝ }
+    ensures { λ r. ⌜ r ≡ ofWhole (tableRows source scale len) (now (moov .entry)) ⌝ }
 {
     if ids_repeat(moov) {
         return 7;
@@ -32,34 +32,34 @@ fn own_refusal(moov: &[u8], scale: u32, len: u64) -> u32
     0
 }
 
-// The lowest of 7 to 13 that applies to a movie, from the body of its moov and the length of its file; 0 where none does.
-fn tables_refusal(moov: &[u8], len: u64) -> u32
+// The lowest of 7 to 13 that applies to a movie, from the body of its moov, the length of its file and its source; 0 where none does.
+fn tables_refusal(moov: &[u8], len: u64, source: Source) -> u32
     requires { ⌜ length (now moov) < 2 ^ 32 ⌝ }
-    ensures { λ r. ⌜ r ≡ tablesRefusal len (now (moov .entry)) ⌝ }
+    ensures { λ r. ⌜ r ≡ tablesRefusal source len (now (moov .entry)) ⌝ }
 {
     let scale = movie_scale(moov);
     let mut t = moov;
-    let mut found = own_refusal(moov, scale, len);
+    let mut found = own_refusal(moov, scale, len, source);
     loop {
         let n = size_in(t, kinds::MOOV);
         if n < 8 {
             return found;
         }
         if u32_at(t, 4) == kinds::TRAK {
-            let next = track::refusal(body_of(&t[..n]), scale, len);
+            let next = track::refusal(body_of(&t[..n]), scale, len, source);
             found = lower_of(found, next);
         }
         t = &t[n..];
     }
 }
 
-// The refusal of a file: the lowest of 1 to 13 that applies, or 0.
-pub fn refusal(file: &[u8]) -> u32
-    ensures { λ r. ⌜ r ≡ fileRefusal (now (file .entry)) ⌝ }
+// The refusal of a film: the lowest of 1 to 13 that applies, or 0.
+pub fn refusal(lent: &[u8], source: Source) -> u32
+    ensures { λ r. ⌜ r ≡ filmRefusal (now (lent .entry)) source ⌝ }
 {
-    let found = structure::refusal(file);
+    let found = structure::refusal(lent);
     if found != 0 {
         return found;
     }
-    tables_refusal(moov_body(file), file.len() as u64)
+    tables_refusal(moov_body(lent), lent.len() as u64, source)
 }

@@ -14,6 +14,7 @@ use Rattle.bigendian.specs.BigEndian.{u32At}
 use Rattle.atoms.specs.Kinds.{stsz}
 use Rattle.words.specs.Words.{listed, sizes}
 use Rattle.words.proofs.Turns.{length-words, sizes-listed, sizes-common}
+use Rattle.structure.specs.declared.source.Source.{Source}
 use Rattle.structure.specs.Track.{idOf, tableOf, samplesOf}
 use Rattle.structure.specs.Movie.{moovOf, movieScale, tracksOf}
 use Rattle.structure.specs.Rows.{orElse}
@@ -23,20 +24,20 @@ use Rattle.structure.proofs.Lengths.{table-short, track-short}
 use Rattle.track.specs.Refusals.{totalIn}
 use Rattle.track.proofs.Agreed.{agreed-tables}
 use Rattle.features.specs.Features.{Computable}
-use Rattle.movie.specs.Refusals.{fileRefusal}
+use Rattle.movie.specs.Refusals.{filmRefusal}
 use Rattle.movie.specs.Tracks.{withId, hasTrack, trackWith}
 use Rattle.movie.proofs.Accepted.{Accepted, AcceptedFile, accepted}
 use Rattle.questions.specs.Asked.{askRefusal, trackAsked}
 
--- ---- the refusal, from what the code has of the file's and of the IDs
+-- ---- the refusal, from what the code has of the film's and of the IDs
 
-pub ask-file : (s : List ℕ) (id r : ℕ) → r ≡ fileRefusal s → (r ≡ 0 → ⊥) → r ≡ askRefusal s id
+pub ask-film : (s : List ℕ) (w : Source) (id r : ℕ) → r ≡ filmRefusal s w → (r ≡ 0 → ⊥) → r ≡ askRefusal s w id
 unfolding askRefusal orElse
-ask-file s id r e n = rw (← e, ne-eqb r 0 n)
+ask-film s w id r e n = rw (← e, ne-eqb r 0 n)
 
-pub ask-track : (s m : List ℕ) (id r : ℕ) (h : Bool) → r ≡ fileRefusal s → r ≡ 0 → m ≡ moovOf s → h ≡ hasTrack id m → askRefusal s id ≡ cond h 0 14
+pub ask-track : (s m : List ℕ) (w : Source) (id r : ℕ) (h : Bool) → r ≡ filmRefusal s w → r ≡ 0 → m ≡ moovOf s → h ≡ hasTrack id m → askRefusal s w id ≡ cond h 0 14
 unfolding askRefusal orElse
-ask-track s m id r h e z d q = rw (← e, eq-eqb r 0 z, ← d, ← q)
+ask-track s m w id r h e z d q = rw (← e, eq-eqb r 0 z, ← d, ← q)
 
 -- ---- the track
 
@@ -49,22 +50,22 @@ with-each P id (t ∷ ts) h e = go (eqb (idOf t) id) refl (λ q. with-each P id 
     go true q r = rw q (e 0 (omega arith))
     go false q r = rw q (r q)
 
-pub record AskedTrack (s : List ℕ) (id : ℕ) : Type 0 where
-  pub file : AcceptedFile s
+pub record AskedTrack (s : List ℕ) (w : Source) (id : ℕ) : Type 0 where
+  pub file : AcceptedFile s w
   pub has : hasTrack id (moovOf s) ≡ true
-  pub track : Accepted (movieScale (moovOf s)) (length s) (trackAsked s id)
+  pub track : Accepted w (movieScale (moovOf s)) (length s) (trackAsked s id)
   pub short : length (trackAsked s id) ≤ length s
 
-pub asked : (s : List ℕ) (id : ℕ) → askRefusal s id ≡ 0 → AskedTrack s id
+pub asked : (s : List ℕ) (w : Source) (id : ℕ) → askRefusal s w id ≡ 0 → AskedTrack s w id
 unfolding askRefusal trackAsked hasTrack trackWith
-asked s id e =
+asked s w id e =
     let n = none-else _ _ e in
-    let f = accepted s (n .0) in
+    let f = accepted s w (n .0) in
     let h = cond-zero _ 14 (omega arith) (n .1) in
     record {
       file = f;
       has = h;
-      track = with-each (Accepted (movieScale (moovOf s)) (length s)) id (tracksOf (moovOf s)) h (f .movie .tracks);
+      track = with-each (Accepted w (movieScale (moovOf s)) (length s)) id (tracksOf (moovOf s)) h (f .movie .tracks);
       short = with-each (λ t. length t ≤ length s) id (tracksOf (moovOf s)) h (λ i g. rw (track-at (moovOf s) i) (track-short i s));
     }
 
@@ -79,12 +80,12 @@ sizes-count t h =
       | no e ↦ ap length (sizes-common z refl e) ∙ length-replicate (u32At z 16) (u32At z 12)
     ]
 
-module _ (s t : List ℕ) (id r : ℕ) (e : r ≡ askRefusal s id) (z : r ≡ 0) (d : t ≡ trackAsked s id) where
-  pub asked-track : Accepted (movieScale (moovOf s)) (length s) t
-  asked-track = rw d (asked s id (sym e ∙ z) .track)
+module _ (s t : List ℕ) (w : Source) (id r : ℕ) (e : r ≡ askRefusal s w id) (z : r ≡ 0) (d : t ≡ trackAsked s id) where
+  pub asked-track : Accepted w (movieScale (moovOf s)) (length s) t
+  asked-track = rw d (asked s w id (sym e ∙ z) .track)
 
   pub asked-short : length t < 2 ^ 32
-  asked-short = let a = asked s id (sym e ∙ z) in rw d (omega (arith, a .short, a .file .shape .short))
+  asked-short = let a = asked s w id (sym e ∙ z) in rw d (omega (arith, a .short, a .file .shape .short))
 
   pub asked-total : totalIn t < 4294967296
   asked-total = omega (arith, asked-track .total-fits)

@@ -1,17 +1,19 @@
 -- The answers of the feature question, from what the code has of the track.
 -- Assumes nothing.
 use Prim.Native.Nat.{ℕ}
-use mathlib.Core.Path.{_≡_, sym, ap, _∙_}
+use mathlib.Core.Path.{_≡_, refl, sym, ap, _∙_}
 use mathlib.Core.List.{List}
-use borrow.Author.Tests.{eq-eqb, ne-eqb}
 use Rattle.features.specs.Features.{featureOf, peakFor}
 use Rattle.rates.specs.declared.Feature.{Feature}
 use Rattle.rates.specs.declared.Feature.the-variants as features
+use Rattle.structure.specs.declared.source.Source.{Source}
 use Rattle.track.specs.Track.{trackOf}
+use Rattle.movie.specs.Rooms.{refusedWith}
+use Rattle.movie.proofs.Answers.{gives-refused, gives-answer}
 use Rattle.questions.specs.Asked.{askRefusal, trackAsked}
 use Rattle.peaks.specs.declared.Peak.{Peak}
 use Rattle.peaks.specs.declared.Peak.the-variants as peaks
-use Rattle.questions.specs.Feature.{toValue, featureAnswer, featureNumbers, Computes, toRun, peakAnswer, peakNumbers, Locates}
+use Rattle.questions.specs.Feature.{toValue, featureAsked, featureNumbers, Computes, toRun, peakAsked, peakNumbers, Locates}
 use Rattle.questions.specs.declared.feature.FeatureAnswer.{FeatureAnswer}
 use Rattle.questions.specs.declared.feature.FeatureAnswer.the-variants.{Value, Refused}
 use Rattle.questions.specs.declared.feature.PeakAnswer.{PeakAnswer}
@@ -25,16 +27,15 @@ pub to-refused : (f : Feature) → f ≡ features.NotComputed → Refused 18 ≡
 unfolding toValue
 to-refused f e = sym (ap toValue e)
 
-pub not-computed : (s : List ℕ) (id code r : ℕ) → r ≡ askRefusal s id → (r ≡ 0 → ⊥) → Computes s id code (Refused r)
-unfolding featureAnswer featureNumbers
-not-computed s id code r e n = record { answer = rw (← e, ne-eqb r 0 n); numbers = rw (← e, ne-eqb r 0 n) }
+pub not-computed : (s : List ℕ) (w : Source) (id code r : ℕ) → r ≡ askRefusal s w id → (r ≡ 0 → ⊥) → Computes s w id code (Refused r)
+unfolding featureNumbers
+not-computed s w id code r e n = gives-refused featureNumbers (refusedWith 1) Refused (λ k. refl) (featureAsked s id code) (askRefusal s w id) r (sym e) n
 
-pub computed : (s t : List ℕ) (id code r : ℕ) (f : Feature) (a : FeatureAnswer) → r ≡ askRefusal s id → r ≡ 0 → t ≡ trackAsked s id → f ≡ featureOf (trackOf t) code → a ≡ toValue f
-    → Computes s id code a
-unfolding featureAnswer
-computed s t id code r f a e z d g h =
-    let w : a ≡ toValue (featureOf (trackOf (trackAsked s id)) code) = h ∙ ap toValue (g ∙ rw d) in
-    record { answer = rw (← e, eq-eqb r 0 z) w; numbers = rw (← e, eq-eqb r 0 z) (ap featureNumbers w) }
+pub computed : (s t : List ℕ) (w : Source) (id code r : ℕ) (f : Feature) (a : FeatureAnswer) → r ≡ askRefusal s w id → r ≡ 0 → t ≡ trackAsked s id
+    → f ≡ featureOf (trackOf t) code → a ≡ toValue f → Computes s w id code a
+unfolding featureNumbers
+computed s t w id code r f a e z d g h =
+    gives-answer featureNumbers (refusedWith 1) Refused (λ k. refl) (featureAsked s id code) (askRefusal s w id) a (sym e ∙ z) (h ∙ ap toValue (g ∙ rw d))
 
 -- ---- where the peak is
 
@@ -46,13 +47,12 @@ pub to-not-located : (p : Peak) → p ≡ peaks.NotComputed → runs.Refused 18 
 unfolding toRun
 to-not-located p e = sym (ap toRun e)
 
-pub not-located : (s : List ℕ) (id code r : ℕ) → r ≡ askRefusal s id → (r ≡ 0 → ⊥) → Locates s id code (runs.Refused r)
-unfolding peakAnswer peakNumbers
-not-located s id code r e n = record { answer = rw (← e, ne-eqb r 0 n); numbers = rw (← e, ne-eqb r 0 n) }
+pub not-located : (s : List ℕ) (w : Source) (id code r : ℕ) → r ≡ askRefusal s w id → (r ≡ 0 → ⊥) → Locates s w id code (runs.Refused r)
+unfolding peakNumbers
+not-located s w id code r e n = gives-refused peakNumbers (refusedWith 2) runs.Refused (λ k. refl) (peakAsked s id code) (askRefusal s w id) r (sym e) n
 
-pub located : (s t : List ℕ) (id code r : ℕ) (p : Peak) (a : PeakAnswer) → r ≡ askRefusal s id → r ≡ 0 → t ≡ trackAsked s id → p ≡ peakFor (trackOf t) code → a ≡ toRun p
-    → Locates s id code a
-unfolding peakAnswer
-located s t id code r p a e z d g h =
-    let w : a ≡ toRun (peakFor (trackOf (trackAsked s id)) code) = h ∙ ap toRun (g ∙ rw d) in
-    record { answer = rw (← e, eq-eqb r 0 z) w; numbers = rw (← e, eq-eqb r 0 z) (ap peakNumbers w) }
+pub located : (s t : List ℕ) (w : Source) (id code r : ℕ) (p : Peak) (a : PeakAnswer) → r ≡ askRefusal s w id → r ≡ 0 → t ≡ trackAsked s id
+    → p ≡ peakFor (trackOf t) code → a ≡ toRun p → Locates s w id code a
+unfolding peakNumbers
+located s t w id code r p a e z d g h =
+    gives-answer peakNumbers (refusedWith 2) runs.Refused (λ k. refl) (peakAsked s id code) (askRefusal s w id) a (sym e ∙ z) (h ∙ ap toRun (g ∙ rw d))

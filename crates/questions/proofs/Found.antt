@@ -24,14 +24,17 @@ use Rattle.chunks.specs.declared.Located.{Located}
 use Rattle.chunks.proofs.Agreed.{samples-length}
 use Rattle.chunks.proofs.Finding.{offset-located}
 use Rattle.chunk_ends.proofs.Ends.{all-within, sample-within}
+use Rattle.structure.specs.declared.source.Source.{Source}
+use Rattle.structure.specs.Source.{wholeFile}
 use Rattle.structure.specs.Track.{tableOf, samplesOf, chunksOf}
 use Rattle.structure.specs.Rows.{orElse}
 use Rattle.structure.proofs.Callers.{none-else}
 use Rattle.track.specs.Track.{trackOf}
 use Rattle.track.specs.Refusals.{contradicts, totalIn, chunkPastEnd}
+use Rattle.movie.proofs.Answers.{gives-refused, gives-answer}
 use Rattle.track.proofs.Agreed.{agreed-tables}
 use Rattle.questions.specs.Asked.{askRefusal, trackAsked}
-use Rattle.questions.specs.Samples.{sampleOf, sampleRefusal, sampleAnswer, sampleNumbers, Samples, bytesStart, bytesLength, PartOf, SampleBytes}
+use Rattle.questions.specs.Samples.{sampleOf, sampleRefusal, sampleAsked, sampleAnswer, sampleZeros, sampleNumbers, Samples, bytesStart, bytesLength, PartOf, SampleBytes}
 use Rattle.questions.specs.declared.samples.Sample.{Sample}
 use Rattle.questions.specs.declared.samples.SampleAnswer.{SampleAnswer}
 use Rattle.questions.specs.declared.samples.SampleAnswer.the-variants.{Found, Refused}
@@ -81,90 +84,91 @@ sample-made t x y z o c w i n r shift comp p sync off size h ex er ey es ec ez e
 
 -- ---- the answers
 
-refused-sample : (s : List ℕ) (id n r : ℕ) → sampleRefusal s id n ≡ r → (r ≡ 0 → ⊥) → Samples s id n (Refused r)
-unfolding sampleAnswer sampleNumbers
-refused-sample s id n r e z = record { answer = rw (e, ne-eqb r 0 z); numbers = rw (e, ne-eqb r 0 z) }
+refused-sample : (s : List ℕ) (w : Source) (id n r : ℕ) → sampleRefusal s w id n ≡ r → (r ≡ 0 → ⊥) → Samples s w id n (Refused r)
+unfolding sampleNumbers
+refused-sample s w id n r e z = gives-refused sampleNumbers sampleZeros Refused (λ k. refl) (sampleAsked s id n) (sampleRefusal s w id n) r e z
 
-pub no-track : (s : List ℕ) (id n r : ℕ) → r ≡ askRefusal s id → (r ≡ 0 → ⊥) → Samples s id n (Refused r)
+pub no-track : (s : List ℕ) (w : Source) (id n r : ℕ) → r ≡ askRefusal s w id → (r ≡ 0 → ⊥) → Samples s w id n (Refused r)
 unfolding sampleRefusal orElse
-no-track s id n r e z = refused-sample s id n r (rw (← e, ne-eqb r 0 z)) z
+no-track s w id n r e z = refused-sample s w id n r (rw (← e, ne-eqb r 0 z)) z
 
-module _ (s t : List ℕ) (id n r : ℕ) (e : r ≡ askRefusal s id) (z : r ≡ 0) (d : t ≡ trackAsked s id) where
-  pub sample-zero : n ≡ 0 → Samples s id n (Refused 15)
+module _ (s t : List ℕ) (w : Source) (id n r : ℕ) (e : r ≡ askRefusal s w id) (z : r ≡ 0) (d : t ≡ trackAsked s id) where
+  pub sample-zero : n ≡ 0 → Samples s w id n (Refused 15)
   unfolding sampleRefusal orElse
-  sample-zero q = refused-sample s id n 15 (rw (← e, eq-eqb r 0 z, q)) (λ y. omega arith)
+  sample-zero q = refused-sample s w id n 15 (rw (← e, eq-eqb r 0 z, q)) (λ y. omega arith)
 
   module _ (c : ℕ) (x : List ℕ) (g : x ≡ tableOf stsz t) (f : c ≡ u32At x 16) where
     count-is : c ≡ samplesOf (trackAsked s id)
     count-is = f ∙ rw (g, d)
 
-    pub sample-past : (n ≡ 0 → ⊥) → c < n → Samples s id n (Refused 15)
+    pub sample-past : (n ≡ 0 → ⊥) → c < n → Samples s w id n (Refused 15)
     unfolding sampleRefusal orElse
     sample-past k h =
-        refused-sample s id n 15 (rw (← e, eq-eqb r 0 z, ← count-is, lt-ltb 0 n (omega arith), lt-leb n c h)) (λ y. omega arith)
+        refused-sample s w id n 15 (rw (← e, eq-eqb r 0 z, ← count-is, lt-ltb 0 n (omega arith), lt-leb n c h)) (λ y. omega arith)
 
     pub sample-index : (n ≡ 0 → ⊥) → n ≤ c → n - 1 < samplesOf t
-    sample-index k h = let w : c ≡ samplesOf t = f ∙ rw g in omega arith
+    sample-index k h = let y : c ≡ samplesOf t = f ∙ rw g in omega arith
 
-    pub sample-found : (n ≡ 0 → ⊥) → n ≤ c → (v : Sample) → v ≡ sampleOf (trackOf t) (n - 1) → Samples s id n (Found v)
-    unfolding sampleRefusal sampleAnswer sampleNumbers orElse
+    pub sample-found : (n ≡ 0 → ⊥) → n ≤ c → (v : Sample) → v ≡ sampleOf (trackOf t) (n - 1) → Samples s w id n (Found v)
+    unfolding sampleRefusal sampleNumbers orElse
     sample-found k h v q =
-        let w : sampleRefusal s id n ≡ 0 = rw (← e, eq-eqb r 0 z, ← count-is, lt-ltb 0 n (omega arith), le-leb n c h) in
-        record { answer = rw (w, ← d, ← q); numbers = rw (w, ← d, ← q) }
+        let y : sampleRefusal s w id n ≡ 0 = rw (← e, eq-eqb r 0 z, ← count-is, lt-ltb 0 n (omega arith), le-leb n c h) in
+        gives-answer sampleNumbers sampleZeros Refused (λ i. refl) (sampleAsked s id n) (sampleRefusal s w id n) (Found v) y
+        (ap Found (q ∙ ap (λ (l : List ℕ). sampleOf (trackOf l) (n - 1)) d))
 
 -- ---- the bytes
 
 -- a question that is not refused asks for one of the track's samples
-in-track : (s : List ℕ) (id n : ℕ) → sampleRefusal s id n ≡ 0 → (askRefusal s id ≡ 0) × (n - 1 < samplesOf (trackAsked s id))
+in-track : (s : List ℕ) (w : Source) (id n : ℕ) → sampleRefusal s w id n ≡ 0 → (askRefusal s w id ≡ 0) × (n - 1 < samplesOf (trackAsked s id))
 unfolding sampleRefusal
-in-track s id n e =
+in-track s w id n e =
     let q = none-else _ _ e in
     let r = cond-zero _ 15 (omega arith) (q .1) in
     let lo = ltb-true 0 n (and-left _ _ r) in
     let hi = leb-true n (samplesOf (trackAsked s id)) (and-right (ltb 0 n) _ r) in
     (q .0, omega arith)
 
-within-file : (s : List ℕ) (id n : ℕ) → sampleRefusal s id n ≡ 0
+within-file : (s : List ℕ) (w : Source) (id n : ℕ) → sampleRefusal s w id n ≡ 0
     → sampleOf (trackOf (trackAsked s id)) (n - 1) .offset + sampleOf (trackOf (trackAsked s id)) (n - 1) .size ≤ length s
 unfolding sampleOf trackOf chunkPastEnd
-within-file s id n e =
+within-file s w id n e =
     let t = trackAsked s id in
-    let q = in-track s id n e in
-    let a = asked s id (q .0) .track in
+    let q = in-track s w id n e in
+    let a = asked s w id (q .0) .track in
     let g = agreed-tables t (a .agree) in
     let ps = perChunk (tableOf stsc t) (chunksOf t) in
-    let w = all-within (length s) ps (chunkOffsets (tableOf stco t)) (sizes (tableOf stsz t)) (not-false _ (a .within)) in
-    sample-within (length s) ps (chunkOffsets (tableOf stco t)) (sizes (tableOf stsz t)) (n - 1) w (omega (arith, g .dealt, q .1))
+    let y = all-within (length s) ps (chunkOffsets (tableOf stco t)) (sizes (tableOf stsz t)) (not-false _ (a .within)) in
+    sample-within (length s) ps (chunkOffsets (tableOf stco t)) (sizes (tableOf stsz t)) (n - 1) y (omega (arith, g .dealt, q .1))
 
-bytes-within : (s : List ℕ) (id n : ℕ) → bytesStart (sampleAnswer s id n) + bytesLength (sampleAnswer s id n) ≤ length s
-unfolding sampleAnswer bytesStart bytesLength
-bytes-within s id n = go (eqb (sampleRefusal s id n) 0) refl
+bytes-within : (s : List ℕ) (w : Source) (id n : ℕ) → bytesStart (sampleAnswer s w id n) + bytesLength (sampleAnswer s w id n) ≤ length s
+unfolding bytesStart bytesLength
+bytes-within s w id n = go (eqb (sampleRefusal s w id n) 0) refl
   where
-    go : (b : Bool) → eqb (sampleRefusal s id n) 0 ≡ b
-        → bytesStart (cond b (Found (sampleOf (trackOf (trackAsked s id)) (n - 1))) (Refused (sampleRefusal s id n)))
-        + bytesLength (cond b (Found (sampleOf (trackOf (trackAsked s id)) (n - 1))) (Refused (sampleRefusal s id n))) ≤ length s
-    go true q = within-file s id n (eqb-true _ _ q)
+    go : (b : Bool) → eqb (sampleRefusal s w id n) 0 ≡ b
+        → bytesStart (cond b (Found (sampleOf (trackOf (trackAsked s id)) (n - 1))) (Refused (sampleRefusal s w id n)))
+        + bytesLength (cond b (Found (sampleOf (trackOf (trackAsked s id)) (n - 1))) (Refused (sampleRefusal s w id n))) ≤ length s
+    go true q = within-file s w id n (eqb-true _ _ q)
     go false q = omega arith
 
 -- from what the code has of the answer
-found-bytes : (s : List ℕ) (id n : ℕ) (r : SampleAnswer) (v : Sample) → Samples s id n r → r ≡ Found v
-    → (bytesStart (sampleAnswer s id n) ≡ v .offset) × (bytesLength (sampleAnswer s id n) ≡ v .size)
+found-bytes : (s : List ℕ) (w : Source) (id n : ℕ) (r : SampleAnswer) (v : Sample) → Samples s w id n r → r ≡ Found v
+    → (bytesStart (sampleAnswer s w id n) ≡ v .offset) × (bytesLength (sampleAnswer s w id n) ≡ v .size)
 unfolding bytesStart bytesLength
-found-bytes s id n r v a e = let q = sym (a .answer) ∙ e in (ap bytesStart q, ap bytesLength q)
+found-bytes s w id n r v a e = let q = sym (a .answer) ∙ e in (ap bytesStart q, ap bytesLength q)
 
-refused-bytes : (s : List ℕ) (id n : ℕ) (r : SampleAnswer) (k : ℕ) → Samples s id n r → r ≡ Refused k
-    → (bytesStart (sampleAnswer s id n) ≡ 0) × (bytesLength (sampleAnswer s id n) ≡ 0)
+refused-bytes : (s : List ℕ) (w : Source) (id n : ℕ) (r : SampleAnswer) (k : ℕ) → Samples s w id n r → r ≡ Refused k
+    → (bytesStart (sampleAnswer s w id n) ≡ 0) × (bytesLength (sampleAnswer s w id n) ≡ 0)
 unfolding bytesStart bytesLength
-refused-bytes s id n r k a e = let q = sym (a .answer) ∙ e in (ap bytesStart q, ap bytesLength q)
+refused-bytes s w id n r k a e = let q = sym (a .answer) ∙ e in (ap bytesStart q, ap bytesLength q)
 
-pub found-fits : (s : List ℕ) (id n : ℕ) (r : SampleAnswer) (v : Sample) → Samples s id n r → r ≡ Found v → v .offset + v .size ≤ length s
-found-fits s id n r v a e = let q = found-bytes s id n r v a e in omega (arith, q .0, q .1, bytes-within s id n)
+pub found-fits : (s : List ℕ) (w : Source) (id n : ℕ) (r : SampleAnswer) (v : Sample) → Samples s w id n r → r ≡ Found v → v .offset + v .size ≤ length s
+found-fits s w id n r v a e = let q = found-bytes s w id n r v a e in omega (arith, q .0, q .1, bytes-within s w id n)
 
-pub found-part : (file r : RefT (List ℕ)) (id n : ℕ) (a : SampleAnswer) (v : Sample) → Samples (now file) id n a → a ≡ Found v → PartOf file (v .offset) (v .size) r → SampleBytes file id n r
-found-part file r id n a v p e q = let w = found-bytes (now file) id n a v p e in rw (w .0, w .1) q
+pub found-part : (file r : RefT (List ℕ)) (w : Source) (id n : ℕ) (a : SampleAnswer) (v : Sample) → w ≡ wholeFile → Samples (now file) w id n a → a ≡ Found v → PartOf file (v .offset) (v .size) r → SampleBytes file id n r
+found-part file r w id n a v h p e q = let b = found-bytes (now file) wholeFile id n a v (rw h at p) e in rw (b .0, b .1) q
 
-pub refused-part : (file r : RefT (List ℕ)) (id n : ℕ) (a : SampleAnswer) (k : ℕ) → Samples (now file) id n a → a ≡ Refused k → PartOf file 0 0 r → SampleBytes file id n r
-refused-part file r id n a k p e q = let w = refused-bytes (now file) id n a k p e in rw (w .0, w .1) q
+pub refused-part : (file r : RefT (List ℕ)) (w : Source) (id n : ℕ) (a : SampleAnswer) (k : ℕ) → w ≡ wholeFile → Samples (now file) w id n a → a ≡ Refused k → PartOf file 0 0 r → SampleBytes file id n r
+refused-part file r w id n a k h p e q = let b = refused-bytes (now file) wholeFile id n a k (rw h at p) e in rw (b .0, b .1) q
 
 -- ---- the answer's numbers are low
 
@@ -173,22 +177,21 @@ pub record Low (v : Sample) : Type 0 where
   pub chunk : v .chunk ≤ 1048576
   pub offset : v .offset ≤ 2147483647
 
-asked-low : (s : List ℕ) (id n : ℕ) → sampleRefusal s id n ≡ 0 → Low (sampleOf (trackOf (trackAsked s id)) (n - 1))
+asked-low : (s : List ℕ) (w : Source) (id n : ℕ) → sampleRefusal s w id n ≡ 0 → Low (sampleOf (trackOf (trackAsked s id)) (n - 1))
 unfolding sampleOf trackOf totalIn
-asked-low s id n e =
+asked-low s w id n e =
     let t = trackAsked s id in
-    let q = in-track s id n e in
-    let a = asked s id (q .0) in
+    let q = in-track s w id n e in
+    let a = asked s w id (q .0) in
     record {
       decode = omega (arith, before-le (runs.perSample (tableOf stts t)) (n - 1), a .track .total-fits);
       chunk = omega (arith, chunk-known t (n - 1) (a .track .agree) (q .1), a .track .shape .few-chunks);
-      offset = omega (arith, within-file s id n e, a .file .shape .short);
+      offset = omega (arith, within-file s w id n e, a .file .shape .short);
     }
 
-pub found-low : (s : List ℕ) (id n : ℕ) (r : SampleAnswer) (v : Sample) → Samples s id n r → r ≡ Found v → Low v
-unfolding sampleAnswer
-found-low s id n r v a e = go (eqb (sampleRefusal s id n) 0) refl (sym e ∙ a .answer)
+pub found-low : (s : List ℕ) (w : Source) (id n : ℕ) (r : SampleAnswer) (v : Sample) → Samples s w id n r → r ≡ Found v → Low v
+found-low s w id n r v a e = go (eqb (sampleRefusal s w id n) 0) refl (sym e ∙ a .answer)
   where
-    go : (b : Bool) → eqb (sampleRefusal s id n) 0 ≡ b → Found v ≡ cond b (Found (sampleOf (trackOf (trackAsked s id)) (n - 1))) (Refused (sampleRefusal s id n)) → Low v
-    go true q d = let z : v ≡ sampleOf (trackOf (trackAsked s id)) (n - 1) = cc in rw z (asked-low s id n (eqb-true _ _ q))
+    go : (b : Bool) → eqb (sampleRefusal s w id n) 0 ≡ b → Found v ≡ cond b (Found (sampleOf (trackOf (trackAsked s id)) (n - 1))) (Refused (sampleRefusal s w id n)) → Low v
+    go true q d = let z : v ≡ sampleOf (trackOf (trackAsked s id)) (n - 1) = cc in rw z (asked-low s w id n (eqb-true _ _ q))
     go false q d = let z : _≡_ {A = ℕ} 0 1 = cc in absurd (omega arith)

@@ -1,7 +1,7 @@
 -- The answers of the two questions of times, from what the code has of the track and of its tables.
 -- Assumes nothing.
 use Prim.Native.Nat.{ℕ, suc, _+_, _<_}
-use mathlib.Core.Path.{_≡_, sym, ap, _∙_}
+use mathlib.Core.Path.{_≡_, refl, sym, ap, _∙_}
 use mathlib.Core.List.{List}
 use native.Mathlib.Omega.{arith}
 use borrow.Author.Tests.{eq-eqb, ne-eqb, lt-ltb, le-ltb}
@@ -18,14 +18,17 @@ use Rattle.edits.specs.declared.MediaTime.{MediaTime}
 use Rattle.edits.specs.declared.MovieTime.{MovieTime}
 use Rattle.edits.specs.declared.Mapped.{Mapped}
 use Rattle.edits.specs.declared.Mapped.the-variants as mapped
+use Rattle.structure.specs.declared.source.Source.{Source}
 use Rattle.structure.specs.Track.{tableOf, scaleOf, elstOf}
 use Rattle.structure.specs.Movie.{moovOf, movieScale}
 use Rattle.structure.specs.Rows.{orElse}
 use Rattle.track.specs.Track.{trackOf}
 use Rattle.track.specs.Refusals.{totalIn}
+use Rattle.movie.specs.Rooms.{refusedWith}
+use Rattle.movie.proofs.Answers.{gives-refused, gives-answer}
 use Rattle.track.proofs.Agreed.{agreed-tables}
 use Rattle.questions.specs.Asked.{askRefusal, trackAsked}
-use Rattle.questions.specs.Times.{atRefusal, atNumber, atAnswer, numberNumbers, SampleAt, mappedIn, mappedOf, toAnswer, mapAnswer, timeNumbers, Maps}
+use Rattle.questions.specs.Times.{atRefusal, atNumber, numberNumbers, SampleAt, mappedIn, mappedOf, toAnswer, timeNumbers, Maps}
 use Rattle.questions.specs.declared.times.NumberAnswer.the-variants.{Number, Refused}
 use Rattle.questions.specs.declared.times.TimeAnswer.{TimeAnswer}
 use Rattle.questions.specs.declared.times.TimeAnswer.the-variants.{Shown, NothingShown, NotMapped}
@@ -47,33 +50,32 @@ to-outside m e = sym (ap toAnswer e)
 
 -- ---- movie time to media time
 
-pub not-asked : (s : List ℕ) (id : ℕ) (t : MovieTime) (r : ℕ) → r ≡ askRefusal s id → (r ≡ 0 → ⊥) → Maps s id t (NotMapped r)
-unfolding mapAnswer timeNumbers
-not-asked s id t r e n = record { answer = rw (← e, ne-eqb r 0 n); numbers = rw (← e, ne-eqb r 0 n) }
+pub not-asked : (s : List ℕ) (w : Source) (id : ℕ) (t : MovieTime) (r : ℕ) → r ≡ askRefusal s w id → (r ≡ 0 → ⊥) → Maps s w id t (NotMapped r)
+unfolding timeNumbers
+not-asked s w id t r e n = gives-refused timeNumbers (refusedWith 2) NotMapped (λ k. refl) (toAnswer (mappedOf s id t)) (askRefusal s w id) r (sym e) n
 
-module _ (s m k l : List ℕ) (id : ℕ) (t : MovieTime) (r movie scale total : ℕ) (e : r ≡ askRefusal s id) (z : r ≡ 0) (d : k ≡ trackAsked s id) (b : m ≡ moovOf s)
+module _ (s m k l : List ℕ) (w : Source) (id : ℕ) (t : MovieTime) (r movie scale total : ℕ) (e : r ≡ askRefusal s w id) (z : r ≡ 0) (d : k ≡ trackAsked s id) (b : m ≡ moovOf s)
     (q : movie ≡ movieScale m) (o : l ≡ elstOf k) (c : scale ≡ scaleOf k) (n : total ≡ totalIn k) where
   falls : mediaAt scale movie total l t ≡ mappedOf s id t
   unfolding mappedOf mappedIn
   falls = rw (o, c, n, q, b, d)
 
-  pub is-mapped : (f : Mapped) (a : TimeAnswer) → f ≡ mediaAt scale movie total l t → a ≡ toAnswer f → Maps s id t a
-  unfolding mapAnswer
+  pub is-mapped : (f : Mapped) (a : TimeAnswer) → f ≡ mediaAt scale movie total l t → a ≡ toAnswer f → Maps s w id t a
+  unfolding timeNumbers
   is-mapped f a g h =
-      let w : a ≡ toAnswer (mappedOf s id t) = h ∙ ap toAnswer (g ∙ falls) in
-      record { answer = rw (← e, eq-eqb r 0 z) w; numbers = rw (← e, eq-eqb r 0 z) (ap timeNumbers w) }
+      gives-answer timeNumbers (refusedWith 2) NotMapped (λ i. refl) (toAnswer (mappedOf s id t)) (askRefusal s w id) a (sym e ∙ z) (h ∙ ap toAnswer (g ∙ falls))
 
 -- ---- the sample at a media time
 
-refused-at : (s : List ℕ) (id : ℕ) (t : MediaTime) (r : ℕ) → atRefusal s id t ≡ r → (r ≡ 0 → ⊥) → SampleAt s id t (Refused r)
-unfolding atAnswer numberNumbers
-refused-at s id t r e n = record { answer = rw (e, ne-eqb r 0 n); numbers = rw (e, ne-eqb r 0 n) }
+refused-at : (s : List ℕ) (w : Source) (id : ℕ) (t : MediaTime) (r : ℕ) → atRefusal s w id t ≡ r → (r ≡ 0 → ⊥) → SampleAt s w id t (Refused r)
+unfolding numberNumbers
+refused-at s w id t r e n = gives-refused numberNumbers (refusedWith 1) Refused (λ k. refl) (Number (atNumber s id t)) (atRefusal s w id t) r e n
 
-pub no-track-at : (s : List ℕ) (id : ℕ) (t : MediaTime) (r : ℕ) → r ≡ askRefusal s id → (r ≡ 0 → ⊥) → SampleAt s id t (Refused r)
+pub no-track-at : (s : List ℕ) (w : Source) (id : ℕ) (t : MediaTime) (r : ℕ) → r ≡ askRefusal s w id → (r ≡ 0 → ⊥) → SampleAt s w id t (Refused r)
 unfolding atRefusal orElse
-no-track-at s id t r e n = refused-at s id t r (rw (← e, ne-eqb r 0 n)) n
+no-track-at s w id t r e n = refused-at s w id t r (rw (← e, ne-eqb r 0 n)) n
 
-module _ (s k x : List ℕ) (id : ℕ) (t : MediaTime) (r : ℕ) (e : r ≡ askRefusal s id) (z : r ≡ 0) (d : k ≡ trackAsked s id) (g : x ≡ tableOf stts k) (f : Lookup)
+module _ (s k x : List ℕ) (w : Source) (id : ℕ) (t : MediaTime) (r : ℕ) (e : r ≡ askRefusal s w id) (z : r ≡ 0) (d : k ≡ trackAsked s id) (g : x ≡ tableOf stts k) (f : Lookup)
     (h : f ≡ sampleAt (perSample x) (t .0)) where
   same : perSample x ≡ trackOf (trackAsked s id) .durations
   unfolding trackOf
@@ -83,24 +85,24 @@ module _ (s k x : List ℕ) (id : ℕ) (t : MediaTime) (r : ℕ) (e : r ≡ askR
   unfolding totalIn
   same-total = rw (g, d)
 
-  pub outside-at : f ≡ Outside → SampleAt s id t (Refused 15)
+  pub outside-at : f ≡ Outside → SampleAt s w id t (Refused 15)
   unfolding atRefusal orElse
   outside-at q =
-      let w = outside-known (perSample x) (t .0) (sym h ∙ q) in
-      refused-at s id t 15 (rw (← e, eq-eqb r 0 z, ← same-total, le-ltb (t .0) (sum (perSample x)) w)) (λ y. omega arith)
+      let o = outside-known (perSample x) (t .0) (sym h ∙ q) in
+      refused-at s w id t 15 (rw (← e, eq-eqb r 0 z, ← same-total, le-ltb (t .0) (sum (perSample x)) o)) (λ y. omega arith)
 
   module _ (i : ℕ) (q : f ≡ At i) where
     pub few-at : i < 1048576
     few-at =
-        let a = asked-track s k id r e z d in
+        let a = asked-track s k w id r e z d in
         let b = holds-below (perSample x) (t .0) i (sample-holds (perSample x) (t .0) i (sym h ∙ q)) in
         omega (arith, b .1, a .shape .few-samples, agreed-tables k (a .agree) .counted, ap (λ (l : List ℕ). length (perSample l)) g)
 
-    pub found-at : (n : ℕ) → n ≡ i + 1 → SampleAt s id t (Number n)
-    unfolding atRefusal atNumber atAnswer numberNumbers orElse
+    pub found-at : (n : ℕ) → n ≡ i + 1 → SampleAt s w id t (Number n)
+    unfolding atRefusal atNumber numberNumbers orElse
     found-at n y =
         let o = sample-holds (perSample x) (t .0) i (sym h ∙ q) in
         let b = holds-below (perSample x) (t .0) i o in
-        let c : atRefusal s id t ≡ 0 = rw (← e, eq-eqb r 0 z, ← same-total, lt-ltb (t .0) (sum (perSample x)) (b .0)) in
+        let c : atRefusal s w id t ≡ 0 = rw (← e, eq-eqb r 0 z, ← same-total, lt-ltb (t .0) (sum (perSample x)) (b .0)) in
         let u : n ≡ suc (holder (perSample x) (t .0)) = omega (arith, y, holder-only (perSample x) (t .0) i o) in
-        record { answer = rw (c, ← same, ← u); numbers = rw (c, ← same, ← u) }
+        gives-answer numberNumbers (refusedWith 1) Refused (λ k. refl) (Number (atNumber s id t)) (atRefusal s w id t) (Number n) c (ap Number (u ∙ ap (λ l. suc (holder l (t .0))) same))

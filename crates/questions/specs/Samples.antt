@@ -4,15 +4,18 @@ use mathlib.Core.Path.{_≡_}
 use mathlib.Core.List.{List, [], _∷_, map}
 use mathlib.Core.Bool.{false, cond, _&&_}
 use lib.ListN.{length, getD, take, drop}
-use lib.Dec.{eqb, ltb, leb}
+use lib.Dec.{ltb, leb}
 use lib.IntN.{ℤ, pos, _+ℤ_}
 use denote.Ref.{RefT, ptr, now}
 use Rattle.lists.specs.Lists.{before, holder}
 use Rattle.chunks.specs.Chunks.{offsetOf}
+use Rattle.structure.specs.declared.source.Source.{Source}
+use Rattle.structure.specs.Source.{wholeFile}
 use Rattle.structure.specs.Track.{samplesOf}
 use Rattle.structure.specs.Rows.{orElse}
 use Rattle.track.specs.Track.{Track, trackOf}
 use Rattle.movie.specs.Rooms.{refusedWith}
+use Rattle.movie.specs.Answers.{given, Gives}
 use Rattle.questions.specs.Asked.{askRefusal, trackAsked}
 use Rattle.questions.specs.declared.samples.Sample.{Sample}
 use Rattle.questions.specs.declared.samples.SampleAnswer.{SampleAnswer}
@@ -38,12 +41,15 @@ sampleOf t i =
     }
 
 -- "the sample number is not in 1 to N" is 15
-unfoldable pub sampleRefusal : List ℕ → ℕ → ℕ → ℕ
-sampleRefusal s id n = orElse (askRefusal s id) (cond (ltb 0 n && leb n (samplesOf (trackAsked s id))) 0 15)
+unfoldable pub sampleRefusal : List ℕ → Source → ℕ → ℕ → ℕ
+sampleRefusal s w id n = orElse (askRefusal s w id) (cond (ltb 0 n && leb n (samplesOf (trackAsked s id))) 0 15)
 
-unfoldable pub sampleAnswer : List ℕ → ℕ → ℕ → SampleAnswer
-sampleAnswer s id n =
-    cond (eqb (sampleRefusal s id n) 0) (Found (sampleOf (trackOf (trackAsked s id)) (n - 1))) (Refused (sampleRefusal s id n))
+-- what is answered where nothing is refused
+abbrev pub sampleAsked : List ℕ → ℕ → ℕ → SampleAnswer
+sampleAsked s id n = Found (sampleOf (trackOf (trackAsked s id)) (n - 1))
+
+abbrev pub sampleAnswer : List ℕ → Source → ℕ → ℕ → SampleAnswer
+sampleAnswer s w id n = given (sampleRefusal s w id n) (sampleAsked s id n) Refused
 
 -- document 01's number and values for each case of the answer; the number is 0 where nothing is refused, and sync is 1 or 0
 abbrev pub sampleValues : Sample → List ℤ
@@ -58,18 +64,16 @@ sampleValues x =
     ∷ pos (x .size)
     ∷ []
 
+unfoldable pub sampleZeros : ℕ → List ℤ
+sampleZeros r = map pos (refusedWith 8 r)
+
 unfoldable pub sampleNumbers : SampleAnswer → List ℤ
 sampleNumbers (Found x) = pos 0 ∷ sampleValues x
-sampleNumbers (Refused r) = map pos (refusedWith 8 r)
+sampleNumbers (Refused r) = sampleZeros r
 
 -- the promise of the question: the answer r
-pub record Samples (s : List ℕ) (id n : ℕ) (r : SampleAnswer) : Type 0 where
-  pub answer : r ≡ sampleAnswer s id n
-  pub numbers : sampleNumbers r
-      ≡ cond
-      (eqb (sampleRefusal s id n) 0)
-      (pos 0 ∷ sampleValues (sampleOf (trackOf (trackAsked s id)) (n - 1)))
-      (map pos (refusedWith 8 (sampleRefusal s id n)))
+abbrev pub Samples : List ℕ → Source → ℕ → ℕ → SampleAnswer → Type 0
+Samples s w id n r = Gives sampleNumbers sampleZeros Refused (sampleRefusal s w id n) (sampleAsked s id n) r
 
 -- ---- "the sample's own bytes, as they stand in the file lent"
 
@@ -83,7 +87,7 @@ bytesLength (Found x) = x .size
 bytesLength (Refused r) = 0
 
 unfoldable pub sampleBytes : List ℕ → ℕ → ℕ → List ℕ
-sampleBytes s id n = take (bytesLength (sampleAnswer s id n)) (drop (bytesStart (sampleAnswer s id n)) s)
+sampleBytes s id n = take (bytesLength (sampleAnswer s wholeFile id n)) (drop (bytesStart (sampleAnswer s wholeFile id n)) s)
 
 -- "a part of the lent file; the promise fixes its start and length": a reference's pointer is a block and an offset in it
 pub record PartOf (file : RefT (List ℕ)) (start size : ℕ) (r : RefT (List ℕ)) : Type 0 where
@@ -94,4 +98,5 @@ pub record PartOf (file : RefT (List ℕ)) (start size : ℕ) (r : RefT (List �
 
 -- the promise of the question: the part r
 abbrev pub SampleBytes : RefT (List ℕ) → ℕ → ℕ → RefT (List ℕ) → Type 0
-SampleBytes file id n r = PartOf file (bytesStart (sampleAnswer (now file) id n)) (bytesLength (sampleAnswer (now file) id n)) r
+SampleBytes file id n r =
+    PartOf file (bytesStart (sampleAnswer (now file) wholeFile id n)) (bytesLength (sampleAnswer (now file) wholeFile id n)) r

@@ -5,6 +5,7 @@ use features::feature_of;
 use features::peak_for;
 use peaks::Peak;
 use rates::Feature;
+use structure::source::Source;
 ghost use mathlib.Core.Path.{_≡_};
 ghost use Rattle.questions.specs.Feature.{toValue, Computes, toRun, Locates};
 
@@ -24,14 +25,14 @@ fn to_value(f: Feature) -> FeatureAnswer
 }
 
 // The feature with that code of a track.
-pub fn feature_by_code(file: &[u8], id: u32, code: u32) -> FeatureAnswer
-    ensures { λ r. ⌜ Computes (now (file .entry)) id code r ⌝ }
+pub fn feature_by_code(lent: &[u8], source: Source, id: u32, code: u32) -> FeatureAnswer
+    ensures { λ r. ⌜ Computes (now (lent .entry)) source id code r ⌝ }
 {
-    let refused = ask_refusal(file, id);
+    let refused = ask_refusal(lent, source, id);
     if refused != 0 {
         return FeatureAnswer::Refused(refused);
     }
-    to_value(feature_of(track_asked(file, id), code))
+    to_value(feature_of(track_asked(lent, id), code))
 }
 
 // The answer of `peak_by_code`: the number of the first sample of the run with the highest rate, from 1, and how many samples that run has; or the number
@@ -55,12 +56,12 @@ fn to_run(p: Peak) -> PeakAnswer
 }
 
 // Where a track's highest rate over a second is, by the feature's code.
-pub fn peak_by_code(file: &[u8], id: u32, code: u32) -> PeakAnswer
-    ensures { λ r. ⌜ Locates (now (file .entry)) id code r ⌝ }
+pub fn peak_by_code(lent: &[u8], source: Source, id: u32, code: u32) -> PeakAnswer
+    ensures { λ r. ⌜ Locates (now (lent .entry)) source id code r ⌝ }
 {
-    let refused = ask_refusal(file, id);
+    let refused = ask_refusal(lent, source, id);
     if refused != 0 {
         return PeakAnswer::Refused(refused);
     }
-    to_run(peak_for(track_asked(file, id), code))
+    to_run(peak_for(track_asked(lent, id), code))
 }

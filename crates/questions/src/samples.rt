@@ -5,6 +5,7 @@ use atoms::kinds;
 use bigendian::u32_at;
 use chunks::locate;
 use runs::timing_of;
+use structure::source::Source;
 use structure::trak::table;
 use words::is_sync;
 use words::size_of;
@@ -69,14 +70,14 @@ fn sample_in(trak: &[u8], index: u32) -> Sample
 }
 
 // Sample n of a track, numbered from 1.
-pub fn sample_by_number(file: &[u8], id: u32, n: u32) -> SampleAnswer
-    ensures { λ r. ⌜ Samples (now (file .entry)) id n r ⌝ }
+pub fn sample_by_number(lent: &[u8], source: Source, id: u32, n: u32) -> SampleAnswer
+    ensures { λ r. ⌜ Samples (now (lent .entry)) source id n r ⌝ }
 {
-    let refused = ask_refusal(file, id);
+    let refused = ask_refusal(lent, source, id);
     if refused != 0 {
         return SampleAnswer::Refused(refused);
     }
-    let trak = track_asked(file, id);
+    let trak = track_asked(lent, id);
     if n == 0 {
         return SampleAnswer::Refused(15);
     }
@@ -100,7 +101,7 @@ fn part_of<'a>(file: &'a [u8], start: u64, size: u32) -> &'a [u8]
 pub fn sample_bytes<'a>(file: &'a [u8], id: u32, n: u32) -> &'a [u8]
     ensures { λ r. ⌜ SampleBytes (file .entry) id n r ⌝ }
 {
-    let answer = sample_by_number(file, id, n);
+    let answer = sample_by_number(file, Source::whole(), id, n);
     match answer {
         SampleAnswer::Found(s) => part_of(file, s.offset, s.size),
         SampleAnswer::Refused(_) => part_of(file, 0, 0),

@@ -9,6 +9,7 @@ use edits::media_at;
 use runs::Lookup;
 use structure::moov::moov_body;
 use structure::moov::movie_scale;
+use structure::source::Source;
 use structure::trak::edit_list;
 use structure::trak::media_scale;
 use structure::trak::table;
@@ -23,14 +24,14 @@ pub enum NumberAnswer {
 }
 
 // The sample whose media times hold t.
-pub fn sample_at_time(file: &[u8], id: u32, t: MediaTime) -> NumberAnswer
-    ensures { λ r. ⌜ SampleAt (now (file .entry)) id t r ⌝ }
+pub fn sample_at_time(lent: &[u8], source: Source, id: u32, t: MediaTime) -> NumberAnswer
+    ensures { λ r. ⌜ SampleAt (now (lent .entry)) source id t r ⌝ }
 {
-    let refused = ask_refusal(file, id);
+    let refused = ask_refusal(lent, source, id);
     if refused != 0 {
         return NumberAnswer::Refused(refused);
     }
-    let trak = track_asked(file, id);
+    let trak = track_asked(lent, id);
     let time = t.0;
     match runs::sample_at(table(trak, kinds::STTS), time) {
         Lookup::At(index) => NumberAnswer::Number((index + 1) as u32),
@@ -56,15 +57,15 @@ fn to_answer(m: Mapped) -> TimeAnswer
 }
 
 // The media time that a movie time shows.
-pub fn media_time_of(file: &[u8], id: u32, t: MovieTime) -> TimeAnswer
-    ensures { λ r. ⌜ Maps (now (file .entry)) id t r ⌝ }
+pub fn media_time_of(lent: &[u8], source: Source, id: u32, t: MovieTime) -> TimeAnswer
+    ensures { λ r. ⌜ Maps (now (lent .entry)) source id t r ⌝ }
 {
-    let refused = ask_refusal(file, id);
+    let refused = ask_refusal(lent, source, id);
     if refused != 0 {
         return TimeAnswer::NotMapped(refused);
     }
-    let trak = track_asked(file, id);
-    let movie = movie_scale(moov_body(file));
+    let trak = track_asked(lent, id);
+    let movie = movie_scale(moov_body(lent));
     to_answer(media_at(
         edit_list(trak),
         media_scale(trak),

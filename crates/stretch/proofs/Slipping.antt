@@ -16,15 +16,18 @@ use Rattle.leb128.specs.Writing.{putAt, pastPut}
 use Rattle.leb128.proofs.Puts.{writes-append, writes-few, put-fits}
 use Rattle.slip.specs.Slip.{headNumbers, slipBytes}
 use Rattle.slip.specs.declared.Head.{Head}
+use Rattle.structure.specs.declared.source.Source.{Source}
+use Rattle.structure.specs.Source.{strictly}
 use Rattle.structure.specs.Track.{scaleOf}
 use Rattle.structure.specs.Rows.{orElse}
 use Rattle.movie.specs.Rooms.{noRoom, filledRoom, roomAfter, refusedWith}
+use Rattle.movie.proofs.Answers.{puts, puts-refused}
 use Rattle.pairs.specs.Pairs.{flat}
 use Rattle.edits.specs.declared.MediaTime.{MediaTime}
 use Rattle.questions.specs.Asked.{trackAsked}
 use Rattle.stretch.specs.Spans.{Usable, Spans, spanPairs, PutSlip}
 use Rattle.stretch.specs.Stretches.{stretchPairs, spanAt, spanRefusal}
-use Rattle.stretch.specs.Slips.{slipHead, slipOfStretch, slipRefusal, slipAnswer, slipNumbers, Slips}
+use Rattle.stretch.specs.Slips.{slipHead, slipOfStretch, slipRefusal, slipAsked, slipNumbers, Slips}
 use Rattle.stretch.specs.declared.Span.{Span}
 use Rattle.stretch.specs.declared.slips.SlipAnswer.{SlipAnswer}
 use Rattle.stretch.specs.declared.slips.SlipAnswer.the-variants.{Written, Refused}
@@ -74,21 +77,22 @@ module _ (h : Head) (ps out : List ℕ) (k n : ℕ) (e : k ≡ length (writes (h
 
 -- ---- the answers
 
-answered : (s : List ℕ) (id : ℕ) (a b : MediaTime) (out after : List ℕ) (r : ℕ) → slipRefusal s id a b out ≡ r → (r ≡ 0 → ⊥) → after ≡ out → Slips s id a b out (Refused r) after
-unfolding slipAnswer slipNumbers roomAfter
-answered s id a b out after r e n d = record { answer = rw (e, ne-eqb r 0 n); numbers = rw (e, ne-eqb r 0 n); places = rw (e, ne-eqb r 0 n) d }
-
-pub no-slip : (s : List ℕ) (id : ℕ) (a b : MediaTime) (out : List ℕ) (r : ℕ) → r ≡ spanAt s id (a .0) (b .0) → (r ≡ 0 → ⊥) → Slips s id a b out (Refused r) out
-unfolding slipRefusal spanRefusal orElse
-no-slip s id a b out r e n = answered s id a b out out r (first-of (spanAt s id (a .0) (b .0)) (sym e)) n refl
+-- v is the source that the code makes of w
+pub no-slip : (s : List ℕ) (w v : Source) (id : ℕ) (a b : MediaTime) (out : List ℕ) (r : ℕ) → v ≡ strictly w → r ≡ spanAt s v id (a .0) (b .0) → (r ≡ 0 → ⊥)
+    → Slips s w id a b out (Refused r) out
+unfolding slipNumbers slipRefusal spanRefusal orElse
+no-slip s w v id a b out r h e n =
+    puts-refused slipNumbers (refusedWith 1) Refused (λ k. refl) (slipAsked s id a b) (slipOfStretch s id a b) out (slipRefusal s w id a b out) r
+    (first-of (spanAt s (strictly w) id (a .0) (b .0)) (sym (e ∙ ap (λ u. spanAt s u id (a .0) (b .0)) h)))
+    n
   where
     first-of : (x : ℕ) → x ≡ r → orElse x (noRoom (slipOfStretch s id a b) out) ≡ r
     first-of x q = rw (q, ne-eqb r 0 n)
 
-module _ (s t out : List ℕ) (id : ℕ) (a b : MediaTime) (r : ℕ) (e : r ≡ spanAt s id (a .0) (b .0)) (z : r ≡ 0) (d : t ≡ trackAsked s id) (p : Span) (q : Spans t (a .0) (b .0) p)
-    (n scale : ℕ) (c : n ≡ length (spanPairs t p)) (f : scale ≡ scaleOf t) where
+module _ (s t out : List ℕ) (w v : Source) (id : ℕ) (a b : MediaTime) (r : ℕ) (h : v ≡ strictly w) (e : r ≡ spanAt s v id (a .0) (b .0)) (z : r ≡ 0)
+    (d : t ≡ trackAsked s id) (p : Span) (q : Spans t (a .0) (b .0) p) (n scale : ℕ) (c : n ≡ length (spanPairs t p)) (f : scale ≡ scaleOf t) where
   same-pairs : spanPairs t p ≡ stretchPairs s id a b
-  same-pairs = pairs-are s t id a b (in-span-of s id (a .0) (b .0) (sym e ∙ z)) d p q
+  same-pairs = pairs-are s t v id a b (in-span-of s v id (a .0) (b .0) (sym e ∙ z)) d p q
 
   head-is : _≡_ {A = Head} (record { id = id; scale = scale; a = a .0; b = b .0; pairs = n }) (slipHead s id a b)
   unfolding slipHead
@@ -101,19 +105,17 @@ module _ (s t out : List ℕ) (id : ℕ) (a b : MediaTime) (r : ℕ) (e : r ≡ 
   unfolding slipOfStretch
   bytes-are = rw (head-is, same-pairs)
 
-  then-room : slipRefusal s id a b out ≡ noRoom (slipOfStretch s id a b) out
+  then-room : slipRefusal s w id a b out ≡ noRoom (slipOfStretch s id a b) out
   unfolding slipRefusal spanRefusal orElse
-  then-room = rw (← e, eq-eqb r 0 z)
+  then-room =
+      let k : spanAt s (strictly w) id (a .0) (b .0) ≡ 0 = sym (e ∙ ap (λ u. spanAt s u id (a .0) (b .0)) h) ∙ z in
+      rw k
 
-  pub slip-put : (v : SlipAnswer) (after : List ℕ)
-      → PutSlip (slipBytes (record { id = id; scale = scale; a = a .0; b = b .0; pairs = n }) (flat (spanPairs t p))) out v after → Slips s id a b out v after
-  unfolding slipAnswer slipNumbers
-  slip-put v after w =
-      let u : PutSlip (slipOfStretch s id a b) out v after = rw bytes-are at w in
-      let k : v ≡ slipAnswer s id a b out = u .answer ∙ rw then-room in
-      record { answer = k; numbers = ap slipNumbers k ∙ cases (eqb (slipRefusal s id a b out) 0); places = u .places ∙ rw then-room }
-    where
-      cases : (y : Bool) → slipNumbers (cond y (Written (length (slipOfStretch s id a b))) (Refused (slipRefusal s id a b out)))
-          ≡ cond y (0 ∷ length (slipOfStretch s id a b) ∷ []) (refusedWith 1 (slipRefusal s id a b out))
-      cases true = refl
-      cases false = refl
+  pub slip-put : (y : SlipAnswer) (after : List ℕ)
+      → PutSlip (slipBytes (record { id = id; scale = scale; a = a .0; b = b .0; pairs = n }) (flat (spanPairs t p))) out y after → Slips s w id a b out y after
+  unfolding slipNumbers
+  slip-put y after i =
+      let u : PutSlip (slipOfStretch s id a b) out y after = rw bytes-are at i in
+      puts slipNumbers (refusedWith 1) Refused (λ k. refl) (slipAsked s id a b) (slipOfStretch s id a b) out (slipRefusal s w id a b out) y after
+      (u .answer ∙ rw then-room)
+      (u .places ∙ rw then-room)

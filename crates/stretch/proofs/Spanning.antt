@@ -1,7 +1,7 @@
 -- The stretch question, from what the code has of the track: its samples, its pairs, and each of its answers.
 -- Assumes nothing.
 use Prim.Native.Nat.{ℕ, zero, suc, _+_, _*_, _-_, _/_, _≤_, _<_, max}
-use mathlib.Core.Path.{_≡_, refl, sym, ap, _∙_}
+use mathlib.Core.Path.{_≡_, refl, sym, ap, subst, _∙_}
 use mathlib.Core.List.{List, [], _∷_, _++_}
 use mathlib.Core.Bool.{Bool, true, false, cond, _&&_}
 use native.Mathlib.Omega.{arith}
@@ -22,24 +22,28 @@ use Rattle.runs.proofs.Sentences.{sample-holds, outside-known}
 use Rattle.words.specs.Words.{sizes, chunkOffsets}
 use Rattle.chunks.specs.Chunks.{perChunk}
 use Rattle.chunks.proofs.Agreed.{samples-length}
+use Rattle.structure.specs.declared.source.Source.{Source}
+use Rattle.structure.specs.Source.{wholeFile}
 use Rattle.structure.specs.Track.{tableOf, samplesOf, chunksOf}
 use Rattle.structure.specs.Rows.{orElse}
 use Rattle.structure.proofs.Callers.{none-else}
 use Rattle.track.specs.Track.{trackOf}
 use Rattle.track.specs.Refusals.{totalIn, chunkPastEnd}
 use Rattle.track.proofs.Agreed.{agreed-tables}
-use Rattle.movie.specs.Rooms.{noRoom, filledRoom, roomAfter}
+use Rattle.movie.specs.Rooms.{noRoom, filledRoom, refusedWith}
+use Rattle.movie.proofs.Answers.{puts-refused, puts-answer}
 use Rattle.pairs.specs.Pairs.{flat}
 use Rattle.pairs.specs.Walks.{pairsBetween, lengthsOf, countBetween, Putting}
 use Rattle.pairs.specs.declared.Pair.{Pair}
 use Rattle.pairs.proofs.Touched.{touched-count, touched-few, touched-sum, touched-fits, fits-sum}
 use Rattle.questions.specs.Asked.{askRefusal, trackAsked}
 use Rattle.stretch.specs.Spans.{Usable, Spans, spanIn, spanAsked, spanPairs}
-use Rattle.stretch.specs.Stretches.{firstIn, pastIn, pairsIn, bytesIn, stretchPairs, spanAt, spanRefusal, stretchRefusal, stretchAnswer, stretchNumbers, Stretches}
+use Rattle.stretch.specs.Stretches.{firstIn, pastIn, pairsIn, bytesIn, stretchPairs, spanAt, spanRefusal, stretchRefusal, stretchAsked, stretchNumbers, Stretches}
 use Rattle.stretch.specs.declared.Span.{Span}
 use Rattle.stretch.specs.declared.Asked.{Asked}
 use Rattle.stretch.specs.declared.Asked.the-variants.{Samples}
 use Rattle.stretch.specs.declared.Asked.the-variants as asks
+use Rattle.stretch.specs.declared.StretchAnswer.{StretchAnswer}
 use Rattle.stretch.specs.declared.StretchAnswer.the-variants.{Pairs, Refused}
 use Rattle.edits.specs.declared.MediaTime.{MediaTime}
 use Rattle.questions.proofs.Asking.{asked, table-fits}
@@ -47,22 +51,22 @@ use Rattle.questions.proofs.Asking.{asked, table-fits}
 -- ---- the refusal
 
 -- what a stretch that is not refused so far has
-pub record InSpan (s : List ℕ) (id a b : ℕ) : Type 0 where
-  pub asks : askRefusal s id ≡ 0
+pub record InSpan (s : List ℕ) (w : Source) (id a b : ℕ) : Type 0 where
+  pub asks : askRefusal s w id ≡ 0
   pub order : a < b
   pub ends : b ≤ totalIn (trackAsked s id)
 
-pub in-span-of : (s : List ℕ) (id a b : ℕ) → spanAt s id a b ≡ 0 → InSpan s id a b
-in-span-of s id a b e =
+pub in-span-of : (s : List ℕ) (w : Source) (id a b : ℕ) → spanAt s w id a b ≡ 0 → InSpan s w id a b
+in-span-of s w id a b e =
     let n = none-else _ _ e in
     let h = cond-zero _ 15 (omega arith) (n .1) in
     record { asks = n .0; order = ltb-true a b (and-left _ _ h); ends = leb-true b _ (and-right (ltb a b) _ h) }
 
 -- ---- the track
 
-pub usable : (s t : List ℕ) (id : ℕ) → askRefusal s id ≡ 0 → t ≡ trackAsked s id → Usable t
-usable s t id e d =
-    let a = asked s id e in
+pub usable : (s t : List ℕ) (w : Source) (id : ℕ) → askRefusal s w id ≡ 0 → t ≡ trackAsked s id → Usable t
+usable s t w id e d =
+    let a = asked s w id e in
     rw d (record {
       short = omega (arith, a .short, a .file .shape .short);
       agree = a .track .agree;
@@ -115,7 +119,7 @@ module _ (t x : List ℕ) (a b : ℕ) (f : Lookup) (o : a < b) (d : x ≡ tableO
         let z : stop ≡ suc (holder (perSample (tableOf stts t)) (b - 1)) = omega (arith, q) in
         rw (lt-ltb a b o, le-leb b (totalIn t) (omega arith), p, z)
 
--- what is asked of a file: a refusal of its own, and samples where the stretch lies inside
+-- what is asked of a film: a refusal of its own, and samples where the stretch lies inside
 abbrev askedBy : ℕ → Bool → Span → Asked
 askedBy r within q = cond (eqb r 0) (cond within (Samples q) (asks.Refused 15)) (asks.Refused r)
 
@@ -139,16 +143,16 @@ by-samples (suc n) within q p e =
     let z : _≡_ {A = ℕ} 0 1 = cc in
     absurd (omega arith)
 
-module _ (s : List ℕ) (id a b : ℕ) where
-  pub asked-refused : (k : ℕ) → asks.Refused k ≡ spanAsked s id a b → (k ≡ spanAt s id a b) × (k ≡ 0 → ⊥)
+module _ (s : List ℕ) (w : Source) (id a b : ℕ) where
+  pub asked-refused : (k : ℕ) → asks.Refused k ≡ spanAsked s w id a b → (k ≡ spanAt s w id a b) × (k ≡ 0 → ⊥)
   unfolding spanAsked spanIn orElse
-  asked-refused k e = by-refused (askRefusal s id) (ltb a b && leb b (totalIn (trackAsked s id))) _ k e
+  asked-refused k e = by-refused (askRefusal s w id) (ltb a b && leb b (totalIn (trackAsked s id))) _ k e
 
-  pub asked-samples : (p : Span) → Samples p ≡ spanAsked s id a b → (0 ≡ spanAt s id a b) × Spans (trackAsked s id) a b p × InSpan s id a b
+  pub asked-samples : (p : Span) → Samples p ≡ spanAsked s w id a b → (0 ≡ spanAt s w id a b) × Spans (trackAsked s id) a b p × InSpan s w id a b
   unfolding spanAsked spanIn orElse
   asked-samples p e =
-      let w = by-samples (askRefusal s id) (ltb a b && leb b (totalIn (trackAsked s id))) _ p e in
-      (w .0, rw (w .1) (record { first = refl; past = refl }), in-span-of s id a b (sym (w .0)))
+      let k = by-samples (askRefusal s w id) (ltb a b && leb b (totalIn (trackAsked s id))) _ p e in
+      (k .0, rw (k .1) (record { first = refl; past = refl }), in-span-of s w id a b (sym (k .0)))
 
 -- ---- the pairs
 
@@ -197,9 +201,9 @@ module _ (t x z o : List ℕ) (s : Span) (c : ℕ) (ex : x ≡ tableOf stsc t) (
 
 -- ---- the stretch of the track that is asked
 
-module _ (s t : List ℕ) (id : ℕ) (a b : MediaTime) (w : InSpan s id (a .0) (b .0)) (d : t ≡ trackAsked s id) (p : Span) (q : Spans t (a .0) (b .0) p) where
+module _ (s t : List ℕ) (w : Source) (id : ℕ) (a b : MediaTime) (i : InSpan s w id (a .0) (b .0)) (d : t ≡ trackAsked s id) (p : Span) (q : Spans t (a .0) (b .0) p) where
   ready : Usable t
-  ready = usable s t id (w .asks) d
+  ready = usable s t w id (i .asks) d
 
   pub pairs-are : spanPairs t p ≡ stretchPairs s id a b
   unfolding spanPairs stretchPairs pairsIn firstIn pastIn trackOf
@@ -210,8 +214,8 @@ module _ (s t : List ℕ) (id : ℕ) (a b : MediaTime) (w : InSpan s id (a .0) (
   unfolding totalIn
   bounds =
       let ds = perSample (tableOf stts t) in
-      let o : b .0 ≤ sum ds = rw d (w .ends) in
-      let h = w .order in
+      let o : b .0 ≤ sum ds = rw d (i .ends) in
+      let h = i .order in
       let k = holds-below ds (b .0 - 1) (holder ds (b .0 - 1)) (holder-holds ds (b .0 - 1) (omega arith)) in
       let m = holder-mono ds (a .0) (b .0 - 1) (omega arith) in
       (omega (arith, q .first, q .past, m), omega (arith, q .past, k .1, agreed-tables t (ready .agree) .counted))
@@ -234,49 +238,53 @@ pub flat-length : (l : List Pair) → length (flat l) ≡ 2 * length l
 flat-length [] = refl
 flat-length (x ∷ l) = omega (arith, flat-length l)
 
-answered : (s : List ℕ) (id : ℕ) (a b : MediaTime) (room after : List ℕ) (r : ℕ) → stretchRefusal s id a b room ≡ r → (r ≡ 0 → ⊥) → after ≡ room → Stretches s id a b room (Refused r) after
-unfolding stretchAnswer stretchNumbers roomAfter
-answered s id a b room after r e n d = record { answer = rw (e, ne-eqb r 0 n); numbers = rw (e, ne-eqb r 0 n); places = rw (e, ne-eqb r 0 n) d }
+answered : (s : List ℕ) (w : Source) (id : ℕ) (a b : MediaTime) (room : List ℕ) (r : ℕ) → stretchRefusal s w id a b room ≡ r → (r ≡ 0 → ⊥) → Stretches s w id a b room (Refused r) room
+unfolding stretchNumbers
+answered s w id a b room r e n =
+    puts-refused stretchNumbers (refusedWith 2) Refused (λ k. refl) (stretchAsked s id a b) (flat (stretchPairs s id a b)) room (stretchRefusal s w id a b room) r e n
 
-pub no-span : (s : List ℕ) (id : ℕ) (a b : MediaTime) (room : List ℕ) (r : ℕ) → r ≡ spanAt s id (a .0) (b .0) → (r ≡ 0 → ⊥) → Stretches s id a b room (Refused r) room
+pub no-span : (s : List ℕ) (w : Source) (id : ℕ) (a b : MediaTime) (room : List ℕ) (r : ℕ) → r ≡ spanAt s w id (a .0) (b .0) → (r ≡ 0 → ⊥) → Stretches s w id a b room (Refused r) room
 unfolding stretchRefusal spanRefusal orElse
-no-span s id a b room r e n = answered s id a b room room r (first-of (spanAt s id (a .0) (b .0)) (sym e)) n refl
+no-span s w id a b room r e n = answered s w id a b room r (first-of (spanAt s w id (a .0) (b .0)) (sym e)) n
   where
     first-of : (x : ℕ) → x ≡ r → orElse x (noRoom (flat (stretchPairs s id a b)) room) ≡ r
     first-of x q = rw (q, ne-eqb r 0 n)
 
-module _ (s t room : List ℕ) (id : ℕ) (a b : MediaTime) (r : ℕ) (e : r ≡ spanAt s id (a .0) (b .0)) (z : r ≡ 0) (d : t ≡ trackAsked s id) (p : Span) (q : Spans t (a .0) (b .0) p)
-    (n : ℕ) (c : n ≡ length (spanPairs t p)) where
-  spans : InSpan s id (a .0) (b .0)
-  spans = in-span-of s id (a .0) (b .0) (sym e ∙ z)
+module _ (s t room : List ℕ) (w : Source) (id : ℕ) (a b : MediaTime) (r : ℕ) (e : r ≡ spanAt s w id (a .0) (b .0)) (z : r ≡ 0) (d : t ≡ trackAsked s id) (p : Span)
+    (q : Spans t (a .0) (b .0) p) (n : ℕ) (c : n ≡ length (spanPairs t p)) where
+  spans : InSpan s w id (a .0) (b .0)
+  spans = in-span-of s w id (a .0) (b .0) (sym e ∙ z)
 
   same-pairs : spanPairs t p ≡ stretchPairs s id a b
-  same-pairs = pairs-are s t id a b spans d p q
+  same-pairs = pairs-are s t w id a b spans d p q
 
   numbers-are : length (flat (stretchPairs s id a b)) ≡ 2 * n
   numbers-are = omega (arith, flat-length (stretchPairs s id a b), ap length same-pairs, c)
 
-  then-room : stretchRefusal s id a b room ≡ noRoom (flat (stretchPairs s id a b)) room
+  then-room : stretchRefusal s w id a b room ≡ noRoom (flat (stretchPairs s id a b)) room
   unfolding stretchRefusal spanRefusal orElse
   then-room = rw (← e, eq-eqb r 0 z)
 
-  pub no-room : length room / 2 < n → Stretches s id a b room (Refused 16) room
+  pub no-room : length room / 2 < n → Stretches s w id a b room (Refused 16) room
   unfolding noRoom
   no-room h =
       let k = div-lt-iff-lt-mul {x = length room} {y = n} (lit< tt) .0 h in
-      answered s id a b room room 16 (then-room ∙ rw (lt-ltb (length room) (length (flat (stretchPairs s id a b))) (omega (arith, numbers-are)))) (λ y. omega arith) refl
+      answered s w id a b room 16 (then-room ∙ rw (lt-ltb (length room) (length (flat (stretchPairs s id a b))) (omega (arith, numbers-are)))) (λ y. omega arith)
 
   pub whole-stretch : (bytes : ℕ) (after : List ℕ) → n ≤ length room / 2 → bytes ≡ sum (lengthsOf (spanPairs t p)) → after ≡ sets room 0 (flat (spanPairs t p))
-      → Stretches s id a b room (Pairs n bytes) after
-  unfolding noRoom stretchAnswer stretchNumbers roomAfter filledRoom
+      → Stretches s w id a b room (Pairs n bytes) after
+  unfolding noRoom stretchNumbers filledRoom
   whole-stretch bytes after h f g =
-      let k : stretchRefusal s id a b room ≡ 0 = then-room ∙ rw (le-ltb (length room) (length (flat (stretchPairs s id a b))) (omega (arith, numbers-are))) in
+      let k : stretchRefusal s w id a b room ≡ 0 = then-room ∙ rw (le-ltb (length room) (length (flat (stretchPairs s id a b))) (omega (arith, numbers-are))) in
       let m : n ≡ length (stretchPairs s id a b) = c ∙ ap length same-pairs in
-      let y : bytes ≡ bytesIn (trackOf (trackAsked s id)) a b = f ∙ bytes-are s t id a b spans d p q in
+      let y : bytes ≡ bytesIn (trackOf (trackAsked s id)) a b = f ∙ bytes-are s t w id a b spans d p q in
       let l = flat (stretchPairs s id a b) in
       let v : sets room 0 l ≡ l ++ drop (length l) room = rw (zero-add) at (sets-eq l room 0 (omega (arith, numbers-are))) in
-      record {
-        answer = rw (k, ← m, ← y);
-        numbers = rw (k, ← m, ← y);
-        places = rw k (g ∙ ap (λ (x : List Pair). sets room 0 (flat x)) same-pairs ∙ v);
-      }
+      puts-answer stretchNumbers (refusedWith 2) Refused (λ j. refl) (stretchAsked s id a b) l room (stretchRefusal s w id a b room) (Pairs n bytes) after k
+      (rw (m, y))
+      (g ∙ ap (λ (x : List Pair). sets room 0 (flat x)) same-pairs ∙ v)
+
+-- of a whole file, by the source that the code makes
+pub of-whole : (s : List ℕ) (w : Source) (id : ℕ) (a b : MediaTime) (room : List ℕ) (r : StretchAnswer) (after : List ℕ) → w ≡ wholeFile
+    → Stretches s w id a b room r after → Stretches s wholeFile id a b room r after
+of-whole s w id a b room r after h p = subst (λ v. Stretches s v id a b room r after) h p

@@ -9,6 +9,7 @@ use lib.ListN.{length}
 use Rattle.atoms.specs.Kinds.{stsc, stsz, stco, stts}
 use Rattle.lists.specs.Lists.{holder}
 use Rattle.runs.specs.Runs.{perSample}
+use Rattle.structure.specs.declared.source.Source.{Source}
 use Rattle.structure.specs.Track.{tableOf, samplesOf, chunksOf}
 use Rattle.track.specs.Refusals.{contradicts, chunkPastEnd, totalIn}
 use Rattle.pairs.specs.Walks.{pairsBetween}
@@ -44,8 +45,8 @@ spanIn t a b =
     (Samples (record { from = holder (perSample (tableOf stts t)) a; stop = suc (holder (perSample (tableOf stts t)) (b - 1)) }))
     (asks.Refused 15)
 
-unfoldable pub spanAsked : List ℕ → ℕ → ℕ → ℕ → Asked
-spanAsked s id a b = cond (eqb (askRefusal s id) 0) (spanIn (trackAsked s id) a b) (asks.Refused (askRefusal s id))
+unfoldable pub spanAsked : List ℕ → Source → ℕ → ℕ → ℕ → Asked
+spanAsked s w id a b = cond (eqb (askRefusal s w id) 0) (spanIn (trackAsked s id) a b) (asks.Refused (askRefusal s w id))
 
 -- the pairs of some samples of a track
 unfoldable pub spanPairs : List ℕ → Span → List Pair

@@ -9,6 +9,7 @@ use pairs::put_pairs;
 use questions::ask_refusal;
 use questions::track_asked;
 use runs::Lookup;
+use structure::source::Source;
 use structure::trak::table;
 ghost use mathlib.Core.Path.{_≡_};
 ghost use Prim.Native.Nat.{_≤_, _<_, _*_};
@@ -17,6 +18,7 @@ ghost use lib.Seq.{sets};
 ghost use Rattle.lists.specs.Lists.{sum, holder};
 ghost use Rattle.runs.specs.Runs.{perSample};
 ghost use Rattle.atoms.specs.Kinds.{stts};
+ghost use Rattle.structure.specs.Source.{wholeFile};
 ghost use Rattle.structure.specs.Track.{tableOf};
 ghost use Rattle.track.specs.Refusals.{totalIn};
 ghost use Rattle.pairs.specs.Pairs.{flat};
@@ -66,24 +68,24 @@ fn span_in(trak: &[u8], a: u32, b: u32) -> Asked
     }
 }
 
-// What the stretch from a to b of a track of a file asks for.
-fn span_asked(file: &[u8], id: u32, a: u32, b: u32) -> Asked
-    ensures { λ r. ⌜ r ≡ spanAsked (now (file .entry)) id a b ⌝ }
+// What the stretch from a to b of a track of a film asks for.
+fn span_asked(lent: &[u8], source: Source, id: u32, a: u32, b: u32) -> Asked
+    ensures { λ r. ⌜ r ≡ spanAsked (now (lent .entry)) source id a b ⌝ }
 {
-    let refused = ask_refusal(file, id);
+    let refused = ask_refusal(lent, source, id);
     if refused != 0 {
         return Asked::Refused(refused);
     }
-    span_in(track_asked(file, id), a, b)
+    span_in(track_asked(lent, id), a, b)
 }
 
-// The refusal before the room is looked at: the file's, 14, or 15; 0 where there is none.
-pub fn span_refusal(file: &[u8], id: u32, a: MediaTime, b: MediaTime) -> u32
-    ensures { λ r. ⌜ r ≡ spanRefusal (now (file .entry)) id a b ⌝ }
+// The refusal before the room is looked at: the film's, 14, or 15; 0 where there is none.
+pub fn span_refusal(lent: &[u8], source: Source, id: u32, a: MediaTime, b: MediaTime) -> u32
+    ensures { λ r. ⌜ r ≡ spanRefusal (now (lent .entry)) source id a b ⌝ }
 {
     let first = a.0;
     let last = b.0;
-    match span_asked(file, id, first, last) {
+    match span_asked(lent, source, id, first, last) {
         Asked::Samples(_) => 0,
         Asked::Refused(r) => r,
     }
@@ -124,11 +126,11 @@ pub fn stretch_of(
     b: MediaTime,
     room: &mut [u32],
 ) -> StretchAnswer
-    ensures { λ r. ⌜ Stretches (now (file .entry)) id a b (now (room .entry)) r (now (room .exit)) ⌝ }
+    ensures { λ r. ⌜ Stretches (now (file .entry)) wholeFile id a b (now (room .entry)) r (now (room .exit)) ⌝ }
 {
     let first = a.0;
     let last = b.0;
-    match span_asked(file, id, first, last) {
+    match span_asked(file, Source::whole(), id, first, last) {
         Asked::Refused(r) => StretchAnswer::Refused(r),
         Asked::Samples(span) => {
             let trak = track_asked(file, id);

@@ -12,6 +12,7 @@ use questions::track_asked;
 use slip::Head;
 use slip::head_len;
 use slip::put_head;
+use structure::source::Source;
 use structure::trak::media_scale;
 use structure::trak::table;
 ghost use mathlib.Core.Path.{_≡_};
@@ -21,6 +22,7 @@ ghost use lib.Seq.{sets};
 ghost use Rattle.leb128.specs.Numbers.{writes};
 ghost use Rattle.pairs.specs.Pairs.{flat};
 ghost use Rattle.slip.specs.Slip.{slipBytes};
+ghost use Rattle.structure.specs.Source.{wholeFile};
 ghost use Rattle.stretch.specs.Spans.{Usable, spanPairs, PutSlip};
 ghost use Rattle.stretch.specs.Slips.{Slips};
 
@@ -65,13 +67,14 @@ fn put_slip(trak: &[u8], s: Span, head: Head, out: &mut [u8]) -> SlipAnswer
     SlipAnswer::Written(write_in(trak, s, out, at))
 }
 
-// The slip of a track's stretch from a to b, in the first bytes. A refusal leaves the bytes as they are.
+// The slip of a track's stretch from a to b, in the first bytes. The film is read strictly. A refusal leaves the bytes as they are.
 pub fn write_slip(file: &[u8], id: u32, a: MediaTime, b: MediaTime, out: &mut [u8]) -> SlipAnswer
-    ensures { λ r. ⌜ Slips (now (file .entry)) id a b (now (out .entry)) r (now (out .exit)) ⌝ }
+    ensures { λ r. ⌜ Slips (now (file .entry)) wholeFile id a b (now (out .entry)) r (now (out .exit)) ⌝ }
 {
     let first = a.0;
     let last = b.0;
-    match span_asked(file, id, first, last) {
+    let source = Source::whole().strictly();
+    match span_asked(file, source, id, first, last) {
         Asked::Refused(r) => SlipAnswer::Refused(r),
         Asked::Samples(span) => {
             let trak = track_asked(file, id);

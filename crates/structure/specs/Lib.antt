@@ -1,3 +1,4 @@
+pub mod Source
 pub mod Profile
 pub mod Track
 pub mod Movie

@@ -43,7 +43,7 @@ shortVideoDescription t = eqb (subtypeOf t) vide && not (sizedEntries 36 (tableO
 unfoldable pub wrongTrackSize : List ℕ → Bool
 wrongTrackSize t = shortVideoDescription t || not (profileOk (profileOf t))
 
--- the rows that are judged on the file: number, condition on the file. `fileRefusal` of the crate movie begins with them
+-- the rows that are judged on the file: number, condition on the file. `filmRefusal` of the crate movie begins with them
 unfoldable pub fileRows : List Row
 fileRows =
     row 1 fileTooLong never

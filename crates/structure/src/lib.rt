@@ -1,6 +1,7 @@
 // The structure of a movie file: refusals 1 to 6.
 pub mod moov;
 mod profile;
+pub mod source;
 pub mod trak;
 
 use atoms::body_of;

@@ -2,7 +2,7 @@
 -- Assumes nothing.
 use Prim.Native.Nat.{ℕ, _<_}
 use mathlib.Core.Path.{_≡_, sym, ap, _∙_}
-use mathlib.Core.Bool.{Bool, true, false, not}
+use mathlib.Core.Bool.{Bool, true, false, not, _&&_}
 use mathlib.Core.List.{List}
 use native.Mathlib.Omega.{arith}
 use lib.Dec.{ltb, eqb}
@@ -19,6 +19,7 @@ use Rattle.lists.specs.Lists.{sum}
 use Rattle.runs.specs.Runs.{perSample}
 use Rattle.words.specs.Words.{sizes, chunkOffsets}
 use Rattle.chunks.specs.Chunks.{perChunk, endWithin}
+use Rattle.structure.specs.declared.source.Source.{Source}
 use Rattle.structure.specs.Track.{idOf, scaleOf, durationOf, tableOf, elstOf}
 use Rattle.edits.specs.Edits.{editTotal, editsOk}
 use Rattle.track.specs.Refusals.{contradicts, totalIn, totalTooLarge, otherDuration, chunkPastEnd, wrongEdits}
@@ -48,61 +49,62 @@ module _ (x : ℕ) (r : Total) (is : r ≡ totalOf x) where
 
 -- ---- rows 10 to 13
 
-module _ (movie len : ℕ) (t : List ℕ) (total : ℕ) (is : total ≡ totalIn t) (fits : total < 4294967296) where
+module _ (w : Source) (movie len : ℕ) (t : List ℕ) (total : ℕ) (is : total ≡ totalIn t) (fits : total < 4294967296) where
   short : ltb 4294967295 (totalIn t) ≡ false
   short = le-ltb 4294967295 (totalIn t) (omega arith)
 
-  pub timed-10 : ltb 4294967295 (editTotal (elstOf t)) ≡ true → ofTrack (timedRows movie len) t ≡ 10
+  pub timed-10 : ltb 4294967295 (editTotal (elstOf t)) ≡ true → ofTrack (timedRows w movie len) t ≡ 10
   unfolding timedRows first totalTooLarge
   timed-10 a = rw (short, a)
 
   module _ (a : ltb 4294967295 (editTotal (elstOf t)) ≡ false) where
-    pub timed-11 : (durationOf t ≡ total → ⊥) → ofTrack (timedRows movie len) t ≡ 11
-    unfolding timedRows first totalTooLarge otherDuration
-    timed-11 b = rw (short, a, ne-eqb (durationOf t) (totalIn t) (λ z. b (z ∙ sym is)))
+    pub timed-11 : otherDuration w t ≡ true → ofTrack (timedRows w movie len) t ≡ 11
+    unfolding timedRows first totalTooLarge
+    timed-11 b = rw (short, a, b)
 
-    module _ (b : durationOf t ≡ total) where
-      same : eqb (durationOf t) (totalIn t) ≡ true
-      same = eq-eqb (durationOf t) (totalIn t) (b ∙ is)
+    module _ (b : otherDuration w t ≡ false) where
+      pub timed-12 : chunkPastEnd len t ≡ true → ofTrack (timedRows w movie len) t ≡ 12
+      unfolding timedRows first totalTooLarge
+      timed-12 c = rw (short, a, b, c)
 
-      pub timed-12 : chunkPastEnd len t ≡ true → ofTrack (timedRows movie len) t ≡ 12
-      unfolding timedRows first totalTooLarge otherDuration
-      timed-12 c = rw (short, a, same, c)
+      pub timed-13 : chunkPastEnd len t ≡ false → wrongEdits movie t ≡ true → ofTrack (timedRows w movie len) t ≡ 13
+      unfolding timedRows first totalTooLarge
+      timed-13 c d = rw (short, a, b, c, d)
 
-      pub timed-13 : chunkPastEnd len t ≡ false → wrongEdits movie t ≡ true → ofTrack (timedRows movie len) t ≡ 13
-      unfolding timedRows first totalTooLarge otherDuration
-      timed-13 c d = rw (short, a, same, c, d)
-
-      pub timed-0 : chunkPastEnd len t ≡ false → wrongEdits movie t ≡ false → ofTrack (timedRows movie len) t ≡ 0
-      unfolding timedRows first totalTooLarge otherDuration
-      timed-0 c d = rw (short, a, same, c, d)
+      pub timed-0 : chunkPastEnd len t ≡ false → wrongEdits movie t ≡ false → ofTrack (timedRows w movie len) t ≡ 0
+      unfolding timedRows first totalTooLarge
+      timed-0 c d = rw (short, a, b, c, d)
 
 -- ---- rows 7 to 9, and 10 where the durations alone are too long
 
-module _ (movie len : ℕ) (t : List ℕ) where
-  pub rows-7 : idOf t ≡ 0 → ofTrack (trackRows movie len) t ≡ 7
+module _ (w : Source) (movie len : ℕ) (t : List ℕ) where
+  pub rows-7 : idOf t ≡ 0 → ofTrack (trackRows w movie len) t ≡ 7
   unfolding trackRows first
   rows-7 a = rw (eq-eqb (idOf t) 0 a)
 
   module _ (a : idOf t ≡ 0 → ⊥) where
-    pub rows-8 : scaleOf t ≡ 0 → ofTrack (trackRows movie len) t ≡ 8
+    pub rows-8 : scaleOf t ≡ 0 → ofTrack (trackRows w movie len) t ≡ 8
     unfolding trackRows first
     rows-8 b = rw (ne-eqb (idOf t) 0 a, eq-eqb (scaleOf t) 0 b)
 
     module _ (b : scaleOf t ≡ 0 → ⊥) where
-      pub rows-9 : contradicts t ≡ true → ofTrack (trackRows movie len) t ≡ 9
+      pub rows-9 : contradicts t ≡ true → ofTrack (trackRows w movie len) t ≡ 9
       unfolding trackRows first
       rows-9 c = rw (ne-eqb (idOf t) 0 a, ne-eqb (scaleOf t) 0 b, c)
 
-      pub rows-timed : contradicts t ≡ false → ofTrack (trackRows movie len) t ≡ ofTrack (timedRows movie len) t
+      pub rows-timed : contradicts t ≡ false → ofTrack (trackRows w movie len) t ≡ ofTrack (timedRows w movie len) t
       unfolding trackRows first
       rows-timed c = rw (ne-eqb (idOf t) 0 a, ne-eqb (scaleOf t) 0 b, c)
 
-pub timed-over : (movie len : ℕ) (t : List ℕ) → ltb 4294967295 (totalIn t) ≡ true → ofTrack (timedRows movie len) t ≡ 10
+pub timed-over : (w : Source) (movie len : ℕ) (t : List ℕ) → ltb 4294967295 (totalIn t) ≡ true → ofTrack (timedRows w movie len) t ≡ 10
 unfolding timedRows first totalTooLarge
-timed-over movie len t a = rw a
+timed-over w movie len t a = rw a
 
 -- ---- the conditions, by what the code reads
+
+pub other-by : (w : Source) (t : List ℕ) (stored total : ℕ) → stored ≡ durationOf t → total ≡ totalIn t → (w .strict && not (eqb stored total)) ≡ otherDuration w t
+unfolding otherDuration
+other-by w t stored total es et = rw (es, et)
 
 pub chunk-past-end-by : (len : ℕ) (t x z o : List ℕ) (r : Bool) → x ≡ tableOf stsc t → z ≡ tableOf stsz t → o ≡ tableOf stco t
     → r ≡ endWithin len (perChunk x (u32At o 12)) (chunkOffsets o) (sizes z) → not r ≡ chunkPastEnd len t

@@ -5,6 +5,7 @@ use mathlib.Core.Bool.{Bool, false, not, _&&_, _||_}
 use lib.ListN.{length}
 use lib.Dec.{ltb, eqb}
 use Rattle.atoms.specs.Kinds.{stts, ctts, stsc, stsz, stco, stss}
+use Rattle.structure.specs.declared.source.Source.{Source}
 use Rattle.structure.specs.Track.{scaleOf, durationOf, tableOf, elstOf, samplesOf, chunksOf, descriptionsOf}
 use Rattle.lists.specs.Lists.{sum, Run}
 use Rattle.runs.specs.Runs.{runsOf, perSample}
@@ -44,9 +45,9 @@ totalIn t = sum (perSample (tableOf stts t))
 unfoldable pub totalTooLarge : List ℕ → Bool
 totalTooLarge t = ltb 4294967295 (totalIn t) || ltb 4294967295 (editTotal (elstOf t))
 
--- 11: "the mdhd duration is not the total of the sample durations"
-unfoldable pub otherDuration : List ℕ → Bool
-otherDuration t = not (eqb (durationOf t) (totalIn t))
+-- 11: "the mdhd duration is not the total of the sample durations", "only where strict reading is asked for"
+unfoldable pub otherDuration : Source → List ℕ → Bool
+otherDuration w t = w .strict && not (eqb (durationOf t) (totalIn t))
 
 -- 12: "a chunk's offset plus the sizes of its samples passes the file's end"
 unfoldable pub chunkPastEnd : ℕ → List ℕ → Bool

@@ -10,6 +10,7 @@ use leaves::present::both;
 use lists::Total;
 use runs::counts;
 use runs::total_duration;
+use structure::source::Source;
 use structure::trak::edit_list;
 use structure::trak::media_scale;
 use structure::trak::stored_duration;
@@ -27,7 +28,7 @@ ghost use Rattle.chunks.specs.Chunks.{perChunk};
 ghost use Rattle.runs.specs.Runs.{runsOf};
 ghost use Rattle.runs.specs.Computed.{counting};
 ghost use Rattle.edits.specs.Edits.{editTotal};
-ghost use Rattle.track.specs.Refusals.{contradicts, totalIn};
+ghost use Rattle.track.specs.Refusals.{contradicts, totalIn, otherDuration};
 ghost use Rattle.track.specs.TrackRows.{timedRows, trackRows};
 
 // The total of a track's sample durations.
@@ -86,16 +87,25 @@ fn is_over(elst: &[u8]) -> bool
     }
 }
 
+// Whether mdhd states another duration than the total, where that is asked for.
+fn has_other_duration(trak: &[u8], total: u32, source: Source) -> bool
+    requires { ⌜ total ≡ totalIn (now trak) ⌝ }
+    ensures { λ r. ⌜ r ≡ otherDuration source (now (trak .entry)) ⌝ }
+{
+    let stored = stored_duration(trak);
+    both(source.strict, stored != total)
+}
+
 // 10 to 13, of a track whose durations total `total`.
-fn timed_refusal(trak: &[u8], movie: u32, len: u64, total: u32) -> u32
+fn timed_refusal(trak: &[u8], movie: u32, len: u64, source: Source, total: u32) -> u32
     requires { ⌜ (total ≡ totalIn (now trak)) × (length (now trak) < 2 ^ 32) ⌝ }
-    ensures { λ r. ⌜ r ≡ ofTrack (timedRows movie len) (now (trak .entry)) ⌝ }
+    ensures { λ r. ⌜ r ≡ ofTrack (timedRows source movie len) (now (trak .entry)) ⌝ }
 {
     let elst = edit_list(trak);
     if is_over(elst) {
         return 10;
     }
-    if stored_duration(trak) != total {
+    if has_other_duration(trak, total, source) {
         return 11;
     }
     let stsz = table(trak, kinds::STSZ);
@@ -113,10 +123,10 @@ fn timed_refusal(trak: &[u8], movie: u32, len: u64, total: u32) -> u32
     0
 }
 
-// The lowest of 7 to 13 that applies to a track, in a movie of that time scale and a file of that length; 0 where none does.
-pub fn refusal(trak: &[u8], movie: u32, len: u64) -> u32
+// The lowest of 7 to 13 that applies to a track, in a movie of that time scale and a file of that length, by that source; 0 where none does.
+pub fn refusal(trak: &[u8], movie: u32, len: u64, source: Source) -> u32
     requires { ⌜ length (now trak) < 2 ^ 32 ⌝ }
-    ensures { λ r. ⌜ r ≡ ofTrack (trackRows movie len) (now (trak .entry)) ⌝ }
+    ensures { λ r. ⌜ r ≡ ofTrack (trackRows source movie len) (now (trak .entry)) ⌝ }
 {
     if track_id(trak) == 0 {
         return 7;
@@ -130,6 +140,6 @@ pub fn refusal(trak: &[u8], movie: u32, len: u64) -> u32
     let stts = table(trak, kinds::STTS);
     match total_duration(stts) {
         Total::Over => 10,
-        Total::Sum(total) => timed_refusal(trak, movie, len, total),
+        Total::Sum(total) => timed_refusal(trak, movie, len, source, total),
     }
 }

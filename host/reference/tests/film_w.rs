@@ -1,7 +1,8 @@
 //! Every case of document 01, "Film W".
 use reference::film::{stco, w, w_movie, w_track, Movie, Node, Sizes, Track};
 use reference::movie::{
-    feature, listing, media_time, refusal, sample, sample_at, sample_bytes, stretch, write_slip, MediaTime, Sample,
+    feature, listing, media_time, refusal, sample, sample_at, sample_bytes, stretch, strict_refusal, write_slip,
+    MediaTime, Sample,
 };
 
 fn code(text: &[u8; 4]) -> u32 {
@@ -98,7 +99,9 @@ fn edits() {
 
 #[test]
 fn refusals() {
-    assert_eq!(refusal(&with_track(Track { duration: 121, ..w_track() }).bytes()), 11);
+    let other = with_track(Track { duration: 121, ..w_track() }).bytes();
+    assert_eq!((refusal(&other), strict_refusal(&other)), (0, 11));
+    assert_eq!(write_slip(&other, 1, 24, 73, &mut [0; 13]), (11, 0));
     for (offset, number) in [(4027, 12), (4026, 0)] {
         let mut film = w();
         film.replace("moov trak mdia minf stbl stco", stco(&[1000, offset]));
@@ -109,7 +112,10 @@ fn refusals() {
 
 #[test]
 fn the_listing() {
-    assert_eq!(listing(&w().bytes()), "id subtype scale total samples chunks edits\n1 76696465 600 120 4 2 0\n");
+    assert_eq!(
+        listing(&w().bytes()),
+        "id subtype scale total samples chunks edits stored\n1 76696465 600 120 4 2 0 120\n"
+    );
     assert_eq!(listing(&[]), "refused 3\n");
     assert_eq!(listing(&w_movie().file_of(65_536).bytes()).lines().count(), 2);
     assert_eq!(listing(&w_movie().file_of(65_537).bytes()), "too long\n");
@@ -122,7 +128,7 @@ fn misreadings() {
     let film = Movie { tracks: vec![w_track(), second], ..w_movie() }.file_of(4096).bytes();
     assert_eq!(
         listing(&film).lines().skip(1).collect::<Vec<_>>(),
-        ["1 76696465 600 120 4 2 0", "7 76696465 600 40 4 2 0"]
+        ["1 76696465 600 120 4 2 0 120", "7 76696465 600 40 4 2 0 40"]
     );
     assert_eq!(sample(&film, 7, 4).1.offset, 950);
     // "The last stsc entry applied to one chunk and not to all that remain."

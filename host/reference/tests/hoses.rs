@@ -6,8 +6,8 @@ use reference::movie::{listing, refusal, sample_bytes, stretch};
 fn it_is_accepted_and_lists_both() {
     let film = two_hoses().bytes();
     assert_eq!(refusal(&film), 0);
-    let tracks = "1 76696465 600 144 6 3 0\n2 76696465 600 144 6 3 0\n";
-    assert_eq!(listing(&film), format!("id subtype scale total samples chunks edits\n{tracks}"));
+    let tracks = "1 76696465 600 144 6 3 0 144\n2 76696465 600 144 6 3 0 144\n";
+    assert_eq!(listing(&film), format!("id subtype scale total samples chunks edits stored\n{tracks}"));
 }
 
 #[test]

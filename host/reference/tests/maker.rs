@@ -1,12 +1,12 @@
 //! The maker's films are what they are meant to be.
 use reference::maker::{self, slips, Random};
-use reference::movie::refusal;
+use reference::movie::strict_refusal;
 use reference::slip::read_slip;
 
 #[test]
 fn films_without_faults_are_accepted() {
     for index in 0..3000 {
-        assert_eq!(refusal(&maker::valid(&mut Random::of(1, index))), 0, "film {index}");
+        assert_eq!(strict_refusal(&maker::valid(&mut Random::of(1, index))), 0, "film {index}");
     }
 }
 
@@ -14,7 +14,7 @@ fn films_without_faults_are_accepted() {
 fn films_meet_each_refusal_of_a_file_but_1() {
     let mut met = [0; 14];
     for index in 0..6000 {
-        met[usize::try_from(refusal(&maker::film(&mut Random::of(2, index)))).unwrap()] += 1;
+        met[usize::try_from(strict_refusal(&maker::film(&mut Random::of(2, index)))).unwrap()] += 1;
     }
     met[1] += 1;
     assert!(!met.contains(&0), "{met:?}");

@@ -63,10 +63,10 @@ fn no_run_of_w_gets_there() {
 
 #[test]
 fn order_of_refusals() {
-    let refused = film(Track { duration: 1, ..w_track() });
+    let refused = film(Track { stco: vec![u32::MAX, 0], ..w_track() });
     let whole = w().bytes();
     for feature_code in [code(b"mvbr"), code(b"mabr"), code(b"avvb"), 0] {
-        assert_eq!(peak(&refused, 2, feature_code), (11, (0, 0)));
+        assert_eq!(peak(&refused, 2, feature_code), (12, (0, 0)));
         assert_eq!(peak(&whole, 2, feature_code), (14, (0, 0)));
         assert_eq!(peak(&whole, 0, feature_code), (14, (0, 0)));
     }

@@ -15,17 +15,17 @@ fn with(change: impl Fn(&mut Track)) -> Vec<u8> {
 
 #[test]
 fn file_refusals_come_first_and_14_before_the_rest() {
-    let refused = with(|track| track.duration = 1);
+    let refused = with(|track| track.stco[1] = 9999);
     let film = w().bytes();
     let mut room = [9; 20];
     let mut bytes = [9; 20];
-    assert_eq!(track_list(&refused, &mut room), (11, 0));
-    assert_eq!(sample(&refused, 2, 0), (11, Sample::default()));
+    assert_eq!(track_list(&refused, &mut room), (12, 0));
+    assert_eq!(sample(&refused, 2, 0), (12, Sample::default()));
     assert_eq!(sample(&film, 2, 0), (14, Sample::default()));
     assert_eq!(sample(&film, 0, 1), (14, Sample::default()));
-    assert_eq!(sample_at(&refused, 2, 0), (11, (0, 0)));
+    assert_eq!(sample_at(&refused, 2, 0), (12, (0, 0)));
     assert_eq!(sample_at(&film, 2, 500), (14, (0, 0)));
-    assert_eq!(media_time(&refused, 2, 500), MediaTime::Refused(11));
+    assert_eq!(media_time(&refused, 2, 500), MediaTime::Refused(12));
     assert_eq!(media_time(&film, 2, 500), MediaTime::Refused(14));
     assert_eq!(stretch(&film, 2, 5, 5, &mut []), (14, (0, 0)));
     assert_eq!(stretch(&film, 1, 5, 5, &mut []), (15, (0, 0)));
@@ -36,6 +36,7 @@ fn file_refusals_come_first_and_14_before_the_rest() {
     assert_eq!(stored_profile(&film, 2, &mut []), (14, 0));
     assert_eq!(stored_profile(&film, 1, &mut []), (0, 0));
     assert_eq!(stored_profile(&film, 0, &mut []), (0, 0));
+    assert_eq!(write_slip(&refused, 2, 5, 5, &mut []), (12, 0));
     assert_eq!(write_slip(&film, 2, 5, 5, &mut []), (14, 0));
     assert_eq!(write_slip(&film, 1, 5, 5, &mut []), (15, 0));
     assert_eq!(write_slip(&film, 1, 24, 73, &mut bytes[..12]), (16, 0));
@@ -44,13 +45,30 @@ fn file_refusals_come_first_and_14_before_the_rest() {
 
 #[test]
 fn lists_fill_the_first_places() {
-    let mut room = [9; 8];
-    assert_eq!(track_list(&w().bytes(), &mut room[..6]), (16, 0));
+    let mut room = [9; 9];
+    assert_eq!(track_list(&w().bytes(), &mut room[..7]), (16, 0));
     assert_eq!(track_list(&w().bytes(), &mut room), (0, 1));
-    assert_eq!(room, [1, code(b"vide"), 600, 120, 4, 2, 0, 9]);
+    assert_eq!(room, [1, code(b"vide"), 600, 120, 4, 2, 0, 120, 9]);
     let no_tracks = Movie { tracks: vec![], ..w_movie() }.file().bytes();
     assert_eq!(track_list(&no_tracks, &mut []), (0, 0));
-    assert_eq!(listing(&no_tracks), "id subtype scale total samples chunks edits\n");
+    assert_eq!(listing(&no_tracks), "id subtype scale total samples chunks edits stored\n");
+}
+
+#[test]
+fn another_stored_duration_stops_only_the_slip_writer() {
+    let film = with(|track| track.duration = 121);
+    let mut room = [9; 9];
+    assert_eq!(track_list(&film, &mut room), (0, 1));
+    assert_eq!(room, [1, code(b"vide"), 600, 120, 4, 2, 0, 121, 9]);
+    assert_eq!(sample_at(&film, 1, 119), (0, (4, 2)));
+    assert_eq!(sample_at(&film, 1, 120), (15, (0, 0)));
+    assert_eq!(stretch(&film, 1, 24, 73, &mut room), (0, (2, 120)));
+    for (id, a, b, length) in [(1, 24, 73, 13), (2, 24, 73, 13), (1, 5, 5, 13), (1, 24, 73, 0)] {
+        assert_eq!(write_slip(&film, id, a, b, &mut vec![9; length]), (11, 0));
+    }
+    let both = with(|track| (track.duration, track.stco[1]) = (121, 9999));
+    assert_eq!(sample(&both, 1, 1), (12, Sample::default()));
+    assert_eq!(write_slip(&both, 1, 24, 73, &mut [9; 13]), (11, 0));
 }
 
 #[test]

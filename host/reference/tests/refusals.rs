@@ -1,23 +1,30 @@
 //! A few films for each refusal of a file.
 use reference::film::*;
 use reference::movie::atoms::{Leaf, MovieLeaves, Place};
-use reference::movie::refusal;
 use reference::movie::refusals::{refused_1, refused_6};
+use reference::movie::{refusal, strict_refusal};
 
 const STBL: &str = "moov trak mdia minf stbl";
+
+/// The number with which a film is refused where strict reading is asked for. Only 11 is another by default.
+fn refused(film: &[u8]) -> u32 {
+    let number = strict_refusal(film);
+    assert!(number == 11 || refusal(film) == number);
+    number
+}
 
 /// The number with which W is refused after a change to its atoms.
 fn changed(change: impl Fn(&mut Node)) -> u32 {
     let mut film = w();
     change(&mut film);
-    refusal(&film.bytes())
+    refused(&film.bytes())
 }
 
 /// The number with which W is refused after a change to its track's tables.
 fn track(change: impl Fn(&mut Track)) -> u32 {
     let mut movie = w_movie();
     change(&mut movie.tracks[0]);
-    refusal(&movie.file_of(4096).bytes())
+    refused(&movie.file_of(4096).bytes())
 }
 
 #[test]
@@ -200,6 +207,14 @@ fn number_10() {
 fn number_11() {
     assert_eq!(track(|track| track.duration = 119), 11);
     assert_eq!(track(|track| track.stts = vec![(4, 24)]), 11);
+    let by_default = |change: fn(&mut Track)| {
+        let mut movie = w_movie();
+        change(&mut movie.tracks[0]);
+        refusal(&movie.file_of(4096).bytes())
+    };
+    assert_eq!(by_default(|track| track.duration = 119), 0);
+    assert_eq!(by_default(|track| (track.duration, track.stco[1]) = (119, 9999)), 12);
+    assert_eq!(by_default(|track| (track.duration, track.edits) = (119, Some(vec![]))), 13);
 }
 
 #[test]
@@ -234,7 +249,7 @@ fn lower_numbers_come_first() {
         movie.tracks.push(Track { id: 2, ..w_track() });
         first(&mut movie.tracks[0]);
         last(&mut movie.tracks[1]);
-        refusal(&movie.file_of(4096).bytes())
+        refused(&movie.file_of(4096).bytes())
     };
     assert_eq!(two(|_| (), |_| ()), 0);
     assert_eq!(two(|track| track.scale = 0, |track| track.stts = vec![]), 8);
@@ -264,7 +279,7 @@ fn damaged_films_have_an_answer() {
                 film[at..at + 4].copy_from_slice(&u32::from(value).to_be_bytes());
             }
         }
-        seen[usize::try_from(refusal(&film)).unwrap()] += 1;
+        seen[usize::try_from(refused(&film)).unwrap()] += 1;
     }
     // W has few entries and no edits, so that 6 and 13 have films of their own above.
     for number in [0, 2, 3, 4, 5, 7, 8, 9, 10, 11, 12] {

@@ -9,7 +9,7 @@ refusal-requires : tie.Need-refusal-requires
 refusal-requires c κs = search needs
 
 returns : tie.Need-returns
-returns c = refused-first _ _ (c .before .refusal .ensures) (c .if1 .taken)
+returns c = refused-first _ _ _ (c .before .refusal .ensures) (c .if1 .taken)
 
 moov-body-requires : tie.Need-moov-body-requires
 moov-body-requires c κs = search needs
@@ -20,7 +20,7 @@ tables-refusal-requires c κs = moov-fits _ _ _ (c .before .before .refusal .ens
 returns-2 : tie.Need-returns-2
 returns-2 c =
     let b = c .before in
-    then-tables _ _ _ _ (b .before .before .refusal .ensures) (b .before .if1 .left) (b .moov-body .ensures) (c .tables-refusal .ensures)
+    then-tables _ _ _ _ _ (b .before .before .refusal .ensures) (b .before .if1 .left) (b .moov-body .ensures) (c .tables-refusal .ensures)
 
 pub refusal-spec : {M : Type 1} → statement M
 refusal-spec =

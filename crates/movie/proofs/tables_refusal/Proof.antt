@@ -19,10 +19,10 @@ use Rattle.movie.proofs.tables_refusal.Statement.{statement}
 use Rattle.movie.proofs.tables_refusal.Tie as tie
 
 abbrev Inv-loop : tie.InvT-loop
-Inv-loop moov len scale t₀ found₀ t found = (length t < 2 ^ 32) × (lowerOf found (ofTracks (tableRows scale len) (tracksOf t)) ≡ tablesRefusal len moov)
+Inv-loop moov len source scale t₀ found₀ t found = (length t < 2 ^ 32) × (lowerOf found (ofTracks (tableRows source scale len) (tracksOf t)) ≡ tablesRefusal source len moov)
 
 abbrev μ-loop : tie.MeasureT-loop
-μ-loop moov len scale t₀ found₀ t found = length t
+μ-loop moov len source scale t₀ found₀ t found = length t
 
 movie-scale-requires : tie.Need-movie-scale-requires Inv-loop μ-loop
 movie-scale-requires c κs = search needs
@@ -36,8 +36,8 @@ loop-holds c =
     let m = now (a .args .moov) in
     let scale = c .before .movie-scale .result in (
       a .pre,
-      ap (λ x. lowerOf x (ofTracks (tableRows scale (a .args .len)) (tracksOf m))) (c .own-refusal .ensures)
-          ∙ sym (tables-by-tracks scale (a .args .len) m (c .before .movie-scale .ensures)),
+      ap (λ x. lowerOf x (ofTracks (tableRows (a .args .source) scale (a .args .len)) (tracksOf m))) (c .own-refusal .ensures)
+          ∙ sym (tables-by-tracks (a .args .source) scale (a .args .len) m (c .before .movie-scale .ensures)),
     )
 
 size-in-requires : tie.Need-size-in-requires Inv-loop μ-loop
@@ -88,11 +88,11 @@ loop-again c =
     let h = c .before .before .before .if1 .left in
     let u = c .before .before .u32-at .ensures in
     let b = c .before .before .before .before .before .before in
-    let rs = tableRows (b .before .movie-scale .result) (b .before .before .before .args .len) in
+    let rs = tableRows (b .before .before .before .args .source) (b .before .movie-scale .result) (b .before .before .before .args .len) in
     rw (rest n (now (l .t))) (
       omega (arith, l .inv .0, length-drop n (now (l .t))),
       ⊎-elim
-          (λ w. found-here rs (l .found) (now (l .t)) n e _ _ _ h (sym u ∙ w .0 .taken) (w .2 .ensures) (w .3 .ensures ∙ track-rows _ _ _) (w .5 ∙ w .4 .ensures) ∙ l .inv .1)
+          (λ w. found-here rs (l .found) (now (l .t)) n e _ _ _ h (sym u ∙ w .0 .taken) (w .2 .ensures) (w .3 .ensures ∙ track-rows _ _ _ _) (w .5 ∙ w .4 .ensures) ∙ l .inv .1)
           (λ w. found-next rs (l .found) (now (l .t)) n e _ h (λ q. w .0 .left (u ∙ q)) (w .1) ∙ l .inv .1)
           (c .before .if2 .came),
     )

@@ -2,7 +2,7 @@
 -- Assumes nothing.
 use borrow.Author.Needs.{needs}
 use mathlib.Core.Path.{sym, _∙_}
-use Rattle.questions.proofs.Asking.{ask-file, ask-track}
+use Rattle.questions.proofs.Asking.{ask-film, ask-track}
 use Rattle.questions.proofs.ask_refusal.Statement.{statement}
 use Rattle.questions.proofs.ask_refusal.Tie as tie
 
@@ -10,7 +10,7 @@ refusal-requires : tie.Need-refusal-requires
 refusal-requires c κs = search needs
 
 returns : tie.Need-returns
-returns c = ask-file _ _ _ (c .before .refusal .ensures) (c .if1 .taken)
+returns c = ask-film _ _ _ _ (c .before .refusal .ensures) (c .if1 .taken)
 
 moov-body-requires : tie.Need-moov-body-requires
 moov-body-requires c κs = search needs
@@ -22,13 +22,13 @@ returns-2 : tie.Need-returns-2
 returns-2 c =
     let h = c .before in
     let m = h .before in
-    sym (ask-track _ _ _ _ _ (m .before .before .refusal .ensures) (m .before .if1 .left) (m .moov-body .ensures) (h .has-track .ensures) ∙ rw (c .if2 .taken))
+    sym (ask-track _ _ _ _ _ _ (m .before .before .refusal .ensures) (m .before .if1 .left) (m .moov-body .ensures) (h .has-track .ensures) ∙ rw (c .if2 .taken))
 
 returns-3 : tie.Need-returns-3
 returns-3 c =
     let h = c .before in
     let m = h .before in
-    sym (ask-track _ _ _ _ _ (m .before .before .refusal .ensures) (m .before .if1 .left) (m .moov-body .ensures) (h .has-track .ensures) ∙ rw (c .if2 .left))
+    sym (ask-track _ _ _ _ _ _ (m .before .before .refusal .ensures) (m .before .if1 .left) (m .moov-body .ensures) (h .has-track .ensures) ∙ rw (c .if2 .left))
 
 pub ask-refusal-spec : {M : Type 1} → statement M
 ask-refusal-spec =

@@ -19,7 +19,7 @@ track-asked-requires : tie.Need-track-asked-requires
 track-asked-requires c κs = search needs
 
 span-in-requires : tie.Need-span-in-requires
-span-in-requires c κs = usable _ _ _ (sym (c .before .before .ask-refusal .ensures) ∙ c .before .if1 .left) (c .track-asked .ensures)
+span-in-requires c κs = usable _ _ _ _ (sym (c .before .before .ask-refusal .ensures) ∙ c .before .if1 .left) (c .track-asked .ensures)
 
 returns-2 : tie.Need-returns-2
 unfolding spanAsked

@@ -18,11 +18,11 @@ enum-known-r c = search needs
 
 returns : tie.Need-returns
 unfolding spanRefusal
-returns c = asked-samples _ _ _ _ _ (sym (c .enum-told .given .1) ∙ c .before .before .span-asked .ensures) .0
+returns c = asked-samples _ _ _ _ _ _ (sym (c .enum-told .given .1) ∙ c .before .before .span-asked .ensures) .0
 
 returns-2 : tie.Need-returns-2
 unfolding spanRefusal
-returns-2 c = asked-refused _ _ _ _ _ (sym (c .before .r .given .1) ∙ c .before .before .before .span-asked .ensures) .0
+returns-2 c = asked-refused _ _ _ _ _ _ (sym (c .before .r .given .1) ∙ c .before .before .before .span-asked .ensures) .0
 
 pub span-refusal-spec : {M : Type 1} → statement M
 span-refusal-spec =

@@ -20,26 +20,26 @@ scaled : (c : tie.Else2) → scaleOf (now (c .before .before .before .before .be
 scaled c e = c .if2 .left (c .before .media-scale .ensures ∙ e)
 
 -- the rows from 10 on decide
-rest : (c : tie.Else3) → ofTrack (trackRows (c .before .before .before .before .before .before .before .args .movie) (c .before .before .before .before .before .before .before .args .len)) (now (c .before .before .before .before .before .before .before .args .trak)) ≡ ofTrack (timedRows (c .before .before .before .before .before .before .before .args .movie) (c .before .before .before .before .before .before .before .args .len)) (now (c .before .before .before .before .before .before .before .args .trak))
-rest c = rows-timed _ _ _ (named (c .before .before .before .before)) (scaled (c .before .before)) (sym (c .before .is-contradictory .ensures) ∙ c .if3 .left)
+rest : (c : tie.Else3) → ofTrack (trackRows (c .before .before .before .before .before .before .before .args .source) (c .before .before .before .before .before .before .before .args .movie) (c .before .before .before .before .before .before .before .args .len)) (now (c .before .before .before .before .before .before .before .args .trak)) ≡ ofTrack (timedRows (c .before .before .before .before .before .before .before .args .source) (c .before .before .before .before .before .before .before .args .movie) (c .before .before .before .before .before .before .before .args .len)) (now (c .before .before .before .before .before .before .before .args .trak))
+rest c = rows-timed _ _ _ _ (named (c .before .before .before .before)) (scaled (c .before .before)) (sym (c .before .is-contradictory .ensures) ∙ c .if3 .left)
 
 track-id-requires : tie.Need-track-id-requires
 track-id-requires c κs = search needs
 
 returns : tie.Need-returns
-returns c = sym (rows-7 _ _ _ (sym (c .before .track-id .ensures) ∙ c .if1 .taken))
+returns c = sym (rows-7 _ _ _ _ (sym (c .before .track-id .ensures) ∙ c .if1 .taken))
 
 media-scale-requires : tie.Need-media-scale-requires
 media-scale-requires c κs = search needs
 
 returns-2 : tie.Need-returns-2
-returns-2 c = sym (rows-8 _ _ _ (named (c .before .before)) (sym (c .before .media-scale .ensures) ∙ c .if2 .taken))
+returns-2 c = sym (rows-8 _ _ _ _ (named (c .before .before)) (sym (c .before .media-scale .ensures) ∙ c .if2 .taken))
 
 is-contradictory-requires : tie.Need-is-contradictory-requires
 is-contradictory-requires c κs = search needs
 
 returns-3 : tie.Need-returns-3
-returns-3 c = sym (rows-9 _ _ _ (named (c .before .before .before .before)) (scaled (c .before .before)) (sym (c .before .is-contradictory .ensures) ∙ c .if3 .taken))
+returns-3 c = sym (rows-9 _ _ _ _ (named (c .before .before .before .before)) (scaled (c .before .before)) (sym (c .before .is-contradictory .ensures) ∙ c .if3 .taken))
 
 table-requires : tie.Need-table-requires
 table-requires c κs = search needs
@@ -62,7 +62,7 @@ returns-4 : tie.Need-returns-4
 returns-4 c =
     let t = c .before .before in
     let d = t .before .before in
-    sym (rest d ∙ timed-over _ _ _ (ap (ltb 4294967295) (sym (total-by _ _ (t .before .table .ensures))) ∙ over-is _ _ (t .total-duration .ensures) (c .enum-told .given .1)))
+    sym (rest d ∙ timed-over _ _ _ _ (ap (ltb 4294967295) (sym (total-by _ _ (t .before .table .ensures))) ∙ over-is _ _ (t .total-duration .ensures) (c .enum-told .given .1)))
 
 returns-5 : tie.Need-returns-5
 returns-5 c = c .timed-refusal .ensures ∙ sym (rest (c .before .before .before .before .before .before))

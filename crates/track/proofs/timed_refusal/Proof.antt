@@ -39,15 +39,15 @@ is-over-requires c κs = search needs
 returns : tie.Need-returns
 returns c =
     let s = c .before .before .before .before in
-    sym (timed-10 _ _ _ _ (s .pre .0) (s .fits .total .fits) (over (c .before) ∙ c .if1 .taken))
+    sym (timed-10 _ _ _ _ _ (s .pre .0) (s .fits .total .fits) (over (c .before) ∙ c .if1 .taken))
 
-stored-duration-requires : tie.Need-stored-duration-requires
-stored-duration-requires c κs = search needs
+has-other-duration-requires : tie.Need-has-other-duration-requires
+has-other-duration-requires c κs = c .before .before .before .before .pre .0
 
 returns-2 : tie.Need-returns-2
 returns-2 c =
     let s = c .before .before .before .before .before .before in
-    sym (timed-11 _ _ _ _ (s .pre .0) (s .fits .total .fits) (over (c .before .before .before) ∙ c .before .before .if1 .left) (λ e. c .if2 .taken (c .before .stored-duration .ensures ∙ e)))
+    sym (timed-11 _ _ _ _ _ (s .pre .0) (s .fits .total .fits) (over (c .before .before .before) ∙ c .before .before .if1 .left) (sym (c .before .has-other-duration .ensures) ∙ c .if2 .taken))
 
 table-requires : tie.Need-table-requires
 table-requires c κs = search needs
@@ -68,7 +68,7 @@ returns-3 c =
     let e = c .before in
     let d = e .before .before .before .before in
     let s = d .before .before .before .before .before .before in
-    sym (timed-12 _ _ _ _ (s .pre .0) (s .fits .total .fits) (over (d .before .before .before) ∙ d .before .before .if1 .left) (sym (d .before .stored-duration .ensures) ∙ d .if2 .left) (ends e ∙ c .if3 .taken))
+    sym (timed-12 _ _ _ _ _ (s .pre .0) (s .fits .total .fits) (over (d .before .before .before) ∙ d .before .before .if1 .left) (sym (d .before .has-other-duration .ensures) ∙ d .if2 .left) (ends e ∙ c .if3 .taken))
 
 media-scale-requires : tie.Need-media-scale-requires
 media-scale-requires c κs = search needs
@@ -81,14 +81,14 @@ returns-4 c =
     let e = c .before .before .before .before in
     let d = e .before .before .before .before in
     let s = d .before .before .before .before .before .before in
-    sym (timed-13 _ _ _ _ (s .pre .0) (s .fits .total .fits) (over (d .before .before .before) ∙ d .before .before .if1 .left) (sym (d .before .stored-duration .ensures) ∙ d .if2 .left) (ends e ∙ c .before .before .before .if3 .left) (shows (c .before) ∙ c .if4 .taken))
+    sym (timed-13 _ _ _ _ _ (s .pre .0) (s .fits .total .fits) (over (d .before .before .before) ∙ d .before .before .if1 .left) (sym (d .before .has-other-duration .ensures) ∙ d .if2 .left) (ends e ∙ c .before .before .before .if3 .left) (shows (c .before) ∙ c .if4 .taken))
 
 returns-5 : tie.Need-returns-5
 returns-5 c =
     let e = c .before .before .before .before in
     let d = e .before .before .before .before in
     let s = d .before .before .before .before .before .before in
-    sym (timed-0 _ _ _ _ (s .pre .0) (s .fits .total .fits) (over (d .before .before .before) ∙ d .before .before .if1 .left) (sym (d .before .stored-duration .ensures) ∙ d .if2 .left) (ends e ∙ c .before .before .before .if3 .left) (shows (c .before) ∙ c .if4 .left))
+    sym (timed-0 _ _ _ _ _ (s .pre .0) (s .fits .total .fits) (over (d .before .before .before) ∙ d .before .before .if1 .left) (sym (d .before .has-other-duration .ensures) ∙ d .if2 .left) (ends e ∙ c .before .before .before .if3 .left) (shows (c .before) ∙ c .if4 .left))
 
 pub timed-refusal-spec : {M : Type 1} → statement M
 timed-refusal-spec =
@@ -97,7 +97,7 @@ timed-refusal-spec =
     edit-list-requires
     is-over-requires
     returns
-    stored-duration-requires
+    has-other-duration-requires
     returns-2
     table-requires
     table-requires-2

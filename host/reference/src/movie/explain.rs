@@ -2,7 +2,7 @@
 //! refusals, in their order.
 use super::atoms::{visit, TOP};
 use super::fault::Refused;
-use super::refusals::{read_movie, read_tables};
+use super::refusals::{read_movie, read_tables, Reading};
 
 /// The reference writes all out, and takes some 64 bytes for each atom and each sample, which a file can state in far fewer. No film of a few days
 /// comes near these; what passes them is not explained, so that words cost no more memory than a program has.
@@ -43,8 +43,17 @@ fn of_no_movie(file: &[u8], (number, words): Refused) -> Refused {
     (number, format!("this is no QuickTime movie{why}"))
 }
 
-/// The number with which a file is refused, and why; nothing where it is accepted, or has too much to be written out.
+/// The number with which a file is refused by default, and why; nothing where it is accepted, or has too much to be written out.
 pub fn explain(file: &[u8]) -> Option<Refused> {
+    explain_as(file, Reading::Default)
+}
+
+/// The same where strict reading is asked for, as the slip writer does.
+pub fn explain_strictly(file: &[u8]) -> Option<Refused> {
+    explain_as(file, Reading::Strict)
+}
+
+fn explain_as(file: &[u8], reading: Reading) -> Option<Refused> {
     let seen = survey(file);
     if seen.atoms > MOST_ATOMS || seen.moov_bytes > MOST_MOOV_BYTES {
         return None;
@@ -57,5 +66,5 @@ pub fn explain(file: &[u8]) -> Option<Refused> {
     if tables.tracks.iter().map(|track| track.sizes.len()).sum::<usize>() > MOST_SAMPLES {
         return None;
     }
-    read_movie(&found, tables, file.len()).err()
+    read_movie(&found, tables, file.len(), reading).err()
 }

@@ -4,7 +4,7 @@
 //! take the file and answer the number, 0 for none, and the numbers asked: "Numbers returned with a refusal are all 0 and lent buffers keep
 //! their contents. An accepted answer fills the first places and leaves the rest."
 use super::features::{computed, peak_of};
-use super::refusals::{in_media_scale, read};
+use super::refusals::{in_media_scale, read, read_strictly};
 use super::tables::{Movie, Record, Sample, Track};
 use crate::slip::writing;
 
@@ -45,15 +45,17 @@ impl Movie {
         self.tracks.iter().find(|track| track.tables.id == u64::from(id)).ok_or(NO_TRACK)
     }
 
-    /// "for each trak in file order, ID, subtype, media time scale ..., total, N, C, edits (0 without a list)"
-    pub fn track_list(&self) -> Vec<[u64; 7]> {
+    /// "for each trak in file order, ID, subtype, media time scale ..., total, N, C, edits (0 without a list)"; "The stored duration comes last for each
+    /// track in the track list"
+    pub fn track_list(&self) -> Vec<[u64; 8]> {
         let long = |n: usize| u64::try_from(n).unwrap();
         let mut list = Vec::new();
         for track in &self.tracks {
             let tables = &track.tables;
             let edits = tables.edits.as_ref().map_or(0, |edits| edits.len());
             let (n, c) = (tables.sizes.len(), tables.stco.len());
-            list.push([tables.id, tables.subtype, tables.scale, track.total, long(n), long(c), long(edits)]);
+            let stored = tables.mdhd_duration;
+            list.push([tables.id, tables.subtype, tables.scale, track.total, long(n), long(c), long(edits), stored]);
         }
         list
     }
@@ -145,7 +147,7 @@ impl Movie {
         Ok((peak.first, peak.samples))
     }
 
-    /// "1 (the form), track ID, scale, a, b, number of pairs, pairs"; "Slip writing takes a stretch question."
+    /// "1 (the form), track ID, scale, a, b, number of pairs, pairs"; "Slip writing takes a stretch question." Asked of a movie that was read strictly.
     pub fn slip(&self, id: u32, a: u32, b: u32) -> Result<Vec<u8>, u32> {
         let stretch = self.stretch(id, u64::from(a), u64::from(b))?;
         let scale = self.track(id)?.tables.scale;
@@ -238,9 +240,9 @@ pub fn peak(file: &[u8], id: u32, code: u32) -> (u32, (u64, u64)) {
     answered(read(file).and_then(|movie| movie.peak(id, code)))
 }
 
-/// The slip's length in bytes.
+/// The slip's length in bytes. "The slip writer needs refusal 11 as proof that a file was closed properly and asks the strict way"
 pub fn write_slip(file: &[u8], id: u32, a: u32, b: u32, room: &mut [u8]) -> (u32, u64) {
-    answered(read(file).and_then(|movie| {
+    answered(read_strictly(file).and_then(|movie| {
         let slip = movie.slip(id, a, b)?;
         if room.len() < slip.len() {
             return Err(NO_ROOM);
@@ -258,10 +260,10 @@ pub fn listing(input: &[u8]) -> String {
     }
     match read(input) {
         Ok(movie) => {
-            let mut text = "id subtype scale total samples chunks edits\n".to_string();
-            for [id, subtype, scale, total, n, c, edits] in movie.track_list() {
+            let mut text = "id subtype scale total samples chunks edits stored\n".to_string();
+            for [id, subtype, scale, total, n, c, edits, stored] in movie.track_list() {
                 // "The subtype is eight lower-case hex digits, the rest decimal."
-                text += &format!("{id} {subtype:08x} {scale} {total} {n} {c} {edits}\n");
+                text += &format!("{id} {subtype:08x} {scale} {total} {n} {c} {edits} {stored}\n");
             }
             text
         }

@@ -140,27 +140,47 @@ pub fn read_tables(file: &[u8]) -> Result<(MovieLeaves, MovieTables), Refused> {
     Ok((found, tables))
 }
 
+/// How a file is read. "The default becomes to accept"; "11 only where strict reading is asked for, in its old place".
+#[derive(Clone, Copy, Debug, PartialEq)]
+pub enum Reading {
+    Default,
+    Strict,
+}
+
 /// The movie of these tables, written out, if it is not refused 10 to 13.
-pub fn read_movie(found: &MovieLeaves, tables: MovieTables, length: usize) -> Result<Movie, Refused> {
+pub fn read_movie(found: &MovieLeaves, tables: MovieTables, length: usize, reading: Reading) -> Result<Movie, Refused> {
     let movie = written_out(tables);
     let refuse = |number, fault: Option<Fault>| refuse(number, fault.map(|fault| fault.said(found)));
     refuse(10, refused_10(&movie))?;
-    refuse(11, refused_11(&movie))?;
+    if reading == Reading::Strict {
+        refuse(11, refused_11(&movie))?;
+    }
     refuse(12, refused_12(&movie, length))?;
     refuse(13, refused_13(&movie))?;
     Ok(movie)
 }
 
-/// A file that is not refused, or the number.
-pub fn read(file: &[u8]) -> Result<Movie, u32> {
-    let movie = read_tables(file).and_then(|(found, tables)| read_movie(&found, tables, file.len()));
+fn read_as(file: &[u8], reading: Reading) -> Result<Movie, u32> {
+    let movie = read_tables(file).and_then(|(found, tables)| read_movie(&found, tables, file.len(), reading));
     movie.map_err(|(number, _)| number)
 }
 
-/// The number with which a file is refused, 0 for none.
+/// A file that is not refused by default, or the number.
+pub fn read(file: &[u8]) -> Result<Movie, u32> {
+    read_as(file, Reading::Default)
+}
+
+/// A file that is not refused where strict reading is asked for, or the number.
+pub fn read_strictly(file: &[u8]) -> Result<Movie, u32> {
+    read_as(file, Reading::Strict)
+}
+
+/// The number with which a file is refused by default, 0 for none.
 pub fn refusal(file: &[u8]) -> u32 {
-    match read(file) {
-        Ok(_) => 0,
-        Err(number) => number,
-    }
+    read(file).err().unwrap_or(0)
+}
+
+/// The number with which a file is refused where strict reading is asked for, 0 for none.
+pub fn strict_refusal(file: &[u8]) -> u32 {
+    read_strictly(file).err().unwrap_or(0)
 }

@@ -10,7 +10,7 @@ ask-refusal-requires : tie.Need-ask-refusal-requires
 ask-refusal-requires c κs = search needs
 
 returns : tie.Need-returns
-returns c = no-track _ _ _ _ (c .before .ask-refusal .ensures) (c .if1 .taken)
+returns c = no-track _ _ _ _ _ (c .before .ask-refusal .ensures) (c .if1 .taken)
 
 track-asked-requires : tie.Need-track-asked-requires
 track-asked-requires c κs = search needs
@@ -18,7 +18,7 @@ track-asked-requires c κs = search needs
 returns-2 : tie.Need-returns-2
 returns-2 c =
     let k = c .before in
-    sample-zero _ _ _ _ _ (k .before .before .ask-refusal .ensures) (k .before .if1 .left) (k .track-asked .ensures) (c .if2 .taken)
+    sample-zero _ _ _ _ _ _ (k .before .before .ask-refusal .ensures) (k .before .if1 .left) (k .track-asked .ensures) (c .if2 .taken)
 
 table-requires : tie.Need-table-requires
 table-requires c κs = search needs
@@ -30,7 +30,7 @@ returns-3 : tie.Need-returns-3
 returns-3 c =
     let u = c .before in
     let k = u .before .before .before in
-    sample-past _ _ _ _ _ (k .before .before .ask-refusal .ensures) (k .before .if1 .left) (k .track-asked .ensures) _ _ (u .before .table .ensures) (u .u32-at .ensures) (u .before .before .if2 .left) (c .if3 .taken)
+    sample-past _ _ _ _ _ _ (k .before .before .ask-refusal .ensures) (k .before .if1 .left) (k .track-asked .ensures) _ _ (u .before .table .ensures) (u .u32-at .ensures) (u .before .before .if2 .left) (c .if3 .taken)
 
 sub-sample-in : tie.Need-sub-sample-in
 sub-sample-in c = search needs
@@ -39,11 +39,11 @@ sample-in-requires : tie.Need-sample-in-requires
 sample-in-requires c κs =
     let u = c .before in
     let k = u .before .before .before in (
-      asked-short _ _ _ _ (k .before .before .ask-refusal .ensures) (k .before .if1 .left) (k .track-asked .ensures),
-      asked-total _ _ _ _ (k .before .before .ask-refusal .ensures) (k .before .if1 .left) (k .track-asked .ensures),
-      asked-track _ _ _ _ (k .before .before .ask-refusal .ensures) (k .before .if1 .left) (k .track-asked .ensures) .agree,
-      sample-index _ _ _ _ _ (k .before .before .ask-refusal .ensures) (k .before .if1 .left) (k .track-asked .ensures) _ _ (u .before .table .ensures) (u .u32-at .ensures) (u .before .before .if2 .left) (c .if3 .left),
-      asked-track _ _ _ _ (k .before .before .ask-refusal .ensures) (k .before .if1 .left) (k .track-asked .ensures) .shape .few-samples,
+      asked-short _ _ _ _ _ (k .before .before .ask-refusal .ensures) (k .before .if1 .left) (k .track-asked .ensures),
+      asked-total _ _ _ _ _ (k .before .before .ask-refusal .ensures) (k .before .if1 .left) (k .track-asked .ensures),
+      asked-track _ _ _ _ _ (k .before .before .ask-refusal .ensures) (k .before .if1 .left) (k .track-asked .ensures) .agree,
+      sample-index _ _ _ _ _ _ (k .before .before .ask-refusal .ensures) (k .before .if1 .left) (k .track-asked .ensures) _ _ (u .before .table .ensures) (u .u32-at .ensures) (u .before .before .if2 .left) (c .if3 .left),
+      asked-track _ _ _ _ _ (k .before .before .ask-refusal .ensures) (k .before .if1 .left) (k .track-asked .ensures) .shape .few-samples,
     )
 
 returns-4 : tie.Need-returns-4
@@ -51,7 +51,7 @@ returns-4 c =
     let p = c .before in
     let u = p .before in
     let k = u .before .before .before in
-    sample-found _ _ _ _ _ (k .before .before .ask-refusal .ensures) (k .before .if1 .left) (k .track-asked .ensures) _ _ (u .before .table .ensures) (u .u32-at .ensures) (u .before .before .if2 .left) (p .if3 .left) _ (c .sample-in .ensures)
+    sample-found _ _ _ _ _ _ (k .before .before .ask-refusal .ensures) (k .before .if1 .left) (k .track-asked .ensures) _ _ (u .before .table .ensures) (u .u32-at .ensures) (u .before .before .if2 .left) (p .if3 .left) _ (c .sample-in .ensures)
 
 pub sample-by-number-spec : {M : Type 1} → statement M
 sample-by-number-spec =

@@ -10,7 +10,7 @@ ask-refusal-requires : tie.Need-ask-refusal-requires
 ask-refusal-requires c κs = search needs
 
 returns : tie.Need-returns
-returns c = not-asked _ _ _ _ (c .before .ask-refusal .ensures) (c .if1 .taken)
+returns c = not-asked _ _ _ _ _ (c .before .ask-refusal .ensures) (c .if1 .taken)
 
 track-asked-requires : tie.Need-track-asked-requires
 track-asked-requires c κs = search needs
@@ -30,7 +30,7 @@ media-scale-requires c κs = search needs
 media-total-requires : tie.Need-media-total-requires
 media-total-requires c κs =
     let k = c .before .before .before .before in
-    asked-total _ _ _ _ (k .before .before .ask-refusal .ensures) (k .before .if1 .left) (k .track-asked .ensures)
+    asked-total _ _ _ _ _ (k .before .before .ask-refusal .ensures) (k .before .if1 .left) (k .track-asked .ensures)
 
 media-at-requires : tie.Need-media-at-requires
 media-at-requires c κs = search needs
@@ -44,7 +44,7 @@ returns-2 c =
     let l = n .before .before in
     let m = l .before .before in
     let k = m .before in
-    is-mapped _ _ _ _ _ _ _ _ _ _ (k .before .before .ask-refusal .ensures) (k .before .if1 .left) (k .track-asked .ensures) (m .moov-body .ensures)
+    is-mapped _ _ _ _ _ _ _ _ _ _ _ (k .before .before .ask-refusal .ensures) (k .before .if1 .left) (k .track-asked .ensures) (m .moov-body .ensures)
     (l .before .movie-scale .ensures) (l .edit-list .ensures) (n .before .media-scale .ensures) (n .media-total .ensures) _ _
     (c .before .media-at .ensures) (c .to-answer .ensures)
 

@@ -12,7 +12,7 @@ ask-refusal-requires : tie.Need-ask-refusal-requires
 ask-refusal-requires c κs = search needs
 
 returns : tie.Need-returns
-returns c = no-track-at _ _ _ _ (c .before .ask-refusal .ensures) (c .if1 .taken)
+returns c = no-track-at _ _ _ _ _ (c .before .ask-refusal .ensures) (c .if1 .taken)
 
 track-asked-requires : tie.Need-track-asked-requires
 track-asked-requires c κs = search needs
@@ -23,23 +23,23 @@ table-requires c κs = search needs
 sample-at-requires : tie.Need-sample-at-requires
 sample-at-requires c κs =
     let k = c .before in
-    table-fits _ _ _ (c .table .ensures) (asked-short _ _ _ _ (k .before .before .ask-refusal .ensures) (k .before .if1 .left) (k .track-asked .ensures))
+    table-fits _ _ _ (c .table .ensures) (asked-short _ _ _ _ _ (k .before .before .ask-refusal .ensures) (k .before .if1 .left) (k .track-asked .ensures))
 
 enum-known-index : tie.Need-enum-known-index
 enum-known-index c = search needs
 
-add-t12 : tie.Need-add-t12
-add-t12 c =
+add-t13 : tie.Need-add-t13
+add-t13 c =
     let f = c .before .before .before in
     let k = f .before .before in
-    let h = few-at _ _ _ _ _ _ (k .before .before .ask-refusal .ensures) (k .before .if1 .left) (k .track-asked .ensures) (f .before .table .ensures) _ (f .sample-at .ensures) _ (c .before .index .given .1) in
+    let h = few-at _ _ _ _ _ _ _ (k .before .before .ask-refusal .ensures) (k .before .if1 .left) (k .track-asked .ensures) (f .before .table .ensures) _ (f .sample-at .ensures) _ (c .before .index .given .1) in
     record { fits = omega arith }
 
-cast-t13 : tie.Need-cast-t13
-cast-t13 c =
+cast-t14 : tie.Need-cast-t14
+cast-t14 c =
     let f = c .before .before .before in
     let k = f .before .before in
-    let h = few-at _ _ _ _ _ _ (k .before .before .ask-refusal .ensures) (k .before .if1 .left) (k .track-asked .ensures) (f .before .table .ensures) _ (f .sample-at .ensures) _ (c .before .index .given .1) in
+    let h = few-at _ _ _ _ _ _ _ (k .before .before .ask-refusal .ensures) (k .before .if1 .left) (k .track-asked .ensures) (f .before .table .ensures) _ (f .sample-at .ensures) _ (c .before .index .given .1) in
     omega arith
 
 enum-told : tie.Need-enum-told
@@ -49,13 +49,13 @@ returns-2 : tie.Need-returns-2
 returns-2 c =
     let f = c .before .before .before in
     let k = f .before .before in
-    found-at _ _ _ _ _ _ (k .before .before .ask-refusal .ensures) (k .before .if1 .left) (k .track-asked .ensures) (f .before .table .ensures) _ (f .sample-at .ensures) _ (c .before .index .given .1) _ refl
+    found-at _ _ _ _ _ _ _ (k .before .before .ask-refusal .ensures) (k .before .if1 .left) (k .track-asked .ensures) (f .before .table .ensures) _ (f .sample-at .ensures) _ (c .before .index .given .1) _ refl
 
 returns-3 : tie.Need-returns-3
 returns-3 c =
     let f = c .before .before in
     let k = f .before .before in
-    outside-at _ _ _ _ _ _ (k .before .before .ask-refusal .ensures) (k .before .if1 .left) (k .track-asked .ensures) (f .before .table .ensures) _ (f .sample-at .ensures) (c .enum-told .given .1)
+    outside-at _ _ _ _ _ _ _ (k .before .before .ask-refusal .ensures) (k .before .if1 .left) (k .track-asked .ensures) (f .before .table .ensures) _ (f .sample-at .ensures) (c .enum-told .given .1)
 
 pub sample-at-time-spec : {M : Type 1} → statement M
 sample-at-time-spec =
@@ -67,8 +67,8 @@ sample-at-time-spec =
     table-requires
     sample-at-requires
     enum-known-index
-    add-t12
-    cast-t13
+    add-t13
+    cast-t14
     enum-told
     returns-2
     returns-3)

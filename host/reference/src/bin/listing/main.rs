@@ -45,11 +45,11 @@ fn sixteen_tracks() -> Vec<u8> {
 
 /// The files by name, each with the number that it is refused with by itself.
 fn files() -> Vec<(&'static str, u32, Vec<u8>)> {
-    let mut refused = w_movie();
-    refused.tracks[0].duration = 121;
+    let mut other = w_movie();
+    other.tracks[0].duration = 121;
     vec![
         ("two-hoses.mov", 0, two_hoses().bytes()),
-        ("mdhd-121.mov", 11, refused.file_of(4096).bytes()),
+        ("mdhd-121.mov", 0, other.file_of(4096).bytes()),
         ("empty.mov", 3, vec![]),
         ("65536-bytes.mov", 0, padded(MOST)),
         ("65537-bytes.mov", 0, padded(MOST + 1)),

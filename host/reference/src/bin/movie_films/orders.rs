@@ -24,21 +24,30 @@ fn spoiled(id: u32, numbers: &[u32]) -> Track {
     track
 }
 
+/// A film whose lowest fault has that number, and the next that one: of 11, which is not the default, the next is.
+fn tracks_of(films: &mut Films, low: u32, next: u32, name: &str, tracks: &[Track]) {
+    if low == 11 {
+        films.tracks(next, &format!("11-{name}"), tracks).strictly_11();
+    } else {
+        films.tracks(low, name, tracks);
+    }
+}
+
 /// The higher number in the first track and in the last, the lower between: neither the first nor the last fault that is met is the answer.
 fn between(films: &mut Films) {
     for low in 7..13 {
         for high in low + 1..14 {
             let all = [spoiled(1, &[high]), spoiled(2, &[low]), spoiled(3, &[high])];
-            films.tracks(low, &format!("between-{high}-and-{high}"), &all);
+            tracks_of(films, low, high, &format!("between-{high}-and-{high}"), &all);
         }
     }
 }
 
 /// Different rules broken in different tracks, the lowest in the last or in the first.
 fn ends(films: &mut Films) {
-    for (low, high) in [(7, 9), (10, 13), (12, 13)] {
+    for (low, high) in [(7, 9), (10, 13), (11, 13), (12, 13)] {
         let all = [spoiled(1, &[high]), spoiled(2, &[low])];
-        films.tracks(low, &format!("in-the-last-and-{high}-in-the-first"), &all);
+        tracks_of(films, low, high, &format!("in-the-last-and-{high}-in-the-first"), &all);
     }
     let rising: Vec<Track> = (7..14).map(|number| spoiled(number, &[number])).collect();
     films.tracks(7, "to-13-from-the-first-track-to-the-last", &rising);
@@ -50,7 +59,7 @@ fn ends(films: &mut Films) {
 fn in_one_track(films: &mut Films) {
     for low in 7..13 {
         let all: Vec<u32> = (low..14).collect();
-        films.tracks(low, "to-13-in-one-track", &[spoiled(1, &all)]);
+        tracks_of(films, low, low + 1, "to-13-in-one-track", &[spoiled(1, &all)]);
     }
 }
 

@@ -11,7 +11,7 @@ fn w_with(change: impl FnOnce(&mut Track)) -> Node {
 
 pub fn films(films: &mut Films) {
     films.node(0, "w", w());
-    films.node(11, "w-mdhd-121", w_with(|track| track.duration = 121));
+    films.node(0, "w-mdhd-121", w_with(|track| track.duration = 121)).strictly_11();
     films.node(12, "w-second-chunk-at-4027", w_with(|track| track.stco[1] = 4027));
     films.node(0, "w-second-chunk-at-4026", w_with(|track| track.stco[1] = 4026));
     for (number, media) in [(13, 61), (0, 60), (0, 24)] {

@@ -1,4 +1,4 @@
-//! Refused 7 to 13, each for one fault alone.
+//! Refused 7 to 13, each for one fault alone; 11 only where strict reading is asked for.
 use super::base::*;
 use reference::film::*;
 
@@ -66,14 +66,16 @@ fn totals(films: &mut Films) {
     films.of(10, "edits-in-the-last-of-three", 3, 3, |track| track.edits = edits(&[(1 << 31, -1), (1 << 31, -1)]));
 }
 
-/// "the mdhd duration is not the total of the sample durations"
+/// "the mdhd duration is not the total of the sample durations": not by default
 fn durations(films: &mut Films) {
-    films.one(11, "mdhd-119", |track| track.duration = 119);
-    films.one(11, "mdhd-is-the-total-of-the-edits", |track| {
+    films.one(0, "mdhd-119", |track| track.duration = 119).strictly_11();
+    let film = films.one(0, "mdhd-is-the-total-of-the-edits", |track| {
         (track.duration, track.edits) = (60, edits(&[(60, 24)]));
     });
-    films.tracks(11, "mdhd-without-samples", &[Track { duration: 1, ..empty_track(1) }]);
-    films.of(11, "in-the-last-of-three", 3, 3, |track| track.duration = 121);
+    film.strictly_11();
+    films.tracks(0, "mdhd-without-samples", &[Track { duration: 1, ..empty_track(1) }]).strictly_11();
+    films.of(0, "mdhd-121-in-the-last-of-three", 3, 3, |track| track.duration = 121).strictly_11();
+    films.one(0, "mdhd-2-32-less-one", |track| track.duration = u32::MAX).strictly_11();
 }
 
 /// "a chunk's offset plus the sizes of its samples passes the file's end"

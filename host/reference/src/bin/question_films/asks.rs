@@ -82,9 +82,9 @@ impl Film {
 
     /// Each question of each track at the ends: 0, 1, the last that is answered, the first that is not, and 2^32 - 1.
     pub fn ends(&mut self) -> &mut Film {
-        let mut room = [0; 112];
+        let mut room = [0; 128];
         let (_, count) = track_list(&self.bytes, &mut room);
-        for track in room.chunks(7).take(usize::try_from(count).unwrap()) {
+        for track in room.chunks(8).take(usize::try_from(count).unwrap()) {
             let (id, total, n) = (track[0], track[3], track[4]);
             self.sample(id, &[0, 1, n, n + 1, u32::MAX]);
             self.at(id, &[0, 1, n, n + 1, total.saturating_sub(1), total, u32::MAX]);

@@ -47,6 +47,16 @@ pub fn films(films: &mut Films) {
     w_itself(films);
     let ntsc = w_film(|track| (track.scale, track.duration, track.stts) = (30000, 5005, vec![(3, 1001), (1, 2002)]));
     films.node(0, "w-scale-30000-and-least-duration-1001", ntsc).ends().says(&["feature 1 vfps: 1964116 = 0x001df854"]);
+    // "the W case with 121 .. is accepted elsewhere": the media ends where the samples do.
+    films.node(0, "w-mdhd-121", w_film(|track| track.duration = 121)).each(1).ends().strangers().says(&[
+        "sample 1 4: 72 48 72 sync 1 chunk 2 900 70, bytes 70 sum 12705",
+        "at 1 119: 4",
+        "at 1 120: refused 15",
+        "map 1 119: 119",
+        "map 1 120: refused 15",
+        "feature 1 avvb: 8800 = 0x00002260",
+        "peak 1 mvbr: from 1 count 4",
+    ]);
     for media in [24, 60] {
         let film = w_film(|track| track.edits = edits(&[(60, -1), (60, media)]));
         let film = films.node(0, &format!("w-edits-60-empty-and-60-from-{media}"), film);

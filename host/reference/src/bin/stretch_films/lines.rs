@@ -44,9 +44,9 @@ fn stretch_line(film: &[u8], id: u32, (a, b): Times, length: usize) -> String {
 
 /// The scale of a track, from the list.
 fn scale(film: &[u8], id: u32) -> u32 {
-    let mut room = [0; 112];
+    let mut room = [0; 128];
     track_list(film, &mut room);
-    room.chunks(7).find(|track| track[0] == id).unwrap()[2]
+    room.chunks(8).find(|track| track[0] == id).unwrap()[2]
 }
 
 /// Whether a slip is read as what the stretch answers.

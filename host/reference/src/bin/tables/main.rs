@@ -10,7 +10,7 @@ mod sets;
 
 use asks::Lines;
 use reference::film::*;
-use reference::movie::refusal;
+use reference::movie::strict_refusal;
 use sets::{Set, Sets};
 
 /// The number with which a film of these tables is refused.
@@ -18,7 +18,7 @@ fn number(set: &Set) -> u32 {
     let total: u64 = if rules::contradict(&set.track) { 0 } else { lists::durations(&set.track).iter().sum() };
     let duration = u32::try_from(total).unwrap_or(0);
     let track = Track { duration, ..set.track.clone() };
-    refusal(&Movie { scale: set.movie, duration, profile: None, tracks: vec![track] }.file_of(2_000_000).bytes())
+    strict_refusal(&Movie { scale: set.movie, duration, profile: None, tracks: vec![track] }.file_of(2_000_000).bytes())
 }
 
 /// The atoms of a set: its tables, and those that ask.

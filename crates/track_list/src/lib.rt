@@ -5,8 +5,10 @@ use atoms::size_in;
 use bigendian::u32_at;
 use structure::moov::moov_body;
 use structure::moov::track_count;
+use structure::source::Source;
 use structure::trak::edit_list;
 use structure::trak::media_scale;
+use structure::trak::stored_duration;
 use structure::trak::subtype;
 use structure::trak::table;
 use structure::trak::track_id;
@@ -17,11 +19,11 @@ ghost use lib.ListN.{length};
 ghost use lib.Seq.{sets};
 ghost use Rattle.structure.specs.Movie.{tracksOf};
 ghost use Rattle.track.specs.Refusals.{totalIn};
-ghost use Rattle.movie.specs.TrackList.{lineOf, linesOf, Lists};
-ghost use Rattle.movie.specs.Lines.{fields, TotalsFit};
+ghost use Rattle.track_list.specs.TrackList.{lineOf, linesOf, Lists};
+ghost use Rattle.track_list.specs.Lines.{fields, TotalsFit};
 
 // How many numbers the list has for a track.
-pub const LINE: usize = 7;
+pub const LINE: usize = 8;
 
 // What the list says of a track.
 pub struct Line {
@@ -32,6 +34,7 @@ pub struct Line {
     pub samples: u32,
     pub chunks: u32,
     pub edits: u32,
+    pub stored: u32,
 }
 
 fn line_of(trak: &[u8]) -> Line
@@ -46,12 +49,13 @@ fn line_of(trak: &[u8]) -> Line
         samples: u32_at(table(trak, kinds::STSZ), 16),
         chunks: u32_at(table(trak, kinds::STCO), 12),
         edits: u32_at(edit_list(trak), 12),
+        stored: stored_duration(trak),
     }
 }
 
-// Puts a track's seven numbers into the room, from the place `at` on.
+// Puts a track's eight numbers into the room, from the place `at` on.
 fn put_line(line: Line, room: &mut [u32], at: usize)
-    requires { ⌜ at + 7 ≤ length (now room) ⌝ }
+    requires { ⌜ at + 8 ≤ length (now room) ⌝ }
     ensures { λ _. ⌜ now (room .exit) ≡ sets (now (room .entry)) at (fields line) ⌝ }
 {
     room[at] = line.id;
@@ -61,11 +65,12 @@ fn put_line(line: Line, room: &mut [u32], at: usize)
     room[at + 4] = line.samples;
     room[at + 5] = line.chunks;
     room[at + 6] = line.edits;
+    room[at + 7] = line.stored;
 }
 
 // Puts the list of a movie's tracks, from the body of its moov, into the first places of the room.
 fn put_lines(moov: &[u8], room: &mut [u32])
-    requires { ⌜ TotalsFit (tracksOf (now moov)) × (7 * length (tracksOf (now moov)) ≤ length (now room)) ⌝ }
+    requires { ⌜ TotalsFit (tracksOf (now moov)) × (8 * length (tracksOf (now moov)) ≤ length (now room)) ⌝ }
     ensures { λ _. ⌜ now (room .exit) ≡ sets (now (room .entry)) 0 (linesOf (tracksOf (now (moov .entry)))) ⌝ }
 {
     let mut t = moov;
@@ -90,15 +95,15 @@ pub enum TrackList {
     Refused(u32),
 }
 
-// Lists the tracks of a film: seven numbers for each, in the first places of the room. A refusal leaves the room as it is.
-pub fn track_list(file: &[u8], room: &mut [u32]) -> TrackList
-    ensures { λ r. ⌜ Lists (now (file .entry)) (now (room .entry)) r (now (room .exit)) ⌝ }
+// Lists the tracks of a film: eight numbers for each, in the first places of the room. A refusal leaves the room as it is.
+pub fn track_list(lent: &[u8], source: Source, room: &mut [u32]) -> TrackList
+    ensures { λ r. ⌜ Lists (now (lent .entry)) source (now (room .entry)) r (now (room .exit)) ⌝ }
 {
-    let refused = super::refusal(file);
+    let refused = movie::refusal(lent, source);
     if refused != 0 {
         return TrackList::Refused(refused);
     }
-    let moov = moov_body(file);
+    let moov = moov_body(lent);
     let n = track_count(moov);
     if room.len() < LINE * n {
         return TrackList::Refused(16);

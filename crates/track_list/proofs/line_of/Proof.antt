@@ -1,9 +1,9 @@
--- `movie::list::line_of` meets its contract: each field is what its callee answers.
+-- `track_list::line_of` meets its contract: each field is what its callee answers.
 -- Assumes nothing.
 use borrow.Author.Needs.{needs}
-use Rattle.movie.specs.TrackList.{lineOf}
-use Rattle.movie.proofs.list.line_of.Statement.{statement}
-use Rattle.movie.proofs.list.line_of.Tie as tie
+use Rattle.track_list.specs.TrackList.{lineOf}
+use Rattle.track_list.proofs.line_of.Statement.{statement}
+use Rattle.track_list.proofs.line_of.Tie as tie
 
 track-id-requires : tie.Need-track-id-requires
 track-id-requires c κs = search needs
@@ -35,6 +35,9 @@ edit-list-requires c κs = search needs
 u32-at-requires-3 : tie.Need-u32-at-requires-3
 u32-at-requires-3 c κs = search needs
 
+stored-duration-requires : tie.Need-stored-duration-requires
+stored-duration-requires c κs = search needs
+
 returns : tie.Need-returns
 unfolding lineOf
 returns c = cc
@@ -53,4 +56,5 @@ line-of-spec =
     u32-at-requires-2
     edit-list-requires
     u32-at-requires-3
+    stored-duration-requires
     returns)

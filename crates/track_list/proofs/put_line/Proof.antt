@@ -1,4 +1,4 @@
--- `movie::list::put_line` meets its contract: seven stores, one place after the other, are `sets` of seven numbers.
+-- `track_list::put_line` meets its contract: eight stores, one place after the other, are `sets` of eight numbers.
 -- Assumes nothing.
 use borrow.Author.Needs.{needs}
 use Prim.Native.Nat.{ℕ, suc, _+_}
@@ -6,8 +6,8 @@ use mathlib.Core.Path.{_≡_}
 use native.Mathlib.Nat.{add-zero}
 use native.Mathlib.Omega.{arith}
 use lib.ListN.{length-set}
-use Rattle.movie.proofs.list.put_line.Statement.{statement}
-use Rattle.movie.proofs.list.put_line.Tie as tie
+use Rattle.track_list.proofs.put_line.Statement.{statement}
+use Rattle.track_list.proofs.put_line.Tie as tie
 
 -- a place counted from `at`, as `sets` counts it
 next : (a k : ℕ) → a + suc k ≡ suc (a + k)
@@ -73,13 +73,22 @@ mul-room-7 c = search needs
 slice-write-room-7 : tie.Need-slice-write-room-7
 slice-write-room-7 c = simp (length-set) (omega (arith, c .pre))
 
+add-room-7 : tie.Need-add-room-7
+add-room-7 c = search needs
+
+mul-room-8 : tie.Need-mul-room-8
+mul-room-8 c = search needs
+
+slice-write-room-8 : tie.Need-slice-write-room-8
+slice-write-room-8 c = simp (length-set) (omega (arith, c .pre))
+
 same-length : tie.Need-same-length
 same-length c = search needs
 
 returns : tie.Need-returns
 returns c =
     let a = c .args .at in
-    rw (next a 5, next a 4, next a 3, next a 2, next a 1, next a 0, add-zero a)
+    rw (next a 6, next a 5, next a 4, next a 3, next a 2, next a 1, next a 0, add-zero a)
 
 pub put-line-spec : {M : Type 1} → statement M
 put-line-spec =
@@ -105,5 +114,8 @@ put-line-spec =
     add-room-6
     mul-room-7
     slice-write-room-7
+    add-room-7
+    mul-room-8
+    slice-write-room-8
     same-length
     returns)

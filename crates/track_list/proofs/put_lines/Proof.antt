@@ -1,4 +1,4 @@
--- `movie::list::put_lines` meets its contract; the loop's invariant: the lines of the rest's tracks, stored from `at` on, make what all of them make.
+-- `track_list::put_lines` meets its contract; the loop's invariant: the lines of the rest's tracks, stored from `at` on, make what all of them make.
 -- Assumes nothing.
 use borrow.Author.Needs.{needs}
 use native.Mathlib.Omega.{arith}
@@ -12,17 +12,17 @@ use lib.Seq.{sets, length-sets, length-take-le}
 use Rattle.bigendian.proofs.Parts.{rest}
 use Rattle.structure.specs.Movie.{tracksOf}
 use Rattle.structure.proofs.Places.{tracks-none, tracks-next}
 use Rattle.movie.proofs.Places.{track-here}
-use Rattle.movie.specs.TrackList.{linesOf}
-use Rattle.movie.specs.Lines.{fields, TotalsFit}
-use Rattle.movie.proofs.Lines.{fits-here, fits-rest, room-here, turn}
-use Rattle.movie.proofs.list.put_lines.Statement.{statement}
-use Rattle.movie.proofs.list.put_lines.Tie as tie
+use Rattle.track_list.specs.TrackList.{linesOf}
+use Rattle.track_list.specs.Lines.{fields, TotalsFit}
+use Rattle.track_list.proofs.Lines.{fits-here, fits-rest, room-here, turn}
+use Rattle.track_list.proofs.put_lines.Statement.{statement}
+use Rattle.track_list.proofs.put_lines.Tie as tie
 
 abbrev Inv-loop : tie.InvT-loop
 Inv-loop moov room₀ t₀ at₀ room t at =
     TotalsFit (tracksOf t)
-    × (at + 7 * length (tracksOf t) ≤ length room)
+    × (at + 8 * length (tracksOf t) ≤ length room)
     × (length room ≡ length room₀)
     × (sets room at (linesOf (tracksOf t)) ≡ sets room₀ 0 (linesOf (tracksOf moov)))
 
@@ -75,7 +75,7 @@ add-at c =
     let k = c .before .before .before .before .before .before in
     let l = k .before .before .before .before .before .loop in
     let h = room-here _ _ _ (here (c .before .before .before .before .before)) (l .at) _ (l .inv .1) .0 in
-    let g : l .at + 7 ≤ length (now (k .before .before .before .before .before .before .before .before .args .room)) = omega (arith, h, l .inv .2) in
+    let g : l .at + 8 ≤ length (now (k .before .before .before .before .before .before .before .before .args .room)) = omega (arith, h, l .inv .2) in
     search needs
 
 sub-t : tie.Need-sub-t Inv-loop μ-loop

@@ -1,0 +1,2 @@
+pub mod TrackList
+pub mod Lines
