@@ -1,10 +1,132 @@
 // The questions of document 01 for programs in C and Rust: numbers and slices alone. Each function answers the number of a refusal, or 0, and puts
-// the values that documents 01 and 02 name into lent places, in its order.
-pub mod feature;
-mod places;
-pub mod profile;
-pub mod samples;
-pub mod slips;
-pub mod stretches;
-pub mod times;
-pub mod tracks;
+// the values that documents 01 and 02 name into lent places, in its order. Each is one call: a function that is exported must stand in this crate.
+use host_samples::feature::hand_feature;
+use host_samples::feature::hand_peak;
+use host_samples::samples::hand_sample;
+use host_samples::samples::hand_sample_bytes;
+use host_slips::slips::hand_read_slip;
+use host_slips::slips::hand_written_slip;
+use host_slips::stretches::hand_stretch;
+use host_times::hand_media_time;
+use host_times::hand_sample_at;
+use host_tracks::profile::hand_profile;
+use host_tracks::tracks::hand_track_list;
+ghost use Rattle.slip.specs.Slip.{slipIn};
+ghost use Rattle.pairs.specs.Pairs.{flat};
+ghost use Rattle.movie.specs.TrackList.{trackLines};
+ghost use Rattle.stretch.specs.Stretches.{stretchPairs};
+ghost use Rattle.stretch.specs.Slips.{slipOfStretch};
+ghost use Rattle.profiles.specs.Profiles.{profileNumbers};
+ghost use Rattle.hand.specs.Places.{Answers, SignedAnswers, Fills};
+ghost use Rattle.hand.specs.Times.{media};
+ghost use Rattle.host_tracks.specs.Numbers.{ofTrackList, ofProfile};
+ghost use Rattle.host_samples.specs.Numbers.{ofSample, ofSampleBytes, ofFeature, ofPeak};
+ghost use Rattle.host_times.specs.Numbers.{ofSampleAt, ofMediaTime};
+ghost use Rattle.host_slips.specs.Numbers.{ofStretch, ofSlipWriting, ofSlipReading, pairsOf};
+
+// Lists the tracks of a film: seven numbers for each in the room, and in one place how many tracks.
+#[no_mangle]
+pub extern "C" fn chaldoref_track_list(file: &[u8], room: &mut [u32], places: &mut [u64]) -> u32
+    ensures { λ r. ⌜ Fills (ofTrackList (now (file .entry)) (now (room .entry))) (now (places .entry)) (trackLines (now (file .entry))) (now (room .entry)) r (now (places .exit)) (now (room .exit)) ⌝ }
+{
+    hand_track_list(file, room, places)
+}
+
+// The stored profile of a track, or for ID 0 of the movie: three numbers for each record in the room, and in one place how many records.
+#[no_mangle]
+pub extern "C" fn chaldoref_profile(
+    file: &[u8],
+    id: u32,
+    room: &mut [u32],
+    places: &mut [u64],
+) -> u32
+    ensures { λ r. ⌜ Fills (ofProfile (now (file .entry)) id (now (room .entry))) (now (places .entry)) (profileNumbers (now (file .entry)) id) (now (room .entry)) r (now (places .exit)) (now (room .exit)) ⌝ }
+{
+    hand_profile(file, id, room, places)
+}
+
+// Sample n of a track, in eight places: decode time, duration, composition time, sync (1 or 0), description ID, chunk, offset, size.
+#[no_mangle]
+pub extern "C" fn chaldoref_sample(file: &[u8], id: u32, n: u32, places: &mut [i64]) -> u32
+    ensures { λ r. ⌜ SignedAnswers (ofSample (now (file .entry)) id n) (now (places .entry)) r (now (places .exit)) ⌝ }
+{
+    hand_sample(file, id, n, places)
+}
+
+// The bytes of sample n, in two places: where they begin in the file, and how many they are.
+#[no_mangle]
+pub extern "C" fn chaldoref_sample_bytes(file: &[u8], id: u32, n: u32, places: &mut [u64]) -> u32
+    ensures { λ r. ⌜ Answers (ofSampleBytes (now (file .entry)) id n) (now (places .entry)) r (now (places .exit)) ⌝ }
+{
+    hand_sample_bytes(file, id, n, places)
+}
+
+// The feature with that code of a track, in one place.
+#[no_mangle]
+pub extern "C" fn chaldoref_feature(file: &[u8], id: u32, code: u32, places: &mut [u64]) -> u32
+    ensures { λ r. ⌜ Answers (ofFeature (now (file .entry)) id code) (now (places .entry)) r (now (places .exit)) ⌝ }
+{
+    hand_feature(file, id, code, places)
+}
+
+// Where the highest rate over a second is, by the feature's code, in two places: the number of the run's first sample, and how many samples it has.
+#[no_mangle]
+pub extern "C" fn chaldoref_peak(file: &[u8], id: u32, code: u32, places: &mut [u64]) -> u32
+    ensures { λ r. ⌜ Answers (ofPeak (now (file .entry)) id code) (now (places .entry)) r (now (places .exit)) ⌝ }
+{
+    hand_peak(file, id, code, places)
+}
+
+// The number of the sample at media time t, in one place.
+#[no_mangle]
+pub extern "C" fn chaldoref_sample_at(file: &[u8], id: u32, t: u32, places: &mut [u64]) -> u32
+    ensures { λ r. ⌜ Answers (ofSampleAt (now (file .entry)) id t) (now (places .entry)) r (now (places .exit)) ⌝ }
+{
+    hand_sample_at(file, id, t, places)
+}
+
+// What movie time t shows, in two places: 1 and the media time, or 0 and 0 where nothing is shown.
+#[no_mangle]
+pub extern "C" fn chaldoref_media_time(file: &[u8], id: u32, t: u32, places: &mut [u64]) -> u32
+    ensures { λ r. ⌜ Answers (ofMediaTime (now (file .entry)) id t) (now (places .entry)) r (now (places .exit)) ⌝ }
+{
+    hand_media_time(file, id, t, places)
+}
+
+// The stretch of a track from a to b: a pair (offset, length) for each chunk touched in the room, and in two places how many pairs and the total of bytes.
+#[no_mangle]
+pub extern "C" fn chaldoref_stretch(
+    file: &[u8],
+    id: u32,
+    a: u32,
+    b: u32,
+    room: &mut [u32],
+    places: &mut [u64],
+) -> u32
+    ensures { λ r. ⌜ Fills (ofStretch (now (file .entry)) id a b (now (room .entry))) (now (places .entry)) (flat (stretchPairs (now (file .entry)) id (media a) (media b))) (now (room .entry)) r (now (places .exit)) (now (room .exit)) ⌝ }
+{
+    hand_stretch(file, id, a, b, room, places)
+}
+
+// Writes the slip of a track's stretch from a to b into the bytes, and in one place its length.
+#[no_mangle]
+pub extern "C" fn chaldoref_write_slip(
+    file: &[u8],
+    id: u32,
+    a: u32,
+    b: u32,
+    out: &mut [u8],
+    places: &mut [u64],
+) -> u32
+    ensures { λ r. ⌜ Fills (ofSlipWriting (now (file .entry)) id a b (now (out .entry))) (now (places .entry)) (slipOfStretch (now (file .entry)) id (media a) (media b)) (now (out .entry)) r (now (places .exit)) (now (out .exit)) ⌝ }
+{
+    hand_written_slip(file, id, a, b, out, places)
+}
+
+// Reads a slip: its pairs in the room, and in six places track ID, scale, a, b, how many pairs, and 0; or zeros and, with refusal 17, the place where the slip goes wrong.
+#[no_mangle]
+pub extern "C" fn chaldoref_read_slip(bytes: &[u8], room: &mut [u32], places: &mut [u64]) -> u32
+    ensures { λ r. ⌜ Fills (ofSlipReading (now (bytes .entry)) (now (room .entry))) (now (places .entry)) (pairsOf (slipIn (now (bytes .entry)))) (now (room .entry)) r (now (places .exit)) (now (room .exit)) ⌝ }
+{
+    hand_read_slip(bytes, room, places)
+}

@@ -3,20 +3,20 @@
 use Prim.Native.Nat.{ℕ, _*_, _/_, _≤_, _<_}
 use mathlib.Core.Path.{_≡_, refl, ap, _∙_}
 use mathlib.Core.List.{List}
-use mathlib.Core.Bool.{cond}
 use native.Mathlib.Omega.{arith}
 use native.Mathlib.Nat.{div-lt-iff-lt-mul}
 use borrow.Author.Tests.{eq-eqb, ne-eqb, lt-ltb, le-ltb}
-use lib.Dec.{eqb, lit<}
+use lib.Dec.{lit<}
 use lib.ListN.{length}
 use lib.Seq.{sets}
+use Rattle.structure.specs.declared.source.Source.{Source}
 use Rattle.structure.specs.Track.{profileOf}
 use Rattle.structure.specs.Movie.{moovOf, movieProfile}
 use Rattle.structure.specs.Rows.{orElse}
-use Rattle.movie.specs.Refusals.{fileRefusal}
-use Rattle.movie.specs.Rooms.{noRoom, filledRoom, roomAfter}
-use Rattle.questions.specs.Asked.{askRefusal, trackAsked}
-use Rattle.profiles.specs.Profiles.{recordNumbers, keptOf, profileAsked, profileNumbers, profileRefusal, profileAnswer, profileAnswerNumbers, Profiles}
+use Rattle.movie.specs.Rooms.{noRoom, filledRoom, refusedWith}
+use Rattle.movie.proofs.Answers.{puts-refused, puts-answer}
+use Rattle.questions.specs.Asked.{trackAsked}
+use Rattle.profiles.specs.Profiles.{recordNumbers, keptOf, profileAsked, profileNumbers, idRefusal, profileRefusal, profileCount, profileAnswerNumbers, Profiles}
 use Rattle.profiles.specs.declared.ProfileAnswer.the-variants.{Records, Refused}
 use Rattle.profiles.proofs.Kept.{numbers-length, all-records}
 
@@ -32,40 +32,36 @@ track-asked-profile s t p id n d e = rw (ne-eqb id 0 n) (e ∙ ap profileOf d)
 
 -- ---- the answers
 
-answered : (s : List ℕ) (id : ℕ) (room after : List ℕ) (r : ℕ) → profileRefusal s id room ≡ r → (r ≡ 0 → ⊥) → after ≡ room → Profiles s id room (Refused r) after
-unfolding profileAnswer profileAnswerNumbers roomAfter
-answered s id room after r e n d = record { answer = rw (e, ne-eqb r 0 n); numbers = rw (e, ne-eqb r 0 n); places = rw (e, ne-eqb r 0 n) d }
+answered : (s : List ℕ) (w : Source) (id : ℕ) (room : List ℕ) (r : ℕ) → profileRefusal s w id room ≡ r → (r ≡ 0 → ⊥) → Profiles s w id room (Refused r) room
+unfolding profileAnswerNumbers
+answered s w id room r e n =
+    puts-refused profileAnswerNumbers (refusedWith 1) Refused (λ k. refl) (profileCount s id) (profileNumbers s id) room (profileRefusal s w id room) r e n
 
-abbrev pub IdRefusal : List ℕ → ℕ → ℕ
-IdRefusal s id = cond (eqb id 0) (fileRefusal s) (askRefusal s id)
-
-pub refused-profile : (s : List ℕ) (id : ℕ) (room : List ℕ) (r : ℕ) → r ≡ IdRefusal s id → (r ≡ 0 → ⊥) → Profiles s id room (Refused r) room
+pub refused-profile : (s : List ℕ) (w : Source) (id : ℕ) (room : List ℕ) (r : ℕ) → r ≡ idRefusal s w id → (r ≡ 0 → ⊥) → Profiles s w id room (Refused r) room
 unfolding profileRefusal orElse
-refused-profile s id room r e n = answered s id room room r (rw (← e, ne-eqb r 0 n)) n refl
+refused-profile s w id room r e n = answered s w id room r (rw (← e, ne-eqb r 0 n)) n
 
-module _ (s : List ℕ) (id : ℕ) (room p : List ℕ) (r n : ℕ) (e : r ≡ IdRefusal s id) (z : r ≡ 0) (d : p ≡ profileAsked s id) (c : n ≡ length (keptOf p)) where
+module _ (s : List ℕ) (w : Source) (id : ℕ) (room p : List ℕ) (r n : ℕ) (e : r ≡ idRefusal s w id) (z : r ≡ 0) (d : p ≡ profileAsked s id) (c : n ≡ length (keptOf p)) where
   numbers-are : length (profileNumbers s id) ≡ 3 * n
   unfolding profileNumbers
   numbers-are = rw (c, d) (numbers-length (keptOf (profileAsked s id)))
 
-  then-room : profileRefusal s id room ≡ noRoom (profileNumbers s id) room
+  then-room : profileRefusal s w id room ≡ noRoom (profileNumbers s id) room
   unfolding profileRefusal orElse
   then-room = rw (← e, eq-eqb r 0 z)
 
-  pub short-profile : length room / 3 < n → Profiles s id room (Refused 16) room
+  pub short-profile : length room / 3 < n → Profiles s w id room (Refused 16) room
   unfolding noRoom
   short-profile h =
       let k = div-lt-iff-lt-mul {x = length room} {y = n} (lit< tt) .0 h in
-      answered s id room room 16 (then-room ∙ rw (lt-ltb (length room) (length (profileNumbers s id)) (omega (arith, numbers-are)))) (λ q. omega arith) refl
+      answered s w id room 16 (then-room ∙ rw (lt-ltb (length room) (length (profileNumbers s id)) (omega (arith, numbers-are)))) (λ q. omega arith)
 
-  pub whole-profile : (after : List ℕ) → n ≤ length room / 3 → after ≡ sets room 0 (recordNumbers (keptOf p)) → Profiles s id room (Records n) after
-  unfolding noRoom profileAnswer profileAnswerNumbers roomAfter filledRoom profileNumbers
+  pub whole-profile : (after : List ℕ) → n ≤ length room / 3 → after ≡ sets room 0 (recordNumbers (keptOf p)) → Profiles s w id room (Records n) after
+  unfolding noRoom profileAnswerNumbers filledRoom profileNumbers
   whole-profile after h q =
-      let w : 3 * n ≤ length room = omega arith in
-      let k : profileRefusal s id room ≡ 0 = then-room ∙ rw (le-ltb (length room) (length (profileNumbers s id)) (omega (arith, numbers-are))) in
+      let y : 3 * n ≤ length room = omega arith in
+      let k : profileRefusal s w id room ≡ 0 = then-room ∙ rw (le-ltb (length room) (length (profileNumbers s id)) (omega (arith, numbers-are))) in
       let g : n ≡ length (keptOf (profileAsked s id)) = rw d at c in
-      record {
-        answer = rw (k, ← g);
-        numbers = rw (k, ← g);
-        places = rw k (q ∙ rw d (all-records (keptOf (profileAsked s id)) room (omega arith)));
-      }
+      puts-answer profileAnswerNumbers (refusedWith 1) Refused (λ j. refl) (profileCount s id) (profileNumbers s id) room (profileRefusal s w id room) (Records n) after k
+      (ap Records g)
+      (q ∙ rw d (all-records (keptOf (profileAsked s id)) room (omega arith)))

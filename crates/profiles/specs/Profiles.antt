@@ -1,17 +1,18 @@
 -- "Stored profile: part-ID, code and value of each record kept, in order; ID 0 asks for the movie's own; no profile gives none."
 use Prim.Native.Nat.{ℕ}
-use mathlib.Core.Path.{_≡_}
 use mathlib.Core.List.{List, [], _∷_}
 use mathlib.Core.Bool.{cond}
 use lib.ListN.{length}
 use lib.Dec.{eqb}
 use Rattle.bigendian.specs.BigEndian.{u32At}
 use Rattle.lists.specs.Entries.{rowsOf, entries}
+use Rattle.structure.specs.declared.source.Source.{Source}
 use Rattle.structure.specs.Track.{profileOf}
 use Rattle.structure.specs.Movie.{moovOf, movieProfile}
 use Rattle.structure.specs.Rows.{orElse}
-use Rattle.movie.specs.Refusals.{fileRefusal}
-use Rattle.movie.specs.Rooms.{noRoom, roomAfter, refusedWith}
+use Rattle.movie.specs.Refusals.{filmRefusal}
+use Rattle.movie.specs.Rooms.{noRoom, refusedWith}
+use Rattle.movie.specs.Answers.{given, Puts}
 use Rattle.questions.specs.Asked.{askRefusal, trackAsked}
 use Rattle.profiles.specs.declared.ProfileAnswer.{ProfileAnswer}
 use Rattle.profiles.specs.declared.ProfileAnswer.the-variants.{Records, Refused}
@@ -41,14 +42,20 @@ profileAsked s id = cond (eqb id 0) (movieProfile (moovOf s)) (profileOf (trackA
 unfoldable pub profileNumbers : List ℕ → ℕ → List ℕ
 profileNumbers s id = recordNumbers (keptOf (profileAsked s id))
 
--- the refusal of the question: the file's; 14 for an ID that is not 0 and no track's; then 16
-unfoldable pub profileRefusal : List ℕ → ℕ → List ℕ → ℕ
-profileRefusal s id room = orElse (cond (eqb id 0) (fileRefusal s) (askRefusal s id)) (noRoom (profileNumbers s id) room)
+-- the refusal before the room is looked at: the film's; 14 for an ID that is not 0 and no track's
+abbrev pub idRefusal : List ℕ → Source → ℕ → ℕ
+idRefusal s w id = cond (eqb id 0) (filmRefusal s w) (askRefusal s w id)
 
--- "the count of .. records .. is returned"
-unfoldable pub profileAnswer : List ℕ → ℕ → List ℕ → ProfileAnswer
-profileAnswer s id room =
-    cond (eqb (profileRefusal s id room) 0) (Records (length (keptOf (profileAsked s id)))) (Refused (profileRefusal s id room))
+-- the refusal of the question: those, then 16
+unfoldable pub profileRefusal : List ℕ → Source → ℕ → List ℕ → ℕ
+profileRefusal s w id room = orElse (idRefusal s w id) (noRoom (profileNumbers s id) room)
+
+-- what is answered where nothing is refused: "the count of .. records .. is returned"
+abbrev pub profileCount : List ℕ → ℕ → ProfileAnswer
+profileCount s id = Records (length (keptOf (profileAsked s id)))
+
+abbrev pub profileAnswer : List ℕ → Source → ℕ → List ℕ → ProfileAnswer
+profileAnswer s w id room = given (profileRefusal s w id room) (profileCount s id) Refused
 
 -- document 01's number and value for each case of the answer
 unfoldable pub profileAnswerNumbers : ProfileAnswer → List ℕ
@@ -56,8 +63,6 @@ profileAnswerNumbers (Records n) = 0 ∷ n ∷ []
 profileAnswerNumbers (Refused r) = refusedWith 1 r
 
 -- the promise of the question: the answer r, and the room after it
-pub record Profiles (s : List ℕ) (id : ℕ) (room : List ℕ) (r : ProfileAnswer) (after : List ℕ) : Type 0 where
-  pub answer : r ≡ profileAnswer s id room
-  pub numbers : profileAnswerNumbers r
-      ≡ cond (eqb (profileRefusal s id room) 0) (0 ∷ length (keptOf (profileAsked s id)) ∷ []) (refusedWith 1 (profileRefusal s id room))
-  pub places : after ≡ roomAfter (profileRefusal s id room) (profileNumbers s id) room
+abbrev pub Profiles : List ℕ → Source → ℕ → List ℕ → ProfileAnswer → List ℕ → Type 0
+Profiles s w id room r after =
+    Puts profileAnswerNumbers (refusedWith 1) Refused (profileRefusal s w id room) (profileCount s id) r (profileNumbers s id) room after

@@ -5,17 +5,14 @@ use questions::ask_refusal;
 use questions::track_asked;
 use structure::moov::moov_body;
 use structure::moov::movie_profile;
+use structure::source::Source;
 use structure::trak::track_profile;
 ghost use mathlib.Core.Path.{_≡_};
-ghost use mathlib.Core.Bool.{cond};
 ghost use mathlib.Core.List.{[], _∷_};
 ghost use Prim.Native.Nat.{_+_, _*_, _≤_, _<_, _^_};
-ghost use lib.Dec.{eqb};
 ghost use lib.ListN.{length};
 ghost use lib.Seq.{sets};
-ghost use Rattle.movie.specs.Refusals.{fileRefusal};
-ghost use Rattle.questions.specs.Asked.{askRefusal};
-ghost use Rattle.profiles.specs.Profiles.{keptOf, recordNumbers, profileAsked, Profiles};
+ghost use Rattle.profiles.specs.Profiles.{keptOf, recordNumbers, profileAsked, idRefusal, Profiles};
 
 // How many numbers the answer has for a record.
 pub const RECORD: usize = 3;
@@ -62,23 +59,23 @@ fn put_records(profile: &[u8], room: &mut [u32])
 }
 
 // The refusal before the room is looked at: ID 0 asks for the movie's own profile, and no track has it.
-pub fn id_refusal(file: &[u8], id: u32) -> u32
-    ensures { λ r. ⌜ r ≡ cond (eqb id 0) (fileRefusal (now (file .entry))) (askRefusal (now (file .entry)) id) ⌝ }
+pub fn id_refusal(lent: &[u8], source: Source, id: u32) -> u32
+    ensures { λ r. ⌜ r ≡ idRefusal (now (lent .entry)) source id ⌝ }
 {
     if id == 0 {
-        return movie::refusal(file);
+        return movie::refusal(lent, source);
     }
-    ask_refusal(file, id)
+    ask_refusal(lent, source, id)
 }
 
 // The profile that is asked for; empty where there is none.
-fn profile_asked<'a>(file: &'a [u8], id: u32) -> &'a [u8]
-    ensures { λ r. ⌜ now r ≡ profileAsked (now (file .entry)) id ⌝ }
+fn profile_asked<'a>(lent: &'a [u8], id: u32) -> &'a [u8]
+    ensures { λ r. ⌜ now r ≡ profileAsked (now (lent .entry)) id ⌝ }
 {
     if id == 0 {
-        return movie_profile(moov_body(file));
+        return movie_profile(moov_body(lent));
     }
-    track_profile(track_asked(file, id))
+    track_profile(track_asked(lent, id))
 }
 
 // The answer of `stored_profile`: how many records; or the number of a refusal.
@@ -89,14 +86,14 @@ pub enum ProfileAnswer {
 
 // The stored profile of a track, or for ID 0 of the movie: three numbers for each record kept, in the first places of the room. A refusal leaves the
 // room as it is.
-pub fn stored_profile(file: &[u8], id: u32, room: &mut [u32]) -> ProfileAnswer
-    ensures { λ r. ⌜ Profiles (now (file .entry)) id (now (room .entry)) r (now (room .exit)) ⌝ }
+pub fn stored_profile(lent: &[u8], source: Source, id: u32, room: &mut [u32]) -> ProfileAnswer
+    ensures { λ r. ⌜ Profiles (now (lent .entry)) source id (now (room .entry)) r (now (room .exit)) ⌝ }
 {
-    let refused = id_refusal(file, id);
+    let refused = id_refusal(lent, source, id);
     if refused != 0 {
         return ProfileAnswer::Refused(refused);
     }
-    let profile = profile_asked(file, id);
+    let profile = profile_asked(lent, id);
     let n = kept_count(profile);
     if room.len() / RECORD < n {
         return ProfileAnswer::Refused(16);

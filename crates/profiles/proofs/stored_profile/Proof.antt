@@ -10,7 +10,7 @@ id-refusal-requires : tie.Need-id-refusal-requires
 id-refusal-requires c κs = search needs
 
 returns : tie.Need-returns
-returns c = refused-profile _ _ _ _ (c .before .id-refusal .ensures) (c .if1 .taken)
+returns c = refused-profile _ _ _ _ _ (c .before .id-refusal .ensures) (c .if1 .taken)
 
 profile-asked-requires : tie.Need-profile-asked-requires
 profile-asked-requires c κs = search needs
@@ -22,7 +22,7 @@ returns-2 : tie.Need-returns-2
 returns-2 c =
     let n = c .before in
     let p = n .before in
-    short-profile _ _ _ _ _ _ (p .before .before .id-refusal .ensures) (p .before .if1 .left) (p .profile-asked .ensures) (n .kept-count .ensures) (c .if2 .taken)
+    short-profile _ _ _ _ _ _ _ (p .before .before .id-refusal .ensures) (p .before .if1 .left) (p .profile-asked .ensures) (n .kept-count .ensures) (c .if2 .taken)
 
 put-records-requires : tie.Need-put-records-requires
 put-records-requires c κs = rw (← c .before .before .kept-count .ensures) (omega (arith, c .before .if2 .left))
@@ -34,7 +34,7 @@ returns-3 : tie.Need-returns-3
 returns-3 c =
     let n = c .before .before .before .before .before in
     let p = n .before in
-    whole-profile _ _ _ _ _ _ (p .before .before .id-refusal .ensures) (p .before .if1 .left) (p .profile-asked .ensures) (n .kept-count .ensures) _
+    whole-profile _ _ _ _ _ _ _ (p .before .before .id-refusal .ensures) (p .before .if1 .left) (p .profile-asked .ensures) (n .kept-count .ensures) _
     (c .before .before .before .before .if2 .left)
     (c .before .before .put-records .ensures)
 

@@ -1,4 +1,0 @@
-pub mod Handing
-pub mod Answered
-pub mod Judged
-pub mod Part
