@@ -11,9 +11,11 @@ use host_times::hand_media_time;
 use host_times::hand_sample_at;
 use host_tracks::profile::hand_profile;
 use host_tracks::tracks::hand_track_list;
+use structure::source::Source;
 ghost use Rattle.slip.specs.Slip.{slipIn};
 ghost use Rattle.pairs.specs.Pairs.{flat};
-ghost use Rattle.movie.specs.TrackList.{trackLines};
+ghost use Rattle.structure.specs.Source.{wholeFile};
+ghost use Rattle.track_list.specs.TrackList.{trackLines};
 ghost use Rattle.stretch.specs.Stretches.{stretchPairs};
 ghost use Rattle.stretch.specs.Slips.{slipOfStretch};
 ghost use Rattle.profiles.specs.Profiles.{profileNumbers};
@@ -24,12 +26,12 @@ ghost use Rattle.host_samples.specs.Numbers.{ofSample, ofSampleBytes, ofFeature
 ghost use Rattle.host_times.specs.Numbers.{ofSampleAt, ofMediaTime};
 ghost use Rattle.host_slips.specs.Numbers.{ofStretch, ofSlipWriting, ofSlipReading, pairsOf};
 
-// Lists the tracks of a film: seven numbers for each in the room, and in one place how many tracks.
+// Lists the tracks of a film: eight numbers for each in the room, and in one place how many tracks.
 #[no_mangle]
 pub extern "C" fn chaldoref_track_list(file: &[u8], room: &mut [u32], places: &mut [u64]) -> u32
-    ensures { λ r. ⌜ Fills (ofTrackList (now (file .entry)) (now (room .entry))) (now (places .entry)) (trackLines (now (file .entry))) (now (room .entry)) r (now (places .exit)) (now (room .exit)) ⌝ }
+    ensures { λ r. ⌜ Fills (ofTrackList (now (file .entry)) wholeFile (now (room .entry))) (now (places .entry)) (trackLines (now (file .entry))) (now (room .entry)) r (now (places .exit)) (now (room .exit)) ⌝ }
 {
-    hand_track_list(file, room, places)
+    hand_track_list(file, Source::whole(), room, places)
 }
 
 // The stored profile of a track, or for ID 0 of the movie: three numbers for each record in the room, and in one place how many records.
@@ -40,57 +42,57 @@ pub extern "C" fn chaldoref_profile(
     room: &mut [u32],
     places: &mut [u64],
 ) -> u32
-    ensures { λ r. ⌜ Fills (ofProfile (now (file .entry)) id (now (room .entry))) (now (places .entry)) (profileNumbers (now (file .entry)) id) (now (room .entry)) r (now (places .exit)) (now (room .exit)) ⌝ }
+    ensures { λ r. ⌜ Fills (ofProfile (now (file .entry)) wholeFile id (now (room .entry))) (now (places .entry)) (profileNumbers (now (file .entry)) id) (now (room .entry)) r (now (places .exit)) (now (room .exit)) ⌝ }
 {
-    hand_profile(file, id, room, places)
+    hand_profile(file, Source::whole(), id, room, places)
 }
 
 // Sample n of a track, in eight places: decode time, duration, composition time, sync (1 or 0), description ID, chunk, offset, size.
 #[no_mangle]
 pub extern "C" fn chaldoref_sample(file: &[u8], id: u32, n: u32, places: &mut [i64]) -> u32
-    ensures { λ r. ⌜ SignedAnswers (ofSample (now (file .entry)) id n) (now (places .entry)) r (now (places .exit)) ⌝ }
+    ensures { λ r. ⌜ SignedAnswers (ofSample (now (file .entry)) wholeFile id n) (now (places .entry)) r (now (places .exit)) ⌝ }
 {
-    hand_sample(file, id, n, places)
+    hand_sample(file, Source::whole(), id, n, places)
 }
 
 // The bytes of sample n, in two places: where they begin in the file, and how many they are.
 #[no_mangle]
 pub extern "C" fn chaldoref_sample_bytes(file: &[u8], id: u32, n: u32, places: &mut [u64]) -> u32
-    ensures { λ r. ⌜ Answers (ofSampleBytes (now (file .entry)) id n) (now (places .entry)) r (now (places .exit)) ⌝ }
+    ensures { λ r. ⌜ Answers (ofSampleBytes (now (file .entry)) wholeFile id n) (now (places .entry)) r (now (places .exit)) ⌝ }
 {
-    hand_sample_bytes(file, id, n, places)
+    hand_sample_bytes(file, Source::whole(), id, n, places)
 }
 
 // The feature with that code of a track, in one place.
 #[no_mangle]
 pub extern "C" fn chaldoref_feature(file: &[u8], id: u32, code: u32, places: &mut [u64]) -> u32
-    ensures { λ r. ⌜ Answers (ofFeature (now (file .entry)) id code) (now (places .entry)) r (now (places .exit)) ⌝ }
+    ensures { λ r. ⌜ Answers (ofFeature (now (file .entry)) wholeFile id code) (now (places .entry)) r (now (places .exit)) ⌝ }
 {
-    hand_feature(file, id, code, places)
+    hand_feature(file, Source::whole(), id, code, places)
 }
 
 // Where the highest rate over a second is, by the feature's code, in two places: the number of the run's first sample, and how many samples it has.
 #[no_mangle]
 pub extern "C" fn chaldoref_peak(file: &[u8], id: u32, code: u32, places: &mut [u64]) -> u32
-    ensures { λ r. ⌜ Answers (ofPeak (now (file .entry)) id code) (now (places .entry)) r (now (places .exit)) ⌝ }
+    ensures { λ r. ⌜ Answers (ofPeak (now (file .entry)) wholeFile id code) (now (places .entry)) r (now (places .exit)) ⌝ }
 {
-    hand_peak(file, id, code, places)
+    hand_peak(file, Source::whole(), id, code, places)
 }
 
 // The number of the sample at media time t, in one place.
 #[no_mangle]
 pub extern "C" fn chaldoref_sample_at(file: &[u8], id: u32, t: u32, places: &mut [u64]) -> u32
-    ensures { λ r. ⌜ Answers (ofSampleAt (now (file .entry)) id t) (now (places .entry)) r (now (places .exit)) ⌝ }
+    ensures { λ r. ⌜ Answers (ofSampleAt (now (file .entry)) wholeFile id t) (now (places .entry)) r (now (places .exit)) ⌝ }
 {
-    hand_sample_at(file, id, t, places)
+    hand_sample_at(file, Source::whole(), id, t, places)
 }
 
 // What movie time t shows, in two places: 1 and the media time, or 0 and 0 where nothing is shown.
 #[no_mangle]
 pub extern "C" fn chaldoref_media_time(file: &[u8], id: u32, t: u32, places: &mut [u64]) -> u32
-    ensures { λ r. ⌜ Answers (ofMediaTime (now (file .entry)) id t) (now (places .entry)) r (now (places .exit)) ⌝ }
+    ensures { λ r. ⌜ Answers (ofMediaTime (now (file .entry)) wholeFile id t) (now (places .entry)) r (now (places .exit)) ⌝ }
 {
-    hand_media_time(file, id, t, places)
+    hand_media_time(file, Source::whole(), id, t, places)
 }
 
 // The stretch of a track from a to b: a pair (offset, length) for each chunk touched in the room, and in two places how many pairs and the total of bytes.

@@ -12,6 +12,7 @@ use Rattle.atoms.specs.Tree.{all, everywhere}
 use Rattle.leaves.specs.Present.{one, atMostOne, tables, present}
 use Rattle.leaves.specs.Leaves.{formOf, skipped, versionOk, holdsEntries, sizeEntry, filledWith, sizedEntries, sizeOk, leafOk}
 use Rattle.structure.specs.Profile.{firstBefore, ofVersion0, profileIn, profileOk}
+use Rattle.structure.specs.Source.{wholeFile, strictly}
 use Rattle.structure.specs.Track.{mdiaOf, minfOf, stblOf, tableOf, elstOf, idOf, scaleOf, durationOf, subtypeOf, profileOf, samplesOf}
 use Rattle.structure.specs.Movie.{moovOf, movieScale, movieProfile}
 use Rattle.structure.specs.Limits.{overLimits, tooMany}
@@ -27,14 +28,14 @@ use Rattle.track.specs.Track.{leastSize, trackOf}
 use Rattle.track.specs.Refusals.{miscounted, contradicts, totalIn, totalTooLarge, otherDuration, chunkPastEnd, wrongEdits}
 use Rattle.movie.specs.Tracks.{hasTrack, trackWith}
 use Rattle.movie.specs.Rooms.{noRoom, filledRoom, roomAfter}
-use Rattle.movie.specs.Refusals.{sameIds, idIsZero, movieScaleIsZero, scaleIsZero, moovRows, moovRefusal, fileRefusal}
+use Rattle.movie.specs.Refusals.{sameIds, idIsZero, movieScaleIsZero, scaleIsZero, moovRows, moovRefusal, filmRefusal}
 use Rattle.leb128.specs.Numbers.{groupsIn, groups, writes}
 use Rattle.slip.specs.Slip.{slipBytes}
 use Rattle.questions.specs.Asked.{askRefusal, trackAsked}
-use Rattle.questions.specs.Times.{atRefusal, atNumber, atAnswer}
-use Rattle.questions.specs.Samples.{sampleOf, sampleRefusal, sampleAnswer}
-use Rattle.stretch.specs.Stretches.{firstIn, pastIn, pairsIn, bytesIn, stretchPairs, spanRefusal, stretchRefusal, stretchAnswer}
-use Rattle.stretch.specs.Slips.{slipHead, slipOfStretch, slipRefusal, slipAnswer}
+use Rattle.questions.specs.Times.{atRefusal, atNumber}
+use Rattle.questions.specs.Samples.{sampleOf, sampleRefusal}
+use Rattle.stretch.specs.Stretches.{firstIn, pastIn, pairsIn, bytesIn, stretchPairs, spanRefusal, stretchRefusal}
+use Rattle.stretch.specs.Slips.{slipHead, slipOfStretch, slipRefusal}
 use Rattle.film_w.specs.Bytes.{bytes}
 use Rattle.film_w.specs.Plain.{plain}
 use Rattle.film_w.specs.Cases.{cases, AllHold}
@@ -43,14 +44,19 @@ pub length-w : length bytes ≡ 4096
 length-w = refl
 
 -- unfoldable only so that the lines below, by naming it, open all that it opens
-unfoldable pub accepted-w : fileRefusal bytes ≡ 0
-unfolding beAt container piecesAfter total filledBy fitting headerOf bodyOf sizeInside sizeTop sizeIn ofKind all everywhere one atMostOne tables present formOf skipped versionOk holdsEntries sizeEntry filledWith sizedEntries sizeOk leafOk firstBefore ofVersion0 profileIn profileOk mdiaOf minfOf stblOf tableOf elstOf idOf scaleOf durationOf subtypeOf profileOf moovOf movieScale movieProfile overLimits tooMany some first orElse wrongVersion wrongSize shortVideoDescription wrongTrackSize fileRows rowsOf entries runsOf perSample wordsAfter sizes chunkOffsets syncs syncsAgree deals perChunk dealsContradict edits editTotal editsOk miscounted contradicts totalIn totalTooLarge otherDuration chunkPastEnd wrongEdits sameIds idIsZero movieScaleIsZero scaleIsZero moovRows moovRefusal fileRefusal
+unfoldable pub accepted-w : filmRefusal bytes wholeFile ≡ 0
+unfolding beAt container piecesAfter total filledBy fitting headerOf bodyOf sizeInside sizeTop sizeIn ofKind all everywhere one atMostOne tables present formOf skipped versionOk holdsEntries sizeEntry filledWith sizedEntries sizeOk leafOk firstBefore ofVersion0 profileIn profileOk mdiaOf minfOf stblOf tableOf elstOf idOf scaleOf durationOf subtypeOf profileOf moovOf movieScale movieProfile overLimits tooMany some first orElse wrongVersion wrongSize shortVideoDescription wrongTrackSize fileRows rowsOf entries runsOf perSample wordsAfter sizes chunkOffsets syncs syncsAgree deals perChunk dealsContradict edits editTotal editsOk miscounted contradicts totalIn totalTooLarge otherDuration chunkPastEnd wrongEdits sameIds idIsZero movieScaleIsZero scaleIsZero moovRows moovRefusal filmRefusal
 accepted-w = refl
 
 -- the track with ID 1: that there is one, its samples, total and scale, and its lists
-pub asked-w : askRefusal bytes 1 ≡ 0
+pub asked-w : askRefusal bytes wholeFile 1 ≡ 0
 unfolding accepted-w hasTrack askRefusal
 asked-w = refl
+
+-- as the slip writer asks: its stored duration is the total
+pub asked-strictly-w : askRefusal bytes (strictly wholeFile) 1 ≡ 0
+unfolding accepted-w hasTrack askRefusal
+asked-strictly-w = refl
 
 pub samples-w : samplesOf (trackAsked bytes 1) ≡ 4
 unfolding accepted-w trackWith trackAsked
@@ -69,13 +75,13 @@ unfolding accepted-w trackWith trackAsked signed32 compositionOffset isSync desc
 track-w = refl
 
 -- the cases hold of each file that has such a track, from these numbers and the lists alone
-from-lists : (s : List ℕ) → askRefusal s 1 ≡ 0 → samplesOf (trackAsked s 1) ≡ 4 → totalIn (trackAsked s 1) ≡ 120 → scaleOf (trackAsked s 1) ≡ 600
+from-lists : (s : List ℕ) → askRefusal s wholeFile 1 ≡ 0 → askRefusal s (strictly wholeFile) 1 ≡ 0 → samplesOf (trackAsked s 1) ≡ 4 → totalIn (trackAsked s 1) ≡ 120 → scaleOf (trackAsked s 1) ≡ 600
     → trackOf (trackAsked s 1) ≡ plain → AllHold s cases
-unfolding offsetOf pairOf noRoom filledRoom roomAfter orElse groupsIn groups writes slipBytes atRefusal atNumber atAnswer sampleOf sampleRefusal sampleAnswer firstIn pastIn pairsIn bytesIn stretchPairs spanRefusal stretchRefusal stretchAnswer slipHead slipOfStretch slipRefusal slipAnswer
-from-lists s asked four total scale track =
-    rw (asked, four, total, scale, track)
+unfolding offsetOf pairOf noRoom filledRoom roomAfter orElse groupsIn groups writes slipBytes atRefusal atNumber sampleOf sampleRefusal firstIn pastIn pairsIn bytesIn stretchPairs spanRefusal stretchRefusal slipHead slipOfStretch slipRefusal
+from-lists s asked strict four total scale track =
+    rw (asked, strict, four, total, scale, track)
     (refl, (refl, (refl, (refl, (refl, (refl, (refl, (refl, (refl, (refl, ((refl, refl), ((refl, refl), ((refl, refl), ((refl, refl), tt))))))))))))))
 
 -- "proved as a single theorem over the list of them"
 pub film-w : AllHold bytes cases
-film-w = from-lists bytes asked-w samples-w total-w scale-w track-w
+film-w = from-lists bytes asked-w asked-strictly-w samples-w total-w scale-w track-w

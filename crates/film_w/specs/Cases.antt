@@ -7,6 +7,7 @@ use lib.ListN.{replicate}
 use lib.IntN.{pos}
 use Rattle.pairs.specs.Pairs.{flat}
 use Rattle.edits.specs.declared.MediaTime.{MediaTime}
+use Rattle.structure.specs.Source.{wholeFile}
 use Rattle.movie.specs.Rooms.{roomAfter}
 use Rattle.questions.specs.Times.{atAnswer}
 use Rattle.questions.specs.Samples.{sampleAnswer}
@@ -64,16 +65,16 @@ cases =
 abbrev pub media : ℕ → MediaTime
 media t = record { 0 = t }
 
--- the question, put to the file s of the track with ID 1, has the answer
+-- the question, put to the whole file s of the track with ID 1, has the answer
 abbrev pub CaseHolds : List ℕ → Case → Type 0
-CaseHolds s (time t r) = atAnswer s 1 (media t) ≡ r
-CaseHolds s (sample n r) = sampleAnswer s 1 n ≡ r
+CaseHolds s (time t r) = atAnswer s wholeFile 1 (media t) ≡ r
+CaseHolds s (sample n r) = sampleAnswer s wholeFile 1 n ≡ r
 CaseHolds s (stretch a b room r after) =
-    (stretchAnswer s 1 (media a) (media b) room ≡ r)
-    × (roomAfter (stretchRefusal s 1 (media a) (media b) room) (flat (stretchPairs s 1 (media a) (media b))) room ≡ after)
+    (stretchAnswer s wholeFile 1 (media a) (media b) room ≡ r)
+    × (roomAfter (stretchRefusal s wholeFile 1 (media a) (media b) room) (flat (stretchPairs s 1 (media a) (media b))) room ≡ after)
 CaseHolds s (slip a b out r after) =
-    (slipAnswer s 1 (media a) (media b) out ≡ r)
-    × (roomAfter (slipRefusal s 1 (media a) (media b) out) (slipOfStretch s 1 (media a) (media b)) out ≡ after)
+    (slipAnswer s wholeFile 1 (media a) (media b) out ≡ r)
+    × (roomAfter (slipRefusal s wholeFile 1 (media a) (media b) out) (slipOfStretch s 1 (media a) (media b)) out ≡ after)
 
 -- each of some cases does
 abbrev pub AllHold : List ℕ → List Case → Type 0

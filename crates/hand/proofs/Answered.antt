@@ -29,11 +29,6 @@ handed-signed ns refusal values places r after e h = rw e h
 abbrev pub judged : ℕ → List ℕ → List ℕ
 judged refusal values = cond (eqb refusal 0) (0 ∷ values) (refusedWith (length values) refusal)
 
-pub numbers-are : {X : Type 0} (numbers : X → List ℕ) (given : X) (refused : ℕ → X) (values : List ℕ) → numbers given ≡ 0 ∷ values
-    → ((r : ℕ) → numbers (refused r) ≡ refusedWith (length values) r) → (refusal : ℕ) → numbers (cond (eqb refusal 0) given (refused refusal)) ≡ judged refusal values
-numbers-are numbers given refused values e f zero = e
-numbers-are numbers given refused values e f (suc n) = rw (ne-eqb (suc n) 0 (λ q. omega arith)) (f (suc n))
-
 zeros-length : (n : ℕ) → length {A = ℕ} (replicate n 0) ≡ n
 zeros-length zero = refl
 zeros-length (suc n) = ap suc (zeros-length n)

@@ -9,28 +9,30 @@ use lib.ListN.{length}
 use Rattle.slip.specs.Slip.{Outcome, accepted, malformed, refused, numbersFor, roomFor}
 use Rattle.slip.specs.declared.Head.{Head}
 use Rattle.structure.specs.Rows.{orElse}
+use Rattle.structure.specs.Source.{wholeFile}
 use Rattle.track.specs.Track.{trackOf}
-use Rattle.movie.specs.Rooms.{noRoom, filledRoom, roomAfter}
+use Rattle.movie.specs.Rooms.{noRoom, filledRoom, roomAfter, refusedWith}
+use Rattle.movie.proofs.Answers.{gives}
 use Rattle.questions.specs.Asked.{trackAsked}
-use Rattle.stretch.specs.Stretches.{stretchPairs, bytesIn, stretchRefusal, stretchAnswer, stretchNumbers}
+use Rattle.stretch.specs.Stretches.{stretchPairs, bytesIn, stretchRefusal, stretchAsked, stretchNumbers}
 use Rattle.stretch.specs.declared.StretchAnswer.the-variants as stretches
-use Rattle.stretch.specs.Slips.{slipOfStretch, slipRefusal, slipAnswer, slipNumbers}
+use Rattle.stretch.specs.Slips.{slipOfStretch, slipRefusal, slipAsked, slipNumbers}
 use Rattle.stretch.specs.declared.slips.SlipAnswer.the-variants as slips
 use Rattle.hand.specs.Places.{refusalIn, valuesIn}
 use Rattle.hand.specs.Times.{media}
-use Rattle.hand.proofs.Answered.{judged, numbers-are}
+use Rattle.hand.proofs.Answered.{judged}
 use Rattle.host_slips.specs.Numbers.{ofStretch, ofSlipWriting, pairsOf, outcomeRefusal}
 
 module _ (s : List ℕ) (id a b : ℕ) (room : List ℕ) where
   pub stretch-judged : ofStretch s id a b room
-      ≡ judged (stretchRefusal s id (media a) (media b) room) (length (stretchPairs s id (media a) (media b)) ∷ bytesIn (trackOf (trackAsked s id)) (media a) (media b) ∷ [])
-  unfolding stretchAnswer stretchNumbers
+      ≡ judged (stretchRefusal s wholeFile id (media a) (media b) room) (length (stretchPairs s id (media a) (media b)) ∷ bytesIn (trackOf (trackAsked s id)) (media a) (media b) ∷ [])
+  unfolding stretchNumbers
   stretch-judged =
-      numbers-are stretchNumbers (stretches.Pairs _ _) stretches.Refused _ refl (λ r. refl) (stretchRefusal s id (media a) (media b) room)
+      gives stretchNumbers (refusedWith 2) stretches.Refused (λ r. refl) (stretchAsked s id (media a) (media b)) (stretchRefusal s wholeFile id (media a) (media b) room) _ refl .numbers
 
-  pub slip-judged : ofSlipWriting s id a b room ≡ judged (slipRefusal s id (media a) (media b) room) (length (slipOfStretch s id (media a) (media b)) ∷ [])
-  unfolding slipAnswer slipNumbers
-  slip-judged = numbers-are slipNumbers (slips.Written _) slips.Refused _ refl (λ r. refl) (slipRefusal s id (media a) (media b) room)
+  pub slip-judged : ofSlipWriting s id a b room ≡ judged (slipRefusal s wholeFile id (media a) (media b) room) (length (slipOfStretch s id (media a) (media b)) ∷ [])
+  unfolding slipNumbers
+  slip-judged = gives slipNumbers (refusedWith 1) slips.Refused (λ r. refl) (slipAsked s id (media a) (media b)) (slipRefusal s wholeFile id (media a) (media b) room) _ refl .numbers
 
 -- ---- a slip that is read
 

@@ -4,17 +4,18 @@ use Prim.Native.Nat.{ℕ}
 use mathlib.Core.List.{List, []}
 use lib.ListN.{length}
 use Rattle.slip.specs.Slip.{Outcome, accepted, malformed, slipIn, numbersFor}
+use Rattle.structure.specs.Source.{wholeFile}
 use Rattle.stretch.specs.Stretches.{stretchAnswer, stretchNumbers}
 use Rattle.stretch.specs.Slips.{slipAnswer, slipNumbers}
 use Rattle.hand.specs.Times.{media}
 
 -- "the number of pairs and the total of bytes"
 abbrev pub ofStretch : List ℕ → ℕ → ℕ → ℕ → List ℕ → List ℕ
-ofStretch s id a b room = stretchNumbers (stretchAnswer s id (media a) (media b) room)
+ofStretch s id a b room = stretchNumbers (stretchAnswer s wholeFile id (media a) (media b) room)
 
 -- "the slip's length in bytes"
 abbrev pub ofSlipWriting : List ℕ → ℕ → ℕ → ℕ → List ℕ → List ℕ
-ofSlipWriting s id a b out = slipNumbers (slipAnswer s id (media a) (media b) out)
+ofSlipWriting s id a b out = slipNumbers (slipAnswer s wholeFile id (media a) (media b) out)
 
 -- "the numbers after the form": ID, scale, a, b and the number of pairs; and the place that "refusal 17 shall carry", 0 without it
 abbrev pub ofSlipReading : List ℕ → List ℕ → List ℕ

@@ -7,6 +7,7 @@ use slip::read_slip;
 use stretch::slips::SlipAnswer;
 use stretch::slips::write_slip;
 use stretch::span_refusal;
+use structure::source::Source;
 ghost use mathlib.Core.Path.{_≡_};
 ghost use Rattle.slip.specs.Slip.{slipIn};
 ghost use Rattle.stretch.specs.Slips.{slipOfStretch};
@@ -26,7 +27,8 @@ pub fn hand_written_slip(
     ensures { λ r. ⌜ Fills (ofSlipWriting (now (file .entry)) id a b (now (out .entry))) (now (places .entry)) (slipOfStretch (now (file .entry)) id (media a) (media b)) (now (out .entry)) r (now (places .exit)) (now (out .exit)) ⌝ }
 {
     if places.len() < 1 {
-        return or_short(span_refusal(file, id, MediaTime(a), MediaTime(b)));
+        let source = Source::whole().strictly();
+        return or_short(span_refusal(file, source, id, MediaTime(a), MediaTime(b)));
     }
     match write_slip(file, id, MediaTime(a), MediaTime(b), out) {
         SlipAnswer::Written(n) => hand(0, &[n as u64], places),

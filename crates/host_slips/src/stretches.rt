@@ -5,6 +5,7 @@ use hand::or_short;
 use stretch::StretchAnswer;
 use stretch::span_refusal;
 use stretch::stretch_of;
+use structure::source::Source;
 ghost use Rattle.pairs.specs.Pairs.{flat};
 ghost use Rattle.stretch.specs.Stretches.{stretchPairs};
 ghost use Rattle.hand.specs.Places.{Fills};
@@ -23,7 +24,8 @@ pub fn hand_stretch(
     ensures { λ r. ⌜ Fills (ofStretch (now (file .entry)) id a b (now (room .entry))) (now (places .entry)) (flat (stretchPairs (now (file .entry)) id (media a) (media b))) (now (room .entry)) r (now (places .exit)) (now (room .exit)) ⌝ }
 {
     if places.len() < 2 {
-        return or_short(span_refusal(file, id, MediaTime(a), MediaTime(b)));
+        let source = Source::whole();
+        return or_short(span_refusal(file, source, id, MediaTime(a), MediaTime(b)));
     }
     match stretch_of(file, id, MediaTime(a), MediaTime(b), room) {
         StretchAnswer::Pairs(n, bytes) => hand(0, &[n as u64, bytes], places),

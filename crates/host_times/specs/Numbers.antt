@@ -2,13 +2,14 @@
 -- refusal.
 use Prim.Native.Nat.{ℕ}
 use mathlib.Core.List.{List}
+use Rattle.structure.specs.declared.source.Source.{Source}
 use Rattle.questions.specs.Times.{atAnswer, numberNumbers, mapAnswer, timeNumbers}
 use Rattle.hand.specs.Times.{media, movie}
 
 -- "the n with decode time ≤ t < decode time plus duration"
-abbrev pub ofSampleAt : List ℕ → ℕ → ℕ → List ℕ
-ofSampleAt s id t = numberNumbers (atAnswer s id (media t))
+abbrev pub ofSampleAt : List ℕ → Source → ℕ → ℕ → List ℕ
+ofSampleAt s w id t = numberNumbers (atAnswer s w id (media t))
 
 -- 1 and the media time, or 0 and 0 where nothing is shown
-abbrev pub ofMediaTime : List ℕ → ℕ → ℕ → List ℕ
-ofMediaTime s id t = timeNumbers (mapAnswer s id (movie t))
+abbrev pub ofMediaTime : List ℕ → Source → ℕ → ℕ → List ℕ
+ofMediaTime s w id t = timeNumbers (mapAnswer s w id (movie t))

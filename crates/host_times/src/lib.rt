@@ -6,24 +6,25 @@ use questions::times::NumberAnswer;
 use questions::times::TimeAnswer;
 use questions::times::media_time_of;
 use questions::times::sample_at_time;
+use structure::source::Source;
 ghost use Rattle.hand.specs.Places.{Answers};
 ghost use Rattle.host_times.specs.Numbers.{ofSampleAt, ofMediaTime};
 
 // The number of the sample at media time t, in one place.
-pub fn hand_sample_at(file: &[u8], id: u32, t: u32, places: &mut [u64]) -> u32
-    ensures { λ r. ⌜ Answers (ofSampleAt (now (file .entry)) id t) (now (places .entry)) r (now (places .exit)) ⌝ }
+pub fn hand_sample_at(lent: &[u8], source: Source, id: u32, t: u32, places: &mut [u64]) -> u32
+    ensures { λ r. ⌜ Answers (ofSampleAt (now (lent .entry)) source id t) (now (places .entry)) r (now (places .exit)) ⌝ }
 {
-    match sample_at_time(file, id, MediaTime(t)) {
+    match sample_at_time(lent, source, id, MediaTime(t)) {
         NumberAnswer::Number(n) => hand(0, &[n as u64], places),
         NumberAnswer::Refused(r) => hand(r, &[0], places),
     }
 }
 
 // What movie time t shows, in two places: 1 and the media time, or 0 and 0 where nothing is shown.
-pub fn hand_media_time(file: &[u8], id: u32, t: u32, places: &mut [u64]) -> u32
-    ensures { λ r. ⌜ Answers (ofMediaTime (now (file .entry)) id t) (now (places .entry)) r (now (places .exit)) ⌝ }
+pub fn hand_media_time(lent: &[u8], source: Source, id: u32, t: u32, places: &mut [u64]) -> u32
+    ensures { λ r. ⌜ Answers (ofMediaTime (now (lent .entry)) source id t) (now (places .entry)) r (now (places .exit)) ⌝ }
 {
-    match media_time_of(file, id, MovieTime(t)) {
+    match media_time_of(lent, source, id, MovieTime(t)) {
         TimeAnswer::Shown(m) => hand(0, &[1, m.0 as u64], places),
         TimeAnswer::NothingShown => hand(0, &[0, 0], places),
         TimeAnswer::NotMapped(r) => hand(r, &[0, 0], places),

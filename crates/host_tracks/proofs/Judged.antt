@@ -4,18 +4,21 @@ use Prim.Native.Nat.{ℕ}
 use mathlib.Core.Path.{_≡_, refl}
 use mathlib.Core.List.{List, [], _∷_}
 use lib.ListN.{length}
+use Rattle.structure.specs.declared.source.Source.{Source}
 use Rattle.structure.specs.Movie.{moovOf, tracksOf}
-use Rattle.movie.specs.TrackList.{listRefusal, listAnswer, trackListNumbers}
-use Rattle.movie.specs.declared.list.TrackList.the-variants as lists
-use Rattle.profiles.specs.Profiles.{keptOf, profileAsked, profileRefusal, profileAnswer, profileAnswerNumbers}
+use Rattle.movie.specs.Rooms.{refusedWith}
+use Rattle.movie.proofs.Answers.{gives}
+use Rattle.track_list.specs.TrackList.{listRefusal, listed, trackListNumbers}
+use Rattle.track_list.specs.declared.TrackList.the-variants as lists
+use Rattle.profiles.specs.Profiles.{keptOf, profileAsked, profileRefusal, profileCount, profileAnswerNumbers}
 use Rattle.profiles.specs.declared.ProfileAnswer.the-variants as profiles
-use Rattle.hand.proofs.Answered.{judged, numbers-are}
+use Rattle.hand.proofs.Answered.{judged}
 use Rattle.host_tracks.specs.Numbers.{ofTrackList, ofProfile}
 
-pub list-judged : (s room : List ℕ) → ofTrackList s room ≡ judged (listRefusal s room) (length (tracksOf (moovOf s)) ∷ [])
-unfolding listAnswer trackListNumbers
-list-judged s room = numbers-are trackListNumbers (lists.Tracks (length (tracksOf (moovOf s)))) lists.Refused _ refl (λ r. refl) (listRefusal s room)
+pub list-judged : (s : List ℕ) (w : Source) (room : List ℕ) → ofTrackList s w room ≡ judged (listRefusal s w room) (length (tracksOf (moovOf s)) ∷ [])
+unfolding trackListNumbers
+list-judged s w room = gives trackListNumbers (refusedWith 1) lists.Refused (λ r. refl) (listed s) (listRefusal s w room) _ refl .numbers
 
-pub profile-judged : (s : List ℕ) (id : ℕ) (room : List ℕ) → ofProfile s id room ≡ judged (profileRefusal s id room) (length (keptOf (profileAsked s id)) ∷ [])
-unfolding profileAnswer profileAnswerNumbers
-profile-judged s id room = numbers-are profileAnswerNumbers (profiles.Records (length (keptOf (profileAsked s id)))) profiles.Refused _ refl (λ r. refl) (profileRefusal s id room)
+pub profile-judged : (s : List ℕ) (w : Source) (id : ℕ) (room : List ℕ) → ofProfile s w id room ≡ judged (profileRefusal s w id room) (length (keptOf (profileAsked s id)) ∷ [])
+unfolding profileAnswerNumbers
+profile-judged s w id room = gives profileAnswerNumbers (refusedWith 1) profiles.Refused (λ r. refl) (profileCount s id) (profileRefusal s w id room) _ refl .numbers

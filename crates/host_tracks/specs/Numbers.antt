@@ -2,13 +2,14 @@
 -- refusal.
 use Prim.Native.Nat.{ℕ}
 use mathlib.Core.List.{List}
-use Rattle.movie.specs.TrackList.{listAnswer, trackListNumbers}
+use Rattle.structure.specs.declared.source.Source.{Source}
+use Rattle.track_list.specs.TrackList.{listAnswer, trackListNumbers}
 use Rattle.profiles.specs.Profiles.{profileAnswer, profileAnswerNumbers}
 
 -- "the count of tracks"
-abbrev pub ofTrackList : List ℕ → List ℕ → List ℕ
-ofTrackList s room = trackListNumbers (listAnswer s room)
+abbrev pub ofTrackList : List ℕ → Source → List ℕ → List ℕ
+ofTrackList s w room = trackListNumbers (listAnswer s w room)
 
 -- "the count of .. records"
-abbrev pub ofProfile : List ℕ → ℕ → List ℕ → List ℕ
-ofProfile s id room = profileAnswerNumbers (profileAnswer s id room)
+abbrev pub ofProfile : List ℕ → Source → ℕ → List ℕ → List ℕ
+ofProfile s w id room = profileAnswerNumbers (profileAnswer s w id room)

@@ -1,20 +1,21 @@
 // The list of a movie's tracks.
 use hand::hand;
 use hand::or_short;
-use movie::list::TrackList;
-use movie::list::track_list;
-ghost use Rattle.movie.specs.TrackList.{trackLines};
+use structure::source::Source;
+use track_list::TrackList;
+use track_list::track_list;
+ghost use Rattle.track_list.specs.TrackList.{trackLines};
 ghost use Rattle.hand.specs.Places.{Fills};
 ghost use Rattle.host_tracks.specs.Numbers.{ofTrackList};
 
-// Lists the tracks of a film: seven numbers for each in the room, and in one place how many tracks.
-pub fn hand_track_list(file: &[u8], room: &mut [u32], places: &mut [u64]) -> u32
-    ensures { λ r. ⌜ Fills (ofTrackList (now (file .entry)) (now (room .entry))) (now (places .entry)) (trackLines (now (file .entry))) (now (room .entry)) r (now (places .exit)) (now (room .exit)) ⌝ }
+// Lists the tracks of a film: eight numbers for each in the room, and in one place how many tracks.
+pub fn hand_track_list(lent: &[u8], source: Source, room: &mut [u32], places: &mut [u64]) -> u32
+    ensures { λ r. ⌜ Fills (ofTrackList (now (lent .entry)) source (now (room .entry))) (now (places .entry)) (trackLines (now (lent .entry))) (now (room .entry)) r (now (places .exit)) (now (room .exit)) ⌝ }
 {
     if places.len() < 1 {
-        return or_short(movie::refusal(file));
+        return or_short(movie::refusal(lent, source));
     }
-    match track_list(file, room) {
+    match track_list(lent, source, room) {
         TrackList::Tracks(n) => hand(0, &[n as u64], places),
         TrackList::Refused(r) => hand(r, &[0], places),
     }

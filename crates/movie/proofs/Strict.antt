@@ -41,7 +41,7 @@ not-judged : (w : Source) (t : List ℕ) → w .strict ≡ false → otherDurati
 unfolding otherDuration
 not-judged w t q = ap (λ b. b && not (eqb (durationOf t) (totalIn t))) q
 
-none-judged : (w : Source) (ts : List (List ℕ)) → w .strict ≡ false → some (otherDuration w) ts ≡ false
+pub none-judged : (w : Source) (ts : List (List ℕ)) → w .strict ≡ false → some (otherDuration w) ts ≡ false
 unfolding some
 none-judged w [] q = refl
 none-judged w (t ∷ ts) q = rw (not-judged w t q) (none-judged w ts q)

@@ -13,6 +13,7 @@ use Rattle.lists.specs.Lists.{sum, holder}
 use Rattle.lists.proofs.Booleans.{and-left, and-right, cond-zero}
 use Rattle.pairs.specs.Pairs.{flat}
 use Rattle.edits.specs.declared.MediaTime.{MediaTime}
+use Rattle.structure.specs.declared.source.Source.{Source}
 use Rattle.structure.specs.Track.{samplesOf}
 use Rattle.structure.specs.Rows.{orElse}
 use Rattle.structure.proofs.Callers.{none-else}
@@ -37,36 +38,36 @@ pub record Known (s : List ℕ) (id n : ℕ) (x : Sample) : Type 0 where
   pub is : x ≡ sampleOf (tables s id) index
 
 -- the track is not refused, and the stretch lies within
-pub record Span (s : List ℕ) (id : ℕ) (a b : MediaTime) : Type 0 where
-  pub ask : askRefusal s id ≡ 0
+pub record Span (s : List ℕ) (source : Source) (id : ℕ) (a b : MediaTime) : Type 0 where
+  pub ask : askRefusal s source id ≡ 0
   pub order : a .0 < b .0
   pub within : b .0 ≤ sum (tables s id .durations)
 
 -- a stretch that is answered
-pub record Answered (s : List ℕ) (id : ℕ) (a b : MediaTime) (room : List ℕ) (k bytes : ℕ) : Type 0 where
-  pub span : Span s id a b
-  pub refusal : stretchRefusal s id a b room ≡ 0
+pub record Answered (s : List ℕ) (source : Source) (id : ℕ) (a b : MediaTime) (room : List ℕ) (k bytes : ℕ) : Type 0 where
+  pub span : Span s source id a b
+  pub refusal : stretchRefusal s source id a b room ≡ 0
   pub count : k ≡ length (stretchPairs s id a b)
   pub total : bytes ≡ bytesIn (tables s id) a b
 
-module _ (s : List ℕ) (id : ℕ) (e : askRefusal s id ≡ 0) where
+module _ (s : List ℕ) (source : Source) (id : ℕ) (e : askRefusal s source id ≡ 0) where
   -- ---- samples
 
-  pub found-is : (n i : ℕ) → n ≡ suc i → i < samplesOf (trackAsked s id) → sampleAnswer s id n ≡ Found (sampleOf (tables s id) i)
-  unfolding sampleAnswer sampleRefusal orElse
+  pub found-is : (n i : ℕ) → n ≡ suc i → i < samplesOf (trackAsked s id) → sampleAnswer s source id n ≡ Found (sampleOf (tables s id) i)
+  unfolding sampleRefusal orElse
   found-is n i q h =
       let w : n - 1 ≡ i = omega arith in
       rw (e, lt-ltb 0 n (omega arith), le-leb n (samplesOf (trackAsked s id)) (omega arith), w)
 
-  pub none-is : sampleAnswer s id 0 ≡ Refused 15
-  unfolding sampleAnswer sampleRefusal orElse
+  pub none-is : sampleAnswer s source id 0 ≡ Refused 15
+  unfolding sampleRefusal orElse
   none-is = rw e
 
-  pub past-is : (n : ℕ) → samplesOf (trackAsked s id) < n → sampleAnswer s id n ≡ Refused 15
-  unfolding sampleAnswer sampleRefusal orElse
+  pub past-is : (n : ℕ) → samplesOf (trackAsked s id) < n → sampleAnswer s source id n ≡ Refused 15
+  unfolding sampleRefusal orElse
   past-is n h = rw (e, lt-ltb 0 n (omega arith), lt-leb n (samplesOf (trackAsked s id)) h)
 
-  pub found-known : (n : ℕ) (x : Sample) → sampleAnswer s id n ≡ Found x → Known s id n x
+  pub found-known : (n : ℕ) (x : Sample) → sampleAnswer s source id n ≡ Found x → Known s id n x
   found-known zero x q = let r = none-is in let z : _≡_ {A = ℕ} 0 1 = cc in absurd (omega arith)
   found-known (suc i) x q = elim (decLe (suc i) (samplesOf (trackAsked s id))) [
     | yes l ↦ let r = found-is (suc i) i refl l in record { index = i; number = refl; low = l; is = cc }
@@ -75,15 +76,15 @@ module _ (s : List ℕ) (id : ℕ) (e : askRefusal s id ≡ 0) where
 
   -- ---- times
 
-  pub at-is : (t : MediaTime) → t .0 < sum (tables s id .durations) → atAnswer s id t ≡ number.Number (suc (holder (tables s id .durations) (t .0)))
-  unfolding atAnswer atRefusal atNumber orElse totalIn trackOf
+  pub at-is : (t : MediaTime) → t .0 < sum (tables s id .durations) → atAnswer s source id t ≡ number.Number (suc (holder (tables s id .durations) (t .0)))
+  unfolding atRefusal atNumber orElse totalIn trackOf
   at-is t h = rw (e, lt-ltb (t .0) (sum (tables s id .durations)) h)
 
-  pub at-outside : (t : MediaTime) → sum (tables s id .durations) ≤ t .0 → atAnswer s id t ≡ number.Refused 15
-  unfolding atAnswer atRefusal orElse totalIn trackOf
+  pub at-outside : (t : MediaTime) → sum (tables s id .durations) ≤ t .0 → atAnswer s source id t ≡ number.Refused 15
+  unfolding atRefusal orElse totalIn trackOf
   at-outside t h = rw (e, le-ltb (t .0) (sum (tables s id .durations)) h)
 
-  pub at-known : (t : MediaTime) (n : ℕ) → atAnswer s id t ≡ number.Number n → (t .0 < sum (tables s id .durations)) × (n ≡ suc (holder (tables s id .durations) (t .0)))
+  pub at-known : (t : MediaTime) (n : ℕ) → atAnswer s source id t ≡ number.Number n → (t .0 < sum (tables s id .durations)) × (n ≡ suc (holder (tables s id .durations) (t .0)))
   at-known t n q = elim (decLt (t .0) (sum (tables s id .durations))) [
     | yes l ↦ let r = at-is t l in (l, cc)
     | no l ↦ let r = at-outside t (omega arith) in let z : _≡_ {A = ℕ} 0 1 = cc in absurd (omega arith)
@@ -92,14 +93,14 @@ module _ (s : List ℕ) (id : ℕ) (e : askRefusal s id ≡ 0) where
   -- ---- stretches
 
   pub pairs-is : (a b : MediaTime) (room : List ℕ) → a .0 < b .0 → b .0 ≤ sum (tables s id .durations) → length (flat (stretchPairs s id a b)) ≤ length room
-      → stretchAnswer s id a b room ≡ stretch.Pairs (length (stretchPairs s id a b)) (bytesIn (tables s id) a b)
-  unfolding stretchAnswer stretchRefusal spanRefusal noRoom orElse totalIn trackOf
+      → stretchAnswer s source id a b room ≡ stretch.Pairs (length (stretchPairs s id a b)) (bytesIn (tables s id) a b)
+  unfolding stretchRefusal spanRefusal noRoom orElse totalIn trackOf
   pairs-is a b room o w r =
       rw (e, lt-ltb (a .0) (b .0) o, le-leb (b .0) (sum (tables s id .durations)) w, le-ltb (length room) (length (flat (stretchPairs s id a b))) r)
 
   pub short-is : (a b : MediaTime) (room : List ℕ) → a .0 < b .0 → b .0 ≤ sum (tables s id .durations) → length room < length (flat (stretchPairs s id a b))
-      → stretchAnswer s id a b room ≡ stretch.Refused 16
-  unfolding stretchAnswer stretchRefusal spanRefusal noRoom orElse totalIn trackOf
+      → stretchAnswer s source id a b room ≡ stretch.Refused 16
+  unfolding stretchRefusal spanRefusal noRoom orElse totalIn trackOf
   short-is a b room o w r =
       rw (e, lt-ltb (a .0) (b .0) o, le-leb (b .0) (sum (tables s id .durations)) w, lt-ltb (length room) (length (flat (stretchPairs s id a b))) r)
 
@@ -112,27 +113,27 @@ module _ (s : List ℕ) (id : ℕ) (e : askRefusal s id ≡ 0) where
     | no o ↦ rw (le-ltb (a .0) (b .0) (omega arith))
   ]
 
-  pub no-stretch : (a b : MediaTime) → ((a .0 < b .0) × (b .0 ≤ sum (tables s id .durations)) → ⊥) → (room : List ℕ) → stretchAnswer s id a b room ≡ stretch.Refused 15
-  unfolding stretchAnswer stretchRefusal spanRefusal orElse totalIn trackOf
+  pub no-stretch : (a b : MediaTime) → ((a .0 < b .0) × (b .0 ≤ sum (tables s id .durations)) → ⊥) → (room : List ℕ) → stretchAnswer s source id a b room ≡ stretch.Refused 15
+  unfolding stretchRefusal spanRefusal orElse totalIn trackOf
   no-stretch a b n room = rw (e, outside a b n)
 
 -- ---- what the answer of a stretch tells
 
-pub span-known : (s : List ℕ) (id : ℕ) (a b : MediaTime) → spanRefusal s id a b ≡ 0 → Span s id a b
+pub span-known : (s : List ℕ) (source : Source) (id : ℕ) (a b : MediaTime) → spanRefusal s source id a b ≡ 0 → Span s source id a b
 unfolding spanRefusal totalIn trackOf
-span-known s id a b e =
+span-known s source id a b e =
     let n = none-else _ _ e in
     let r = cond-zero _ 15 (lit< tt) (n .1) in
     record { ask = n .0; order = ltb-true (a .0) (b .0) (and-left _ _ r); within = leb-true _ _ (and-right (ltb (a .0) (b .0)) _ r) }
 
-pub pairs-known : (s : List ℕ) (id : ℕ) (a b : MediaTime) (room : List ℕ) (k bytes : ℕ) → stretchAnswer s id a b room ≡ stretch.Pairs k bytes → Answered s id a b room k bytes
-unfolding stretchAnswer stretchRefusal
-pairs-known s id a b room k bytes e = go (eqb (stretchRefusal s id a b room) 0) refl e
+pub pairs-known : (s : List ℕ) (source : Source) (id : ℕ) (a b : MediaTime) (room : List ℕ) (k bytes : ℕ) → stretchAnswer s source id a b room ≡ stretch.Pairs k bytes → Answered s source id a b room k bytes
+unfolding stretchRefusal
+pairs-known s source id a b room k bytes e = go (eqb (stretchRefusal s source id a b room) 0) refl e
   where
-    go : (t : Bool) → eqb (stretchRefusal s id a b room) 0 ≡ t
-        → cond t (stretch.Pairs (length (stretchPairs s id a b)) (bytesIn (tables s id) a b)) (stretch.Refused (stretchRefusal s id a b room)) ≡ stretch.Pairs k bytes
-        → Answered s id a b room k bytes
+    go : (t : Bool) → eqb (stretchRefusal s source id a b room) 0 ≡ t
+        → cond t (stretch.Pairs (length (stretchPairs s id a b)) (bytesIn (tables s id) a b)) (stretch.Refused (stretchRefusal s source id a b room)) ≡ stretch.Pairs k bytes
+        → Answered s source id a b room k bytes
     go true q w =
         let r = eqb-true _ _ q in
-        record { span = span-known s id a b (none-else _ _ r .0); refusal = r; count = cc; total = cc }
+        record { span = span-known s source id a b (none-else _ _ r .0); refusal = r; count = cc; total = cc }
     go false q w = let z : _≡_ {A = ℕ} 0 1 = cc in absurd (omega arith)

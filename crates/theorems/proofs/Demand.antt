@@ -14,6 +14,7 @@ use Rattle.chunks.specs.Chunks.{perChunk, offsetOf}
 use Rattle.chunks.specs.Computed.{dealsAgree}
 use Rattle.edits.specs.declared.MediaTime.{MediaTime}
 use Rattle.atoms.specs.Kinds.{stts, stsc, stsz, stco}
+use Rattle.structure.specs.declared.source.Source.{Source}
 use Rattle.structure.specs.Track.{idOf, tableOf, samplesOf, chunksOf, descriptionsOf}
 use Rattle.structure.specs.Movie.{moovOf, tracksOf}
 use Rattle.structure.proofs.Shaped.{Shaped}
@@ -71,10 +72,10 @@ unfolding sampleOf
 has-of s id i t h = record { from = h .from; to = h .to }
 
 -- the duration of an index is not zero where it stands at m and no answer there is of zero duration
-lasting : (s : List ℕ) (id m : ℕ) (e : askRefusal s id ≡ 0) (i : ℕ) → i < samplesOf (trackAsked s id) → NoZeroDuration s id m → before (tables s id .durations) i ≡ m
+lasting : (s : List ℕ) (source : Source) (id m : ℕ) (e : askRefusal s source id ≡ 0) (i : ℕ) → i < samplesOf (trackAsked s id) → NoZeroDuration s source id m → before (tables s id .durations) i ≡ m
     → 0 < getD (tables s id .durations) i 0
 unfolding sampleOf
-lasting s id m e i h all w = omega (arith, all (suc i) (sampleOf (tables s id) i) (found-is s id e (suc i) i refl h) w)
+lasting s source id m e i h all w = omega (arith, all (suc i) (sampleOf (tables s id) i) (found-is s source id e (suc i) i refl h) w)
 
 -- ---- stretches
 
@@ -90,15 +91,15 @@ record Run (s : List ℕ) (id : ℕ) (a b : MediaTime) (first last : ℕ) : Type
   high : b .0 ≤ before (tables s id .durations) (i + n)
   few : i + n ≤ samplesOf (trackAsked s id)
 
-module _ (s : List ℕ) (id : ℕ) (e : askRefusal s id ≡ 0) (l : Listed s id) where
+module _ (s : List ℕ) (source : Source) (id : ℕ) (e : askRefusal s source id ≡ 0) (l : Listed s id) where
   run-of : (a b z : MediaTime) (first last : ℕ) → a .0 < b .0 → b .0 ≤ sum (tables s id .durations) → z .0 ≡ b .0 - 1
-      → atAnswer s id a ≡ number.Number first → atAnswer s id z ≡ number.Number last → Run s id a b first last
+      → atAnswer s source id a ≡ number.Number first → atAnswer s source id z ≡ number.Number last → Run s id a b first last
   run-of a b z first last o w d p q =
       let ds = tables s id .durations in
       let i = holder ds (a .0) in
       let j = holder ds (b .0 - 1) in
-      let f = at-known s id e a first p in
-      let g = at-known s id e z last q in
+      let f = at-known s source id e a first p in
+      let g = at-known s source id e z last q in
       let k : last ≡ suc j = g .1 ∙ rw d in
       let m : i ≤ j = places.holder-mono ds (a .0) (b .0 - 1) (omega arith) in
       let t : i + (suc j - i) ≡ suc j = omega arith in
@@ -118,13 +119,13 @@ module _ (s : List ℕ) (id : ℕ) (e : askRefusal s id ≡ 0) (l : Listed s id)
 
   module _ (a b : MediaTime) (first last : ℕ) (r : Run s id a b first last) where
     -- the answer of each
-    each : (j : ℕ) → j < r .n → sampleAnswer s id (first + j) ≡ Found (sampleOf (tables s id) (r .i + j))
-    each j h = found-is s id e (first + j) (r .i + j) (omega (arith, r .begin)) (omega (arith, r .few))
+    each : (j : ℕ) → j < r .n → sampleAnswer s source id (first + j) ≡ Found (sampleOf (tables s id) (r .i + j))
+    each j h = found-is s source id e (first + j) (r .i + j) (omega (arith, r .begin)) (omega (arith, r .few))
 
-    sizes-fit : bytesIn (tables s id) a b ≡ added s id sizeIn first last
+    sizes-fit : bytesIn (tables s id) a b ≡ added s source id sizeIn first last
     unfolding sampleOf bytesIn firstIn pastIn
     sizes-fit = rw (r .count, ← r .here, ← r .there)
-        (sym (sizes-added (tables s id .sizes) (λ j. sizeIn (sampleAnswer s id (first + j))) (r .i) (r .n) (λ j h. ap sizeIn (each j h))))
+        (sym (sizes-added (tables s id .sizes) (λ j. sizeIn (sampleAnswer s source id (first + j))) (r .i) (r .n) (λ j h. ap sizeIn (each j h))))
 
 -- a stretch cut at the start of the sample with index i
 cut-fits : (s : List ℕ) (id : ℕ) (a m b : MediaTime) (i : ℕ)
@@ -151,22 +152,22 @@ pairs-fit s id l a b h =
     omega (arith, rw (z, y) at (touched-length i (suc j) 0 ps (tables s id .chunkOffsets) (tables s id .sizes) (omega arith) (omega arith)), k)
 
 -- the parts of all samples
-all-parts : (s : List ℕ) (id : ℕ) → askRefusal s id ≡ 0 → Listed s id → (a b : ℕ) → a < b → b ≤ sum (tables s id .durations)
-    → added s id (partIn a b) 1 (samplesOf (trackAsked s id)) ≡ b - a
+all-parts : (s : List ℕ) (source : Source) (id : ℕ) → askRefusal s source id ≡ 0 → Listed s id → (a b : ℕ) → a < b → b ≤ sum (tables s id .durations)
+    → added s source id (partIn a b) 1 (samplesOf (trackAsked s id)) ≡ b - a
 unfolding sampleOf
-all-parts s id e l a b o w =
+all-parts s source id e l a b o w =
     let n = samplesOf (trackAsked s id) in
     let c : suc n - 1 ≡ n = omega arith in
     rw c
-    (parts-added (tables s id .durations) (λ j. partIn a b (sampleAnswer s id (1 + j))) a b n (omega arith) w (l .timed)
-    (λ j h. ap (partIn a b) (found-is s id e (1 + j) j (omega arith) h)))
+    (parts-added (tables s id .durations) (λ j. partIn a b (sampleAnswer s source id (1 + j))) a b n (omega arith) w (l .timed)
+    (λ j h. ap (partIn a b) (found-is s source id e (1 + j) j (omega arith) h)))
 
 -- ---- the claim
 
 -- the track asked by the ID of t is t, so that its lists are what the entries of t say
-module _ (s t : List ℕ) (e : askRefusal s (idOf t) ≡ 0) (itself : trackAsked s (idOf t) ≡ t) where
+module _ (s t : List ℕ) (source : Source) (e : askRefusal s source (idOf t) ≡ 0) (itself : trackAsked s (idOf t) ≡ t) where
   shape : Shaped t
-  shape = rw itself at (asked s (idOf t) e .track .shape)
+  shape = rw itself at (asked s source (idOf t) e .track .shape)
 
   many : samplesOf (trackAsked s (idOf t)) ≡ samplesOf t
   many = ap samplesOf itself
@@ -191,15 +192,15 @@ module _ (s t : List ℕ) (e : askRefusal s (idOf t) ≡ 0) (itself : trackAsked
   dealt-are = ap (λ u. perChunk (tableOf stsc u) (chunksOf u)) itself
 
   agree : dealsAgree (tableOf stsc t) (chunksOf t) (descriptionsOf t) ≡ true
-  agree = agreed-tables t (rw itself at (asked s (idOf t) e .track .agree)) .deals
+  agree = agreed-tables t (rw itself at (asked s source (idOf t) e .track .agree)) .deals
 
   total : sum (tables s (idOf t) .durations) ≡ mediaTotal t
   total = ap sum durations-are ∙ total-is t shape
 
-  pub of-track : OfTrack s t
+  pub of-track : OfTrack s t source
   of-track =
       let id = idOf t in
-      let l = listed s id e in
+      let l = listed s source id e in
       let ds = tables s id .durations in
       let zs = tables s id .sizes in
       let ps = tables s id .perChunk in
@@ -207,44 +208,44 @@ module _ (s t : List ℕ) (e : askRefusal s (idOf t) ≡ 0) (itself : trackAsked
       record {
         asked = e;
         itself = itself;
-        found = λ n lo hi. (sampleOf (tables s id) (n - 1), found-is s id e n (n - 1) (omega arith) (omega (arith, many)));
-        none = none-is s id e;
-        past = λ n h. past-is s id e n (omega (arith, many));
+        found = λ n lo hi. (sampleOf (tables s id) (n - 1), found-is s source id e n (n - 1) (omega arith) (omega (arith, many)));
+        none = none-is s source id e;
+        past = λ n h. past-is s source id e n (omega (arith, many));
         counted = sym (count-is t shape) ∙ ap length (sym durations-are) ∙ l .timed ∙ many;
         starts = λ x q.
-            let u = found-known s id e 1 x q in
+            let u = found-known s source id e 1 x q in
             let v : u .index ≡ 0 = omega (arith, u .number) in
             omega (arith, decode-is s id 1 x u, ap (before ds) v);
         follows = λ n x y p q.
-            let u = found-known s id e n x p in
-            let v = found-known s id e (suc n) y q in
+            let u = found-known s source id e n x p in
+            let v = found-known s source id e (suc n) y q in
             let w : v .index ≡ suc (u .index) = omega (arith, u .number, v .number) in
             omega (arith, decode-is s id n x u, duration-is s id n x u, decode-is s id (suc n) y v, ap (before ds) w, places.before-suc ds (u .index));
         lasts = λ n x q.
-            let u = found-known s id e n x q in
+            let u = found-known s source id e n x q in
             let k = entry-counts t shape n (u .index) (u .number) (omega (arith, u .low, l .timed, ap length durations-are)) in
             (k .0, k .1, duration-is s id n x u ∙ ap (λ (y : List ℕ). getD y (u .index) 0) durations-are ∙ k .2);
         sized = λ n x q.
-            let u = found-known s id e n x q in
+            let u = found-known s source id e n x q in
             size-is s id n x u ∙ ap (λ (y : List ℕ). getD y (u .index) 0) sizes-are ∙ size-at t shape n (u .index) (u .number) (omega (arith, u .low, many));
         named = λ time h.
             let i = holder ds (time .0) in
             let k = places.holder-holds ds (time .0) (omega (arith, total)) in
             let low : i < samplesOf (trackAsked s id) = omega (arith, places.holds-below ds (time .0) i k .1, l .timed) in
-            let f = found-is s id e (suc i) i refl low in (
+            let f = found-is s source id e (suc i) i refl low in (
               suc i,
               sampleOf (tables s id) i,
-              at-is s id e time (omega (arith, total)),
+              at-is s source id e time (omega (arith, total)),
               f,
               has-of s id i (time .0) k,
               λ m y q w.
-                  let u = found-known s id e m y q in
+                  let u = found-known s source id e m y q in
                   u .number ∙ ap suc (places.holder-only ds (time .0) (u .index) (holds-known s id m y u (time .0) w)),
             );
         outside = λ time h. (
-          at-outside s id e time (omega (arith, total)),
+          at-outside s source id e time (omega (arith, total)),
           λ m y q w.
-              let u = found-known s id e m y q in
+              let u = found-known s source id e m y q in
               omega (arith, total, places.holds-below ds (time .0) (u .index) (holds-known s id m y u (time .0) w) .0),
         );
         perChunk = ps;
@@ -256,18 +257,18 @@ module _ (s t : List ℕ) (e : askRefusal s (idOf t) ≡ 0) (itself : trackAsked
           all = l .dealt ∙ many;
         };
         in-chunk = λ n x q.
-            let u = found-known s id e n x q in
+            let u = found-known s source id e n x q in
             gets-of ps (u .index) (holder ps (u .index)) (x .chunk) n (chunk-is s id n x u) (u .number) (places.holder-holds ps (u .index) (omega (arith, u .low, l .dealt)));
         gets = λ c n g.
             let o : n ≡ suc (n - 1) = omega (arith, g .after) in
-            let f = found-is s id e n (n - 1) o (omega (arith, g .after, g .upto, places.before-le ps c, l .dealt)) in
-            let u = found-known s id e n (sampleOf (tables s id) (n - 1)) f in
+            let f = found-is s source id e n (n - 1) o (omega (arith, g .after, g .upto, places.before-le ps c, l .dealt)) in
+            let u = found-known s source id e n (sampleOf (tables s id) (n - 1)) f in
             (sampleOf (tables s id) (n - 1), f, chunk-is s id n (sampleOf (tables s id) (n - 1)) u ∙ sym (gets-only ps (u .index) c n (u .number) g));
         first-in = λ c lo hi.
             let k = l .some (c - 1) (omega (arith, l .chunks, chunked)) in
             let i = before ps (c - 1) in
-            let f = found-is s id e (suc i) i refl (omega (arith, first-low ps (c - 1) k, l .dealt)) in
-            let u = found-known s id e (suc i) (sampleOf (tables s id) i) f in
+            let f = found-is s source id e (suc i) i refl (omega (arith, first-low ps (c - 1) k, l .dealt)) in
+            let u = found-known s source id e (suc i) (sampleOf (tables s id) i) f in
             let v : u .index ≡ i = omega (arith, u .number) in (
               sampleOf (tables s id) i,
               f,
@@ -275,8 +276,8 @@ module _ (s t : List ℕ) (e : askRefusal s (idOf t) ≡ 0) (itself : trackAsked
               offset-is s id (suc i) (sampleOf (tables s id) i) u ∙ rw v (first-offset ps (c - 1) k cs zs) ∙ ap (λ (y : List ℕ). getD y (c - 1) 0) offsets-are ∙ offset-at t shape c lo hi,
             );
         next-in = λ n x y p q same.
-            let u = found-known s id e n x p in
-            let v = found-known s id e (suc n) y q in
+            let u = found-known s source id e n x p in
+            let v = found-known s source id e (suc n) y q in
             let w : v .index ≡ suc (u .index) = omega (arith, u .number, v .number) in
             let g : holder ps (u .index) ≡ holder ps (suc (u .index)) = omega (arith, same, chunk-is s id n x u, chunk-is s id (suc n) y v, ap (holder ps) w) in
             omega (
@@ -287,21 +288,21 @@ module _ (s t : List ℕ) (e : askRefusal s (idOf t) ≡ 0) (itself : trackAsked
               ap (offsetOf ps cs zs) w,
               next-offset ps cs zs (u .index) (omega (arith, u .low, l .dealt)) g,
             );
-        parts = λ a b o w. ap (added s id (partIn a b) 1) (sym many) ∙ all-parts s id e l a b o (omega (arith, total));
+        parts = λ a b o w. ap (added s source id (partIn a b) 1) (sym many) ∙ all-parts s source id e l a b o (omega (arith, total));
         answered = λ a b o w. (
           length (stretchPairs s id a b),
           bytesIn (tables s id) a b,
-          λ room h. pairs-is s id e a b room o (omega (arith, total)) (omega (arith, flat-length (stretchPairs s id a b))),
-          λ room h. short-is s id e a b room o (omega (arith, total)) (omega (arith, flat-length (stretchPairs s id a b))),
+          λ room h. pairs-is s source id e a b room o (omega (arith, total)) (omega (arith, flat-length (stretchPairs s id a b))),
+          λ room h. short-is s source id e a b room o (omega (arith, total)) (omega (arith, flat-length (stretchPairs s id a b))),
         );
-        refused = λ a b n room. no-stretch s id e a b (λ w. n (w .0, omega (arith, w .1, total))) room;
+        refused = λ a b n room. no-stretch s source id e a b (λ w. n (w .0, omega (arith, w .1, total))) room;
         pairs = λ a b z room k total′ first last x y g d p q f h.
-            let r = pairs-known s id a b room k total′ g in
-            let v = at-known s id e a first p in
-            let w = at-known s id e z last q in
+            let r = pairs-known s source id a b room k total′ g in
+            let v = at-known s source id e a first p in
+            let w = at-known s source id e z last q in
             let t : holder ds (z .0) ≡ holder ds (b .0 - 1) = ap (holder ds) d in
-            let u₁ = found-known s id e first x f in
-            let u₂ = found-known s id e last y h in
+            let u₁ = found-known s source id e first x f in
+            let u₂ = found-known s source id e last y h in
             let i₁ : u₁ .index ≡ holder ds (a .0) = omega (arith, u₁ .number, v .1) in
             let i₂ : u₂ .index ≡ holder ds (b .0 - 1) = omega (arith, u₂ .number, w .1, t) in
             omega (
@@ -314,21 +315,21 @@ module _ (s t : List ℕ) (e : askRefusal s (idOf t) ≡ 0) (itself : trackAsked
               ap (holder ps) i₂,
             );
         bytes = λ a b z room k total first last g d p q.
-            let r = pairs-known s id a b room k total g in
-            r .total ∙ sizes-fit s id e l a b first last (run-of s id e l a b z first last (r .span .order) (r .span .within) d p q);
+            let r = pairs-known s source id a b room k total g in
+            r .total ∙ sizes-fit s source id e l a b first last (run-of s source id e l a b z first last (r .span .order) (r .span .within) d p q);
         cut = λ a m b pos n x f d o w room₁ room₂ room k₁ k₂ k bytes₁ bytes₂ bytes p q r.
-            let u = found-known s id e n x f in
+            let u = found-known s source id e n x f in
             let all : (i : ℕ) → i < length ds → before ds i ≡ before ds (u .index) → 0 < getD ds i 0 = λ i h q′.
-            lasting s id (m .0) e i (omega (arith, l .timed)) pos (q′ ∙ sym (d ∙ decode-is s id n x u)) in
+            lasting s source id (m .0) e i (omega (arith, l .timed)) pos (q′ ∙ sym (d ∙ decode-is s id n x u)) in
             let c = cut-fits s id a m b (u .index) all (omega (arith, u .low, l .timed)) (d ∙ decode-is s id n x u) o w in
             omega (
               arith,
               c,
-              pairs-known s id a m room₁ k₁ bytes₁ p .total,
-              pairs-known s id m b room₂ k₂ bytes₂ q .total,
-              pairs-known s id a b room k bytes r .total,
+              pairs-known s source id a m room₁ k₁ bytes₁ p .total,
+              pairs-known s source id m b room₂ k₂ bytes₂ q .total,
+              pairs-known s source id a b room k bytes r .total,
             );
       }
 
-pub demand3 : (s : List ℕ) → Demand3 s
-demand3 s e i h = of-track s (getD (tracksOf (moovOf s)) i []) (own-asked s e i h) (own-itself s e i h)
+pub demand3 : (s : List ℕ) (source : Source) → Demand3 s source
+demand3 s source e i h = of-track s (getD (tracksOf (moovOf s)) i []) source (own-asked s source e i h) (own-itself s source e i h)

@@ -10,6 +10,7 @@ use Rattle.lists.specs.Lists.{sum}
 use Rattle.words.specs.Words.{sizes, chunkOffsets}
 use Rattle.words.proofs.Turns.{offsets-in, length-words}
 use Rattle.chunks.proofs.Agreed.{samples-length, samples-some}
+use Rattle.structure.specs.declared.source.Source.{Source}
 use Rattle.structure.specs.Track.{tableOf, samplesOf, chunksOf, descriptionsOf}
 use Rattle.structure.proofs.Shaped.{Shaped}
 use Rattle.track.specs.Track.{Track, trackOf}
@@ -38,11 +39,11 @@ pub record Listed (s : List ℕ) (id : ℕ) : Type 0 where
   -- each with a sample
   pub some : (c : ℕ) → c < length (tables s id .perChunk) → 0 < getD (tables s id .perChunk) c 0
 
-pub listed : (s : List ℕ) (id : ℕ) → askRefusal s id ≡ 0 → Listed s id
+pub listed : (s : List ℕ) (source : Source) (id : ℕ) → askRefusal s source id ≡ 0 → Listed s id
 unfolding trackOf
-listed s id e =
+listed s source id e =
     let t = trackAsked s id in
-    let a = asked s id e .track in
+    let a = asked s source id e .track in
     let g = agreed-tables t (a .agree) in
     let n = samples-length (tableOf stsc t) (chunksOf t) (descriptionsOf t) (g .deals) in
     record {

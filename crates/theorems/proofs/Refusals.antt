@@ -1,4 +1,4 @@
--- The number that a file is refused with is the lowest that applies. The idea: the numbers of the rows rise, so that the first row that holds has the lowest.
+-- The number that a film is refused with is the lowest that applies. The idea: the numbers of the rows rise, so that the first row that holds has the lowest.
 -- Assumes nothing.
 use Prim.Native.Nat.{ℕ, zero, suc, _≤_, _<_}
 use mathlib.Core.Path.{_≡_, refl, sym, subst, _∙_}
@@ -10,12 +10,14 @@ use lib.ListN.{length}
 use lib.Dec.{ltb, eqb·suc-zero}
 use borrow.Author.Tests.{ltb-true}
 use Rattle.lists.proofs.Booleans.{and-left, and-right}
+use Rattle.structure.specs.declared.source.Source.{Source}
 use Rattle.structure.specs.Rows.{Row, some, first, lowest, orElse, numbersRise}
 use Rattle.structure.specs.Movie.{moovOf, movieScale, tracksOf}
 use Rattle.structure.specs.Refusals.{fileRows}
 use Rattle.structure.proofs.Tracks.{file-rows-rise}
-use Rattle.movie.specs.Refusals.{moovRows, moovRefusal, fileRefusal}
-use Rattle.theorems.specs.Refusals.{OneHolds, Applies, LowestApplies}
+use Rattle.movie.specs.Refusals.{moovRows, moovRefusal, filmRefusal}
+use Rattle.movie.proofs.Strict.{none-judged, strict-same}
+use Rattle.theorems.specs.Refusals.{OneHolds, Applies, LowestApplies, StrictReading}
 
 -- ---- some rows
 
@@ -55,41 +57,68 @@ three : (f : Row → Bool) (k : ℕ) → OneHolds f fileRows k → k ≤ 3
 unfolding fileRows
 three f k o = ⊎-elim (λ w. omega (arith, w .1)) (⊎-elim (λ w. omega (arith, w .1)) (⊎-elim (λ w. omega (arith, w .1)) (λ w. absurd w))) o
 
-moov-rows-rise : (scale len : ℕ) → numbersRise 3 (moovRows scale len) ≡ true
+moov-rows-rise : (w : Source) (scale len : ℕ) → numbersRise 3 (moovRows w scale len) ≡ true
 unfolding numbersRise moovRows
-moov-rows-rise scale len = refl
+moov-rows-rise w scale len = refl
 
 else-cases : (a b : ℕ) → ((a ≡ 0) × (orElse a b ≡ b)) ⊎ ((a ≡ 0 → ⊥) × (orElse a b ≡ a))
 unfolding orElse
 else-cases zero b = inl (refl, refl)
 else-cases (suc a) b = inr (λ e. omega arith, rw (eqb·suc-zero a))
 
-numbered : (scale len : ℕ) → map (λ r. r .number) (fileRows ++ moovRows scale len) ≡ 1 ∷ 2 ∷ 3 ∷ 4 ∷ 5 ∷ 6 ∷ 7 ∷ 8 ∷ 9 ∷ 10 ∷ 11 ∷ 12 ∷ 13 ∷ []
+numbered : (w : Source) (scale len : ℕ) → map (λ r. r .number) (fileRows ++ moovRows w scale len) ≡ 1 ∷ 2 ∷ 3 ∷ 4 ∷ 5 ∷ 6 ∷ 7 ∷ 8 ∷ 9 ∷ 10 ∷ 11 ∷ 12 ∷ 13 ∷ []
 unfolding fileRows moovRows
-numbered scale len = refl
+numbered w scale len = refl
 
-pub lowest-applies : (s : List ℕ) → LowestApplies s
-unfolding fileRefusal moovRefusal
-lowest-applies s =
+pub lowest-applies : (s : List ℕ) (w : Source) → LowestApplies s w
+unfolding filmRefusal moovRefusal
+lowest-applies s w =
     let m = moovOf s in
     let f : Row → Bool = λ r. r .whole s in
     let g : Row → Bool = λ r. r .whole m || some (r .track) (tracksOf m) in
-    let rows = moovRows (movieScale m) (length s) in
+    let rows = moovRows w (movieScale m) (length s) in
     let cases = else-cases (first f fileRows) (first g rows) in
     record {
-      numbers = numbered (movieScale m) (length s);
+      numbers = numbered w (movieScale m) (length s);
       applies = λ h.
-          ⊎-elim (λ c. subst (Applies s) (sym (c .1)) (inr (given g rows (λ z. h (c .1 ∙ z))))) (λ c. subst (Applies s) (sym (c .1)) (inl (given f fileRows (c .0)))) cases;
+          ⊎-elim (λ c. subst (Applies s w) (sym (c .1)) (inr (given g rows (λ z. h (c .1 ∙ z))))) (λ c. subst (Applies s w) (sym (c .1)) (inl (given f fileRows (c .0)))) cases;
       lowest = λ n o.
-          ⊎-elim (λ w.
-          let q = no-lower f 0 fileRows file-rows-rise n w in
+          ⊎-elim (λ y.
+          let q = no-lower f 0 fileRows file-rows-rise n y in
           ⊎-elim (λ c. absurd (omega (arith, c .0, q .0))) (λ c. (omega (arith, c .1, q .0), omega (arith, c .1, q .1))) cases)
-          (λ w.
-          let q = no-lower g 3 rows (moov-rows-rise (movieScale m) (length s)) n w in
-          let l = above g 3 rows (moov-rows-rise (movieScale m) (length s)) n w in
+          (λ y.
+          let q = no-lower g 3 rows (moov-rows-rise w (movieScale m) (length s)) n y in
+          let l = above g 3 rows (moov-rows-rise w (movieScale m) (length s)) n y in
           ⊎-elim (λ c. (omega (arith, c .1, q .0), omega (arith, c .1, q .1)))
           (λ c. let k = three f (first f fileRows) (given f fileRows (c .0)) in (pos (c .0) (c .1), omega (arith, c .1, k, l))) cases) o;
     }
   where
     pos : {a b : ℕ} → (a ≡ 0 → ⊥) → b ≡ a → 0 < b
     pos h e = omega arith
+
+-- ---- strict reading
+
+-- without it no row has the number 11 and holds
+none-eleven : (w : Source) (scale len : ℕ) (m : List ℕ) (ts : List (List ℕ)) → w .strict ≡ false
+    → OneHolds (λ r. r .whole m || some (r .track) ts) (moovRows w scale len) 11 → ⊥
+unfolding moovRows
+none-eleven w scale len m ts q o =
+    ⊎-elim (λ y. omega (arith, y .1))
+    (⊎-elim (λ y. omega (arith, y .1))
+    (⊎-elim (λ y. omega (arith, y .1))
+    (⊎-elim (λ y. omega (arith, y .1))
+    (⊎-elim (λ y. omega (arith, y .1))
+    (⊎-elim (λ y. omega (arith, y .1))
+    (⊎-elim (λ y. omega (arith, y .1))
+    (⊎-elim (λ y. let e = y .0 in let d = none-judged w ts q in let z : _≡_ {A = ℕ} 0 1 = cc in omega arith)
+    (⊎-elim (λ y. omega (arith, y .1)) (⊎-elim (λ y. omega (arith, y .1)) (λ y. y))))))))))
+    o
+
+only-strict : (s : List ℕ) (w : Source) → w .strict ≡ false → filmRefusal s w ≡ 11 → ⊥
+only-strict s w q e =
+    let m = moovOf s in
+    ⊎-elim (λ y. omega (arith, three (λ r. r .whole s) 11 y)) (none-eleven w (movieScale m) (length s) m (tracksOf m) q)
+    (subst (Applies s w) e (lowest-applies s w .applies (λ z. omega (arith, e, z))))
+
+pub strict-reading : (s : List ℕ) (w : Source) → StrictReading s w
+strict-reading s w = record { only = only-strict s w; others = strict-same s w }

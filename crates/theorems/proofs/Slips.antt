@@ -4,9 +4,9 @@
 use Prim.Native.Nat.{ℕ, _+_, _-_, _*_, _^_, _≤_, _<_}
 use mathlib.Core.Path.{_≡_, refl, sym, ap, _∙_}
 use mathlib.Core.Bool.{Bool, true, false, cond}
-use mathlib.Core.List.{List, _++_}
+use mathlib.Core.List.{List, [], _++_}
 use native.Mathlib.Omega.{arith}
-use lib.ListN.{length, take, drop}
+use lib.ListN.{length, getD, take, drop}
 use lib.Seq.{take-at, drop-at}
 use lib.Dec.{eqb}
 use borrow.Author.Tests.{eq-eqb, eqb-true, not-false}
@@ -20,14 +20,19 @@ use Rattle.slip.specs.Slip.{slipBytes, Rules, Reads}
 use Rattle.slip.specs.declared.Head.{Head}
 use Rattle.slip.specs.declared.read.SlipRead.the-variants.{Accepted}
 use Rattle.slip.proofs.Promises.{reads-back, accepted-only}
+use Rattle.structure.specs.declared.source.Source.{Source}
+use Rattle.structure.specs.Source.{strictly}
 use Rattle.structure.specs.Track.{scaleOf, samplesOf}
+use Rattle.structure.specs.Movie.{moovOf, tracksOf}
+use Rattle.structure.specs.Rows.{orElse}
 use Rattle.structure.proofs.Callers.{none-else}
 use Rattle.track.specs.Track.{trackOf}
 use Rattle.track.specs.Refusals.{totalIn, chunkPastEnd}
 use Rattle.movie.specs.Rooms.{filledRoom, roomAfter}
+use Rattle.movie.proofs.Strict.{strict-less}
 use Rattle.questions.specs.Asked.{askRefusal, trackAsked}
-use Rattle.stretch.specs.Stretches.{firstIn, pastIn, pairsIn, stretchPairs}
-use Rattle.stretch.specs.Slips.{slipHead, slipOfStretch, slipRefusal, slipAnswer}
+use Rattle.stretch.specs.Stretches.{firstIn, pastIn, pairsIn, bytesIn, stretchPairs}
+use Rattle.stretch.specs.Slips.{slipHead, slipOfStretch, slipRefusal, slipAnswer, Slips}
 use Rattle.stretch.specs.declared.StretchAnswer.the-variants as stretch
 use Rattle.stretch.specs.declared.slips.SlipAnswer.the-variants as slip
 use Rattle.questions.proofs.Asking.{asked}
@@ -36,18 +41,18 @@ use Rattle.theorems.proofs.Bytes.{scale-small, asked-id, id-small}
 use Rattle.pairs.proofs.Touched.{touched-few, some-touched, touched-fits, fits-below}
 use Rattle.theorems.proofs.Lists.{tables, listed}
 use Rattle.stretch.proofs.Spanning.{flat-length}
-use Rattle.theorems.proofs.Answers.{Span, span-known, pairs-known}
+use Rattle.theorems.proofs.Answers.{Span, pairs-is, span-known, pairs-known}
+use Rattle.theorems.proofs.Entries.{total-is}
 
 -- ---- what an answer that is not refused tells
 
 -- the slip was written: nothing was refused, and n is its length
-slip-known : (s : List ℕ) (id : ℕ) (a b : MediaTime) (out : List ℕ) (n : ℕ) → slipAnswer s id a b out ≡ slip.Written n
-    → (slipRefusal s id a b out ≡ 0) × (n ≡ length (slipOfStretch s id a b))
-unfolding slipAnswer
-slip-known s id a b out n e = go (eqb (slipRefusal s id a b out) 0) refl e
+slip-known : (s : List ℕ) (source : Source) (id : ℕ) (a b : MediaTime) (out : List ℕ) (n : ℕ) → slipAnswer s source id a b out ≡ slip.Written n
+    → (slipRefusal s source id a b out ≡ 0) × (n ≡ length (slipOfStretch s id a b))
+slip-known s source id a b out n e = go (eqb (slipRefusal s source id a b out) 0) refl e
   where
-    go : (t : Bool) → eqb (slipRefusal s id a b out) 0 ≡ t → cond t (slip.Written (length (slipOfStretch s id a b))) (slip.Refused (slipRefusal s id a b out)) ≡ slip.Written n
-        → (slipRefusal s id a b out ≡ 0) × (n ≡ length (slipOfStretch s id a b))
+    go : (t : Bool) → eqb (slipRefusal s source id a b out) 0 ≡ t → cond t (slip.Written (length (slipOfStretch s id a b))) (slip.Refused (slipRefusal s source id a b out)) ≡ slip.Written n
+        → (slipRefusal s source id a b out ≡ 0) × (n ≡ length (slipOfStretch s id a b))
     go true q w = (eqb-true _ _ q, cc)
     go false q w = let z : _≡_ {A = ℕ} 0 1 = cc in absurd (omega arith)
 
@@ -62,39 +67,39 @@ not-zero n h = omega arith
 -- ---- the numbers of the slip keep its rules
 
 -- the samples of a stretch, by index
-span-samples : (s : List ℕ) (id : ℕ) (a b : MediaTime) → Span s id a b
+span-samples : (s : List ℕ) (source : Source) (id : ℕ) (a b : MediaTime) → Span s source id a b
     → (firstIn (tables s id) a < pastIn (tables s id) b) × (pastIn (tables s id) b ≤ samplesOf (trackAsked s id))
 unfolding firstIn pastIn
-span-samples s id a b p =
+span-samples s source id a b p =
     let ds = tables s id .durations in
     let h = holder-holds ds (b .0 - 1) (omega (arith, p .order, p .within)) in (
       omega (arith, holder-mono ds (a .0) (b .0 - 1) (omega (arith, p .order))),
-      omega (arith, holds-below ds (b .0 - 1) (holder ds (b .0 - 1)) h .1, listed s id (p .ask) .timed),
+      omega (arith, holds-below ds (b .0 - 1) (holder ds (b .0 - 1)) h .1, listed s source id (p .ask) .timed),
     )
 
 -- each chunk ends within the file
-chunks-end : (s : List ℕ) (id : ℕ) → askRefusal s id ≡ 0 → endWithin (length s) (tables s id .perChunk) (tables s id .chunkOffsets) (tables s id .sizes) ≡ true
+chunks-end : (s : List ℕ) (source : Source) (id : ℕ) → askRefusal s source id ≡ 0 → endWithin (length s) (tables s id .perChunk) (tables s id .chunkOffsets) (tables s id .sizes) ≡ true
 unfolding trackOf chunkPastEnd
-chunks-end s id e = not-false _ (asked s id e .track .within)
+chunks-end s source id e = not-false _ (asked s source id e .track .within)
 
 -- and each time of the stretch is a number of 32 bits
-total-small : (s : List ℕ) (id : ℕ) → askRefusal s id ≡ 0 → sum (tables s id .durations) < 2 ^ 32
+total-small : (s : List ℕ) (source : Source) (id : ℕ) → askRefusal s source id ≡ 0 → sum (tables s id .durations) < 2 ^ 32
 unfolding trackOf totalIn
-total-small s id e = omega (arith, asked s id e .track .total-fits)
+total-small s source id e = omega (arith, asked s source id e .track .total-fits)
 
-slip-rules : (s : List ℕ) (id : ℕ) (a b : MediaTime) → Bytes s → Span s id a b → Rules (2 ^ 32) (slipHead s id a b) (flat (stretchPairs s id a b))
+slip-rules : (s : List ℕ) (source : Source) (id : ℕ) (a b : MediaTime) → Bytes s → Span s source id a b → Rules (2 ^ 32) (slipHead s id a b) (flat (stretchPairs s id a b))
 unfolding slipHead stretchPairs pairsIn trackOf
-slip-rules s id a b bytes p =
-    let k = asked s id (p .ask) in
-    let l = listed s id (p .ask) in
+slip-rules s source id a b bytes p =
+    let k = asked s source id (p .ask) in
+    let l = listed s source id (p .ask) in
     let ps = tables s id .perChunk in
     let cs = tables s id .chunkOffsets in
     let zs = tables s id .sizes in
     let i = firstIn (tables s id) a in
     let j = pastIn (tables s id) b in
-    let o = span-samples s id a b p in
+    let o = span-samples s source id a b p in
     let n = asked-id s id (k .has) in
-    let y = total-small s id (p .ask) in
+    let y = total-small s source id (p .ask) in
     record {
       some-id = not-zero id (λ z. k .track .some-id (n ∙ z));
       some-scale = not-zero (scaleOf (trackAsked s id)) (k .track .some-scale);
@@ -102,29 +107,56 @@ slip-rules s id a b bytes p =
       some-pairs = some-touched i j 0 ps cs zs (o .0) (omega arith) (omega (arith, o .0, o .1, l .dealt));
       few-pairs = omega (arith, touched-few i j 0 ps cs zs, l .chunks, k .track .shape .few-chunks);
       all-pairs = flat-length (touched i j 0 ps cs zs);
-      below = (id-small s id bytes (k .has), (scale-small s id bytes, (omega (arith, p .order, p .within), (omega (arith, p .within), fits-below (touched i j 0 ps cs zs) (touched-fits (length s) i j 0 ps cs zs (omega (arith, o .0)) (omega (arith, k .file .shape .short)) (chunks-end s id (p .ask)))))));
+      below = (id-small s id bytes (k .has), (scale-small s id bytes, (omega (arith, p .order, p .within), (omega (arith, p .within), fits-below (touched i j 0 ps cs zs) (touched-fits (length s) i j 0 ps cs zs (omega (arith, o .0)) (omega (arith, k .file .shape .short)) (chunks-end s source id (p .ask)))))));
     }
 
 -- ---- written, and read
 
-pub written-reads-back : (s : List ℕ) (id : ℕ) (a b : MediaTime) → ReadsBack s id a b
-unfolding slipOfStretch slipHead slipRefusal trackOf
-written-reads-back s id a b = record {
+-- the film is accepted as the slip writer reads it, and so by the source that is given
+asked-less : (s : List ℕ) (source : Source) (id : ℕ) → askRefusal s (strictly source) id ≡ 0 → askRefusal s source id ≡ 0
+unfolding askRefusal orElse
+asked-less s source id e =
+    let n = none-else _ _ e in
+    rw (strict-less s source (n .0)) (n .1)
+
+-- what a slip that was written tells: its length, and that its stretch was found where the film is read strictly
+record Wrote (s : List ℕ) (source : Source) (id : ℕ) (a b : MediaTime) (out : List ℕ) (n : ℕ) : Type 0 where
+  refusal : slipRefusal s source id a b out ≡ 0
+  count : n ≡ length (slipOfStretch s id a b)
+  span : Span s (strictly source) id a b
+
+wrote : (s : List ℕ) (source : Source) (id : ℕ) (a b : MediaTime) (out after : List ℕ) (n : ℕ) → Slips s source id a b out (slip.Written n) after → Wrote s source id a b out n
+unfolding slipRefusal
+wrote s source id a b out after n slips =
+    let u = slip-known s source id a b out n (sym (slips .answer)) in
+    record { refusal = u .0; count = u .1; span = span-known s (strictly source) id a b (none-else _ _ (u .0) .0) }
+
+pub written-reads-back : (s : List ℕ) (source : Source) (id : ℕ) (a b : MediaTime) → ReadsBack s source id a b
+unfolding slipOfStretch slipHead trackOf totalIn
+written-reads-back s source id a b = record {
+  answered = λ out after n slips.
+      let p = wrote s source id a b out after n slips .span in (
+        length (stretchPairs s id a b),
+        bytesIn (tables s id) a b,
+        λ room h. pairs-is s source id (asked-less s source id (p .ask)) a b room (p .order) (p .within) (omega (arith, flat-length (stretchPairs s id a b))),
+      );
   same = λ bytes out after n slips room put k total stretches places enough r read reads.
       let ps = stretchPairs s id a b in
-      let u = slip-known s id a b out n (sym (slips .answer)) in
-      let v = pairs-known s id a b room k total (sym (stretches .answer)) in
-      let p = span-known s id a b (none-else _ _ (u .0) .0) in
+      let u = wrote s source id a b out after n slips in
+      let v = pairs-known s source id a b room k total (sym (stretches .answer)) in
       let e : length (flat ps) ≡ 2 * k = omega (arith, flat-length ps, v .count) in
       let f : take n after ≡ slipOfStretch s id a b =
-      ap (take n) (filled-known _ (slipOfStretch s id a b) out after (u .0) (slips .places)) ∙ take-at (slipOfStretch s id a b) (drop (length (slipOfStretch s id a b)) out) n (sym (u .1)) in
+      ap (take n) (filled-known _ (slipOfStretch s id a b) out after (u .refusal) (slips .places)) ∙ take-at (slipOfStretch s id a b) (drop (length (slipOfStretch s id a b)) out) n (sym (u .count)) in
       let g = filled-known _ (flat ps) room put (v .refusal) (stretches .places) in
-      let h = reads-back (take n after) places r read reads (slipHead s id a b) (flat ps) (record { bytes = f; rules = slip-rules s id a b bytes p }) (omega (arith, e)) in
+      let h = reads-back (take n after) places r read reads (slipHead s id a b) (flat ps) (record { bytes = f; rules = slip-rules s (strictly source) id a b bytes (u .span) }) (omega (arith, e)) in
       let m : length ps ≡ k = sym (v .count) in (
         h .0 ∙ ap (λ (x : ℕ). Accepted (headOf s id a b x)) m,
         ap (take (2 * k)) (h .1) ∙ take-at (flat ps) (drop (length (flat ps)) places) (2 * k) e ∙ sym (ap (take (2 * k)) g ∙ take-at (flat ps) (drop (length (flat ps)) room) (2 * k) e),
         ap (drop (2 * k)) (h .1) ∙ drop-at (flat ps) (drop (length (flat ps)) places) (2 * k) e ∙ ap (λ (x : ℕ). drop x places) e,
       );
+  closed = λ out after n slips i h.
+      let t = asked s (strictly source) id (wrote s source id a b out after n slips .span .ask) .file .movie .tracks i h in
+      t .stored refl ∙ total-is (getD (tracksOf (moovOf s)) i []) (t .shape);
 }
 
 -- ---- read twice

@@ -1,4 +1,4 @@
--- Each track of a file that is not refused, asked by its own ID, is known and is that very track, since no ID occurs twice.
+-- Each track of a film that is not refused, asked by its own ID, is known and is that very track, since no ID occurs twice.
 -- Assumes nothing.
 use Prim.Native.Nat.{ℕ, zero, suc, _<_}
 use mathlib.Core.Path.{_≡_, refl, ap, _∙_}
@@ -10,10 +10,11 @@ use lib.Dec.{eqb}
 use borrow.Author.Tests.{eq-eqb, eqb-true}
 use Rattle.words.specs.Words.{listed}
 use Rattle.structure.specs.Rows.{orElse}
+use Rattle.structure.specs.declared.source.Source.{Source}
 use Rattle.structure.specs.Track.{idOf}
 use Rattle.structure.specs.Movie.{moovOf, tracksOf}
 use Rattle.lists.proofs.Booleans.{or-left, or-right}
-use Rattle.movie.specs.Refusals.{fileRefusal}
+use Rattle.movie.specs.Refusals.{filmRefusal}
 use Rattle.movie.specs.Tracks.{repeats, withId, hasTrack, trackWith}
 use Rattle.movie.proofs.Accepted.{accepted}
 use Rattle.questions.specs.Asked.{askRefusal, trackAsked}
@@ -44,11 +45,11 @@ own-track (t ∷ ts) (suc i) r h =
         let z : _≡_ {A = ℕ} 0 1 = cc in absurd (omega arith)
     go false q other w = w
 
-module _ (s : List ℕ) (e : fileRefusal s ≡ 0) (i : ℕ) (h : i < length (tracksOf (moovOf s))) where
-  pub own-asked : askRefusal s (idOf (getD (tracksOf (moovOf s)) i [])) ≡ 0
+module _ (s : List ℕ) (w : Source) (e : filmRefusal s w ≡ 0) (i : ℕ) (h : i < length (tracksOf (moovOf s))) where
+  pub own-asked : askRefusal s w (idOf (getD (tracksOf (moovOf s)) i [])) ≡ 0
   unfolding askRefusal hasTrack orElse
   own-asked = rw (e, listed-at (tracksOf (moovOf s)) i h)
 
   pub own-itself : trackAsked s (idOf (getD (tracksOf (moovOf s)) i [])) ≡ getD (tracksOf (moovOf s)) i []
   unfolding trackAsked trackWith
-  own-itself = own-track (tracksOf (moovOf s)) i (accepted s e .movie .other-ids) h
+  own-itself = own-track (tracksOf (moovOf s)) i (accepted s w e .movie .other-ids) h

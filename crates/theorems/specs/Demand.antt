@@ -1,13 +1,14 @@
--- Demand 3 as one claim, of the answers that the questions give of every track of a file that is not refused.
+-- Demand 3 as one claim, of the answers that the questions give of every track of a film that is not refused; w is the source of the film s.
 use Prim.Native.Nat.{ℕ, suc, _+_, _*_, _-_, _≤_, _<_}
 use mathlib.Core.Path.{_≡_}
 use mathlib.Core.List.{List, [], map}
 use lib.ListN.{length, getD}
 use Rattle.lists.specs.Lists.{sum, before, upTo, part}
 use Rattle.edits.specs.declared.MediaTime.{MediaTime}
+use Rattle.structure.specs.declared.source.Source.{Source}
 use Rattle.structure.specs.Track.{idOf, samplesOf, chunksOf}
 use Rattle.structure.specs.Movie.{moovOf, tracksOf}
-use Rattle.movie.specs.Refusals.{fileRefusal}
+use Rattle.movie.specs.Refusals.{filmRefusal}
 use Rattle.questions.specs.Asked.{askRefusal, trackAsked}
 use Rattle.questions.specs.Samples.{sampleAnswer}
 use Rattle.questions.specs.Times.{atAnswer}
@@ -68,75 +69,76 @@ abbrev pub howMany : ℕ → ℕ → ℕ
 howMany first last = suc last - first
 
 -- what f takes from the answers of the samples with these numbers, added
-abbrev pub added : List ℕ → ℕ → (SampleAnswer → ℕ) → ℕ → ℕ → ℕ
-added s id f first last = sum (map (λ i. f (sampleAnswer s id (first + i))) (upTo (howMany first last)))
+abbrev pub added : List ℕ → Source → ℕ → (SampleAnswer → ℕ) → ℕ → ℕ → ℕ
+added s w id f first last = sum (map (λ i. f (sampleAnswer s w id (first + i))) (upTo (howMany first last)))
 
 -- no sample of zero duration stands at the time m
-abbrev pub NoZeroDuration : List ℕ → ℕ → ℕ → Type 0
-NoZeroDuration s id m = (n : ℕ) (x : Sample) → sampleAnswer s id n ≡ Found x → x .decode ≡ m → 0 < x .duration
+abbrev pub NoZeroDuration : List ℕ → Source → ℕ → ℕ → Type 0
+NoZeroDuration s w id m = (n : ℕ) (x : Sample) → sampleAnswer s w id n ≡ Found x → x .decode ≡ m → 0 < x .duration
 
 -- ---- the claim, of the track whose trak has the body t
 
-pub record OfTrack (s t : List ℕ) : Type 0 where
+pub record OfTrack (s t : List ℕ) (w : Source) : Type 0 where
   -- asked by its own ID the track is not refused, and it is this very one
-  pub asked : askRefusal s (idOf t) ≡ 0
+  pub asked : askRefusal s w (idOf t) ≡ 0
   pub itself : trackAsked s (idOf t) ≡ t
   -- the samples are those numbered 1 to N, and stts counts as many
-  pub found : (n : ℕ) → 1 ≤ n → n ≤ samplesOf t → (x : Sample) × (sampleAnswer s (idOf t) n ≡ Found x)
-  pub none : sampleAnswer s (idOf t) 0 ≡ Refused 15
-  pub past : (n : ℕ) → samplesOf t < n → sampleAnswer s (idOf t) n ≡ Refused 15
+  pub found : (n : ℕ) → 1 ≤ n → n ≤ samplesOf t → (x : Sample) × (sampleAnswer s w (idOf t) n ≡ Found x)
+  pub none : sampleAnswer s w (idOf t) 0 ≡ Refused 15
+  pub past : (n : ℕ) → samplesOf t < n → sampleAnswer s w (idOf t) n ≡ Refused 15
   pub counted : countedBy t (sttsEntries t) ≡ samplesOf t
   -- "decode time (sum of durations before it)": the first starts at 0, and each other one where the one before it ends
-  pub starts : (x : Sample) → sampleAnswer s (idOf t) 1 ≡ Found x → x .decode ≡ 0
-  pub follows : (n : ℕ) (x y : Sample) → sampleAnswer s (idOf t) n ≡ Found x → sampleAnswer s (idOf t) (suc n) ≡ Found y
+  pub starts : (x : Sample) → sampleAnswer s w (idOf t) 1 ≡ Found x → x .decode ≡ 0
+  pub follows : (n : ℕ) (x y : Sample) → sampleAnswer s w (idOf t) n ≡ Found x → sampleAnswer s w (idOf t) (suc n) ≡ Found y
       → y .decode ≡ x .decode + x .duration
   -- each has the duration of the stts entry that counts it, and its size in stsz
-  pub lasts : (n : ℕ) (x : Sample) → sampleAnswer s (idOf t) n ≡ Found x → (k : ℕ) × Counts t k n × (x .duration ≡ sampleDuration t k)
-  pub sized : (n : ℕ) (x : Sample) → sampleAnswer s (idOf t) n ≡ Found x → x .size ≡ sampleSize t n
+  pub lasts : (n : ℕ) (x : Sample) → sampleAnswer s w (idOf t) n ≡ Found x → (k : ℕ) × Counts t k n × (x .duration ≡ sampleDuration t k)
+  pub sized : (n : ℕ) (x : Sample) → sampleAnswer s w (idOf t) n ≡ Found x → x .size ≡ sampleSize t n
   -- "each media time below the total belongs to exactly one sample, and asked for it the reader names it"
   pub named : (time : MediaTime) → time .0 < mediaTotal t
-      → (n : ℕ) × (x : Sample) × (atAnswer s (idOf t) time ≡ number.Number n) × (sampleAnswer s (idOf t) n ≡ Found x) × HasTime x (time .0)
-      × ((m : ℕ) (y : Sample) → sampleAnswer s (idOf t) m ≡ Found y → HasTime y (time .0) → m ≡ n)
+      → (n : ℕ) × (x : Sample) × (atAnswer s w (idOf t) time ≡ number.Number n) × (sampleAnswer s w (idOf t) n ≡ Found x) × HasTime x (time .0)
+      × ((m : ℕ) (y : Sample) → sampleAnswer s w (idOf t) m ≡ Found y → HasTime y (time .0) → m ≡ n)
   -- any other belongs to none, and is refused
   pub outside : (time : MediaTime) → mediaTotal t ≤ time .0
-      → (atAnswer s (idOf t) time ≡ number.Refused 15) × ((m : ℕ) (y : Sample) → sampleAnswer s (idOf t) m ≡ Found y → HasTime y (time .0) → ⊥)
+      → (atAnswer s w (idOf t) time ≡ number.Refused 15) × ((m : ℕ) (y : Sample) → sampleAnswer s w (idOf t) m ≡ Found y → HasTime y (time .0) → ⊥)
   -- "samples are dealt to chunks in order, none left over, none twice": each chunk gets as many as its stsc entry says, which fixes this list,
   pub perChunk : List ℕ
   pub deals : Deals t perChunk
   -- a sample is answered with the chunk that gets it,
-  pub in-chunk : (n : ℕ) (x : Sample) → sampleAnswer s (idOf t) n ≡ Found x → DealtTo perChunk (x .chunk) n
+  pub in-chunk : (n : ℕ) (x : Sample) → sampleAnswer s w (idOf t) n ≡ Found x → DealtTo perChunk (x .chunk) n
   -- and what a chunk gets are samples, answered with that chunk and so with no other
-  pub gets : (c n : ℕ) → DealtTo perChunk c n → (x : Sample) × (sampleAnswer s (idOf t) n ≡ Found x) × (x .chunk ≡ c)
+  pub gets : (c n : ℕ) → DealtTo perChunk c n → (x : Sample) × (sampleAnswer s w (idOf t) n ≡ Found x) × (x .chunk ≡ c)
   -- "byte ranges in a chunk are contiguous from the chunk's offset": the first sample of a chunk begins at stco's number,
   pub first-in : (c : ℕ) → 1 ≤ c → c ≤ chunksOf t
-      → (x : Sample) × (sampleAnswer s (idOf t) (suc (before perChunk (c - 1))) ≡ Found x) × (x .chunk ≡ c) × (x .offset ≡ chunkOffset t c)
+      → (x : Sample) × (sampleAnswer s w (idOf t) (suc (before perChunk (c - 1))) ≡ Found x) × (x .chunk ≡ c) × (x .offset ≡ chunkOffset t c)
   -- and each other one where the one before it ends. "Its byte range begins at its offset and is as long as its size"
-  pub next-in : (n : ℕ) (x y : Sample) → sampleAnswer s (idOf t) n ≡ Found x → sampleAnswer s (idOf t) (suc n) ≡ Found y → x .chunk ≡ y .chunk
+  pub next-in : (n : ℕ) (x y : Sample) → sampleAnswer s w (idOf t) n ≡ Found x → sampleAnswer s w (idOf t) (suc n) ≡ Found y → x .chunk ≡ y .chunk
       → y .offset ≡ x .offset + x .size
   -- "the parts of the track's samples inside a stretch add up to its length": of all of them, 1 to N
-  pub parts : (a b : ℕ) → a < b → b ≤ mediaTotal t → added s (idOf t) (partIn a b) 1 (samplesOf t) ≡ b - a
+  pub parts : (a b : ℕ) → a < b → b ≤ mediaTotal t → added s w (idOf t) (partIn a b) 1 (samplesOf t) ≡ b - a
   -- each stretch is answered in any room for its k pairs, and refused 16 in any less; what is none is refused 15
   pub answered : (a b : MediaTime) → a .0 < b .0 → b .0 ≤ mediaTotal t
-      → (k : ℕ) × (bytes : ℕ) × ((room : List ℕ) → 2 * k ≤ length room → stretchAnswer s (idOf t) a b room ≡ stretch.Pairs k bytes)
-      × ((room : List ℕ) → length room < 2 * k → stretchAnswer s (idOf t) a b room ≡ stretch.Refused 16)
+      → (k : ℕ) × (bytes : ℕ) × ((room : List ℕ) → 2 * k ≤ length room → stretchAnswer s w (idOf t) a b room ≡ stretch.Pairs k bytes)
+      × ((room : List ℕ) → length room < 2 * k → stretchAnswer s w (idOf t) a b room ≡ stretch.Refused 16)
   pub refused : (a b : MediaTime) → ((a .0 < b .0) × (b .0 ≤ mediaTotal t) → ⊥) → (room : List ℕ)
-      → stretchAnswer s (idOf t) a b room ≡ stretch.Refused 15
+      → stretchAnswer s w (idOf t) a b room ≡ stretch.Refused 15
   -- "One pair (offset, length) for each chunk touched": from the chunk of the sample at a to that of the sample at b - 1
-  pub pairs : (a b z : MediaTime) (room : List ℕ) (k total first last : ℕ) (x y : Sample) → stretchAnswer s (idOf t) a b room ≡ stretch.Pairs k total
-      → z .0 ≡ b .0 - 1 → atAnswer s (idOf t) a ≡ number.Number first → atAnswer s (idOf t) z ≡ number.Number last
-      → sampleAnswer s (idOf t) first ≡ Found x → sampleAnswer s (idOf t) last ≡ Found y → k ≡ suc (y .chunk) - x .chunk
+  pub pairs : (a b z : MediaTime) (room : List ℕ) (k total first last : ℕ) (x y : Sample) → stretchAnswer s w (idOf t) a b room ≡ stretch.Pairs k total
+      → z .0 ≡ b .0 - 1 → atAnswer s w (idOf t) a ≡ number.Number first → atAnswer s w (idOf t) z ≡ number.Number last
+      → sampleAnswer s w (idOf t) first ≡ Found x → sampleAnswer s w (idOf t) last ≡ Found y → k ≡ suc (y .chunk) - x .chunk
   -- "The bytes of a stretch are its answered total: the sizes of all samples included, added", those "from the one at a to the one at b-1"
-  pub bytes : (a b z : MediaTime) (room : List ℕ) (k total first last : ℕ) → stretchAnswer s (idOf t) a b room ≡ stretch.Pairs k total
-      → z .0 ≡ b .0 - 1 → atAnswer s (idOf t) a ≡ number.Number first → atAnswer s (idOf t) z ≡ number.Number last
-      → total ≡ added s (idOf t) sizeIn first last
+  pub bytes : (a b z : MediaTime) (room : List ℕ) (k total first last : ℕ) → stretchAnswer s w (idOf t) a b room ≡ stretch.Pairs k total
+      → z .0 ≡ b .0 - 1 → atAnswer s w (idOf t) a ≡ number.Number first → atAnswer s w (idOf t) z ≡ number.Number last
+      → total ≡ added s w (idOf t) sizeIn first last
   -- "a stretch cut at a sample's start gives bytes that add up": the cut m is the start of a sample, strictly inside, and each of the three has
   -- room. A sample of zero duration that stands at m would be in the whole and in neither part, so that there may be none there
-  pub cut : (a m b : MediaTime) → NoZeroDuration s (idOf t) (m .0) → (n : ℕ) (x : Sample) → sampleAnswer s (idOf t) n ≡ Found x → m .0 ≡ x .decode
+  pub cut : (a m b : MediaTime) → NoZeroDuration s w (idOf t) (m .0) → (n : ℕ) (x : Sample) → sampleAnswer s w (idOf t) n ≡ Found x → m .0 ≡ x .decode
       → a .0 < m .0 → m .0 < b .0 → (room₁ room₂ room : List ℕ) (k₁ k₂ k bytes₁ bytes₂ bytes : ℕ)
-      → stretchAnswer s (idOf t) a m room₁ ≡ stretch.Pairs k₁ bytes₁ → stretchAnswer s (idOf t) m b room₂ ≡ stretch.Pairs k₂ bytes₂
-      → stretchAnswer s (idOf t) a b room ≡ stretch.Pairs k bytes
+      → stretchAnswer s w (idOf t) a m room₁ ≡ stretch.Pairs k₁ bytes₁ → stretchAnswer s w (idOf t) m b room₂ ≡ stretch.Pairs k₂ bytes₂
+      → stretchAnswer s w (idOf t) a b room ≡ stretch.Pairs k bytes
       → bytes ≡ bytes₁ + bytes₂
 
--- "In every accepted track": "An accepted track is a track of a file not refused", the one at i of its traks, in file order from 0
-abbrev pub Demand3 : List ℕ → Type 0
-Demand3 s = fileRefusal s ≡ 0 → (i : ℕ) → i < length (tracksOf (moovOf s)) → OfTrack s (getD (tracksOf (moovOf s)) i [])
+-- "In every accepted track": "An accepted track is a track of a file not refused", the one at i of its traks, in file order from 0. "Demand 3
+-- keeps to the sample total": the stored duration plays no part
+abbrev pub Demand3 : List ℕ → Source → Type 0
+Demand3 s w = filmRefusal s w ≡ 0 → (i : ℕ) → i < length (tracksOf (moovOf s)) → OfTrack s (getD (tracksOf (moovOf s)) i []) w

@@ -2,19 +2,22 @@
 -- of its numbers."
 use Prim.Native.Nat.{ℕ, _*_, _≤_, _<_}
 use mathlib.Core.Path.{_≡_}
-use mathlib.Core.List.{List}
+use mathlib.Core.List.{List, []}
 use lib.ListN.{length, getD, take, drop}
 use Rattle.edits.specs.declared.MediaTime.{MediaTime}
 use Rattle.slip.specs.Slip.{slipBytes, Reads}
 use Rattle.slip.specs.declared.Head.{Head}
 use Rattle.slip.specs.declared.read.SlipRead.{SlipRead}
 use Rattle.slip.specs.declared.read.SlipRead.the-variants.{Accepted}
-use Rattle.structure.specs.Track.{scaleOf}
+use Rattle.structure.specs.declared.source.Source.{Source}
+use Rattle.structure.specs.Track.{scaleOf, durationOf}
+use Rattle.structure.specs.Movie.{moovOf, tracksOf}
 use Rattle.questions.specs.Asked.{trackAsked}
-use Rattle.stretch.specs.Stretches.{Stretches}
+use Rattle.stretch.specs.Stretches.{stretchAnswer, Stretches}
 use Rattle.stretch.specs.Slips.{Slips}
 use Rattle.stretch.specs.declared.StretchAnswer.the-variants as stretch
 use Rattle.stretch.specs.declared.slips.SlipAnswer.the-variants as slip
+use Rattle.theorems.specs.Entries.{mediaTotal}
 
 -- each number of a list is a byte, as the type of a file says
 abbrev pub Bytes : List ℕ → Type 0
@@ -24,14 +27,21 @@ Bytes s = (i : ℕ) → getD s i 0 < 256
 abbrev pub headOf : List ℕ → ℕ → MediaTime → MediaTime → ℕ → Head
 headOf s id a b k = record { id = id; scale = scaleOf (trackAsked s id); a = a .0; b = b .0; pairs = k }
 
--- The file s holds bytes. A slip question on it has written n bytes, and a stretch question of the same stretch, in a room of its own, has answered
--- k pairs. Then those n bytes, read into any room of 2 * k places or more, are accepted as the ID, the track's scale, a, b and k; the first 2 * k
--- places are what the stretch question put into its room, and the rest of the room is as it was
-pub record ReadsBack (s : List ℕ) (id : ℕ) (a b : MediaTime) : Type 0 where
-  pub same : Bytes s → (out after : List ℕ) (n : ℕ) → Slips s id a b out (slip.Written n) after
-      → (room put : List ℕ) (k total : ℕ) → Stretches s id a b room (stretch.Pairs k total) put
+-- A slip question on the film s, whose source is w, has written n bytes into `out`. It read the film strictly, whatever w says
+pub record ReadsBack (s : List ℕ) (w : Source) (id : ℕ) (a b : MediaTime) : Type 0 where
+  -- Then a stretch question of the same stretch, by w, is answered in any room for its k pairs
+  pub answered : (out after : List ℕ) (n : ℕ) → Slips s w id a b out (slip.Written n) after
+      → (k : ℕ) × (total : ℕ) × ((room : List ℕ) → 2 * k ≤ length room → stretchAnswer s w id a b room ≡ stretch.Pairs k total)
+  -- Where s holds bytes and such a stretch question, in a room of its own, has answered k pairs, those n bytes, read into any room of 2 * k
+  -- places or more, are accepted as the ID, the track's scale, a, b and k; the first 2 * k places are what the stretch question put into its
+  -- room, and the rest of the room is as it was
+  pub same : Bytes s → (out after : List ℕ) (n : ℕ) → Slips s w id a b out (slip.Written n) after
+      → (room put : List ℕ) (k total : ℕ) → Stretches s w id a b room (stretch.Pairs k total) put
       → (places : List ℕ) → 2 * k ≤ length places → (r : SlipRead) (read : List ℕ) → Reads (take n after) places r read
       → (r ≡ Accepted (headOf s id a b k)) × (take (2 * k) read ≡ take (2 * k) put) × (drop (2 * k) read ≡ drop (2 * k) places)
+  -- "as proof that a file was closed properly": each track states as its duration the total of its samples
+  pub closed : (out after : List ℕ) (n : ℕ) → Slips s w id a b out (slip.Written n) after
+      → (i : ℕ) → i < length (tracksOf (moovOf s)) → durationOf (getD (tracksOf (moovOf s)) i []) ≡ mediaTotal (getD (tracksOf (moovOf s)) i [])
 
 pub record OnlyWriting (h : Head) : Type 0 where
   -- bytes that are read and accepted are the writing of their numbers, which stand in the answer and in the room

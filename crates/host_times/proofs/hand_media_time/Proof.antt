@@ -12,8 +12,8 @@ media-time-of-requires c κs = search needs
 enum-known-m : tie.Need-enum-known-m
 enum-known-m c = search needs
 
-cast-t13 : tie.Need-cast-t13
-cast-t13 c = search needs
+cast-t14 : tie.Need-cast-t14
+cast-t14 c = search needs
 
 slice-aggregate-hand : tie.Need-slice-aggregate-hand
 slice-aggregate-hand c = search needs
@@ -75,7 +75,7 @@ hand-media-time-spec =
     (tie.spec
     media-time-of-requires
     enum-known-m
-    cast-t13
+    cast-t14
     slice-aggregate-hand
     hand-requires
     enum-told

@@ -12,8 +12,8 @@ sample-at-time-requires c κs = search needs
 enum-known-n : tie.Need-enum-known-n
 enum-known-n c = search needs
 
-cast-t12 : tie.Need-cast-t12
-cast-t12 c = search needs
+cast-t13 : tie.Need-cast-t13
+cast-t13 c = search needs
 
 slice-aggregate-hand : tie.Need-slice-aggregate-hand
 slice-aggregate-hand c = search needs
@@ -56,7 +56,7 @@ hand-sample-at-spec =
     (tie.spec
     sample-at-time-requires
     enum-known-n
-    cast-t12
+    cast-t13
     slice-aggregate-hand
     hand-requires
     enum-known-r

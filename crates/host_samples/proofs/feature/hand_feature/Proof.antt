@@ -12,8 +12,8 @@ feature-by-code-requires c κs = search needs
 enum-known-v : tie.Need-enum-known-v
 enum-known-v c = search needs
 
-cast-t11 : tie.Need-cast-t11
-cast-t11 c = search needs
+cast-t12 : tie.Need-cast-t12
+cast-t12 c = search needs
 
 slice-aggregate-hand : tie.Need-slice-aggregate-hand
 slice-aggregate-hand c = search needs
@@ -56,7 +56,7 @@ hand-feature-spec =
     (tie.spec
     feature-by-code-requires
     enum-known-v
-    cast-t11
+    cast-t12
     slice-aggregate-hand
     hand-requires
     enum-known-r

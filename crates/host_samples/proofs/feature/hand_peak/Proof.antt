@@ -12,11 +12,11 @@ peak-by-code-requires c κs = search needs
 enum-known-first : tie.Need-enum-known-first
 enum-known-first c = search needs
 
-cast-t12 : tie.Need-cast-t12
-cast-t12 c = search needs
-
 cast-t13 : tie.Need-cast-t13
 cast-t13 c = search needs
+
+cast-t14 : tie.Need-cast-t14
+cast-t14 c = search needs
 
 slice-aggregate-hand : tie.Need-slice-aggregate-hand
 slice-aggregate-hand c = search needs
@@ -59,8 +59,8 @@ hand-peak-spec =
     (tie.spec
     peak-by-code-requires
     enum-known-first
-    cast-t12
     cast-t13
+    cast-t14
     slice-aggregate-hand
     hand-requires
     enum-known-r

@@ -8,7 +8,7 @@ use lib.IntN.{pos}
 use mir.Syntax.{w64}
 use mir.Val.{boolByte, toZ}
 use mir.ValLaws.{toZ-ofZ}
-use Rattle.questions.specs.Samples.{sampleNumbers}
+use Rattle.questions.specs.Samples.{sampleZeros, sampleNumbers}
 use Rattle.questions.proofs.Found.{found-low}
 use Rattle.hand.proofs.Answered.{handed-signed, of-case}
 use Rattle.host_samples.proofs.samples.hand_sample.Statement.{statement}
@@ -27,29 +27,29 @@ enum-known-s c = search needs
 cast-sync : tie.Need-cast-sync
 cast-sync c = search needs
 
-cast-t12 : tie.Need-cast-t12
-cast-t12 c =
-    let l = found-low _ _ _ _ _ (c .before .before .before .before .before .sample-by-number .ensures) (c .before .before .before .s .given .1) in
-    record { sfits = omega (arith, l .decode) }
-
 cast-t13 : tie.Need-cast-t13
-cast-t13 c = search needs
+cast-t13 c =
+    let l = found-low _ _ _ _ _ _ (c .before .before .before .before .before .sample-by-number .ensures) (c .before .before .before .s .given .1) in
+    record { sfits = omega (arith, l .decode) }
 
 cast-t14 : tie.Need-cast-t14
 cast-t14 c = search needs
 
 cast-t15 : tie.Need-cast-t15
-cast-t15 c =
-    let l = found-low _ _ _ _ _ (c .before .before .before .before .before .before .before .before .sample-by-number .ensures) (c .before .before .before .before .before .before .s .given .1) in
-    record { sfits = omega (arith, l .chunk) }
+cast-t15 c = search needs
 
 cast-t16 : tie.Need-cast-t16
 cast-t16 c =
-    let l = found-low _ _ _ _ _ (c .before .before .before .before .before .before .before .before .before .sample-by-number .ensures) (c .before .before .before .before .before .before .before .s .given .1) in
-    record { sfits = omega (arith, l .offset) }
+    let l = found-low _ _ _ _ _ _ (c .before .before .before .before .before .before .before .before .sample-by-number .ensures) (c .before .before .before .before .before .before .s .given .1) in
+    record { sfits = omega (arith, l .chunk) }
 
 cast-t17 : tie.Need-cast-t17
-cast-t17 c = search needs
+cast-t17 c =
+    let l = found-low _ _ _ _ _ _ (c .before .before .before .before .before .before .before .before .before .sample-by-number .ensures) (c .before .before .before .before .before .before .before .s .given .1) in
+    record { sfits = omega (arith, l .offset) }
+
+cast-t18 : tie.Need-cast-t18
+cast-t18 c = search needs
 
 slice-aggregate-hand-signed : tie.Need-slice-aggregate-hand-signed
 slice-aggregate-hand-signed c = search needs
@@ -74,12 +74,12 @@ unfolding sampleNumbers
 returns c =
     let z =
     rw (
-      toZ-ofZ w64 _ (cast-t12 (c .before .before .before .before .before .before .before .before .before .before)),
-      toZ-ofZ w64 _ (cast-t13 (c .before .before .before .before .before .before .before .before .before)),
-      toZ-ofZ w64 _ (cast-t14 (c .before .before .before .before .before .before .before .before)),
-      toZ-ofZ w64 _ (cast-t15 (c .before .before .before .before .before .before .before)),
-      toZ-ofZ w64 _ (cast-t16 (c .before .before .before .before .before .before)),
-      toZ-ofZ w64 _ (cast-t17 (c .before .before .before .before .before)),
+      toZ-ofZ w64 _ (cast-t13 (c .before .before .before .before .before .before .before .before .before .before)),
+      toZ-ofZ w64 _ (cast-t14 (c .before .before .before .before .before .before .before .before .before)),
+      toZ-ofZ w64 _ (cast-t15 (c .before .before .before .before .before .before .before .before)),
+      toZ-ofZ w64 _ (cast-t16 (c .before .before .before .before .before .before .before)),
+      toZ-ofZ w64 _ (cast-t17 (c .before .before .before .before .before .before)),
+      toZ-ofZ w64 _ (cast-t18 (c .before .before .before .before .before)),
       toZ-ofZ w64 _ (record { sfits = c .before .before .before .before .struct-told .given .1 .1 .0 .1 }),
       as-number _,
     )
@@ -92,7 +92,7 @@ same-length-2 : tie.Need-same-length-2
 same-length-2 c = search needs
 
 returns-2 : tie.Need-returns-2
-unfolding sampleNumbers
+unfolding sampleNumbers sampleZeros
 returns-2 c =
     handed-signed _ _ _ _ _ _
     (of-case sampleNumbers (c .before .before .before .before .before .before .before .sample-by-number .ensures .answer) (c .before .before .before .before .before .r .given .1))
@@ -105,12 +105,12 @@ hand-sample-spec =
     sample-by-number-requires
     enum-known-s
     cast-sync
-    cast-t12
     cast-t13
     cast-t14
     cast-t15
     cast-t16
     cast-t17
+    cast-t18
     slice-aggregate-hand-signed
     hand-signed-requires
     enum-known-r

@@ -12,8 +12,8 @@ sample-by-number-requires c κs = search needs
 enum-known-s : tie.Need-enum-known-s
 enum-known-s c = search needs
 
-cast-t11 : tie.Need-cast-t11
-cast-t11 c = search needs
+cast-t12 : tie.Need-cast-t12
+cast-t12 c = search needs
 
 slice-aggregate-hand : tie.Need-slice-aggregate-hand
 slice-aggregate-hand c = search needs
@@ -56,7 +56,7 @@ hand-sample-bytes-spec =
     (tie.spec
     sample-by-number-requires
     enum-known-s
-    cast-t11
+    cast-t12
     slice-aggregate-hand
     hand-requires
     enum-known-r

@@ -8,6 +8,12 @@ use Rattle.host_slips.proofs.Judged.{slip-judged}
 use Rattle.host_slips.proofs.slips.hand_written_slip.Statement.{statement}
 use Rattle.host_slips.proofs.slips.hand_written_slip.Tie as tie
 
+whole-requires : tie.Need-whole-requires
+whole-requires c κs = search needs
+
+strictly-requires : tie.Need-strictly-requires
+strictly-requires c κs = search needs
+
 span-refusal-requires : tie.Need-span-refusal-requires
 span-refusal-requires c κs = search needs
 
@@ -16,7 +22,9 @@ or-short-requires c κs = search needs
 
 returns : tie.Need-returns
 unfolding slipRefusal
-returns c = too-few _ _ _ _ _ _ _ _ (slip-judged _ _ _ _ _) refl (c .before .before .if1 .taken) (rw (← c .before .span-refusal .ensures) (c .or-short .ensures))
+returns c =
+    too-few _ _ _ _ _ _ _ _ (slip-judged _ _ _ _ _) refl (c .before .before .before .before .if1 .taken)
+    (rw (← c .before .before .strictly .ensures, ← c .before .span-refusal .ensures) (c .or-short .ensures))
 
 write-slip-requires : tie.Need-write-slip-requires
 write-slip-requires c κs = search needs
@@ -71,6 +79,8 @@ pub hand-written-slip-spec : {M : Type 1} → statement M
 hand-written-slip-spec =
     tie.close
     (tie.spec
+    whole-requires
+    strictly-requires
     span-refusal-requires
     or-short-requires
     returns

@@ -8,6 +8,9 @@ use Rattle.host_slips.proofs.Judged.{stretch-judged}
 use Rattle.host_slips.proofs.stretches.hand_stretch.Statement.{statement}
 use Rattle.host_slips.proofs.stretches.hand_stretch.Tie as tie
 
+whole-requires : tie.Need-whole-requires
+whole-requires c κs = search needs
+
 span-refusal-requires : tie.Need-span-refusal-requires
 span-refusal-requires c κs = search needs
 
@@ -16,7 +19,9 @@ or-short-requires c κs = search needs
 
 returns : tie.Need-returns
 unfolding stretchRefusal
-returns c = too-few _ _ _ _ _ _ _ _ (stretch-judged _ _ _ _ _) refl (c .before .before .if1 .taken) (rw (← c .before .span-refusal .ensures) (c .or-short .ensures))
+returns c =
+    too-few _ _ _ _ _ _ _ _ (stretch-judged _ _ _ _ _) refl (c .before .before .before .if1 .taken)
+    (rw (← c .before .before .whole .ensures, ← c .before .span-refusal .ensures) (c .or-short .ensures))
 
 stretch-of-requires : tie.Need-stretch-of-requires
 stretch-of-requires c κs = search needs
@@ -71,6 +76,7 @@ pub hand-stretch-spec : {M : Type 1} → statement M
 hand-stretch-spec =
     tie.close
     (tie.spec
+    whole-requires
     span-refusal-requires
     or-short-requires
     returns

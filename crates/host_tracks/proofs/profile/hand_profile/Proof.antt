@@ -16,7 +16,7 @@ or-short-requires c κs = search needs
 
 returns : tie.Need-returns
 unfolding profileRefusal
-returns c = too-few _ _ _ _ _ _ _ _ (profile-judged _ _ _) refl (c .before .before .if1 .taken) (rw (← c .before .id-refusal .ensures) (c .or-short .ensures))
+returns c = too-few _ _ _ _ _ _ _ _ (profile-judged _ _ _ _) refl (c .before .before .if1 .taken) (rw (← c .before .id-refusal .ensures) (c .or-short .ensures))
 
 stored-profile-requires : tie.Need-stored-profile-requires
 stored-profile-requires c κs = search needs
@@ -48,7 +48,7 @@ same-length-2 c = search needs
 returns-2 : tie.Need-returns-2
 unfolding profileAnswerNumbers
 returns-2 c =
-    fills _ _ _ _ _ _ _ _ _ _ _ (profile-judged _ _ _) (of-case profileAnswerNumbers (c .before .before .before .before .before .before .before .before .before .before .stored-profile .ensures .answer) (c .before .before .before .before .before .before .n .given .1))
+    fills _ _ _ _ _ _ _ _ _ _ _ (profile-judged _ _ _ _) (of-case profileAnswerNumbers (c .before .before .before .before .before .before .before .before .before .before .stored-profile .ensures .answer) (c .before .before .before .before .before .before .n .given .1))
     (c .before .before .before .before .before .before .before .before .before .before .before .before .if1 .left)
     (c .before .before .hand .ensures)
     (c .before .before .before .before .before .before .before .before .before .before .stored-profile .ensures .places)
@@ -62,7 +62,7 @@ same-length-4 c = search needs
 returns-3 : tie.Need-returns-3
 unfolding profileAnswerNumbers
 returns-3 c =
-    fills _ _ _ _ _ _ _ _ _ _ _ (profile-judged _ _ _) (of-case profileAnswerNumbers (c .before .before .before .before .before .before .before .before .before .before .stored-profile .ensures .answer) (c .before .before .before .before .before .before .r .given .1))
+    fills _ _ _ _ _ _ _ _ _ _ _ (profile-judged _ _ _ _) (of-case profileAnswerNumbers (c .before .before .before .before .before .before .before .before .before .before .stored-profile .ensures .answer) (c .before .before .before .before .before .before .r .given .1))
     (c .before .before .before .before .before .before .before .before .before .before .before .before .if1 .left)
     (c .before .before .hand2 .ensures)
     (c .before .before .before .before .before .before .before .before .before .before .stored-profile .ensures .places)

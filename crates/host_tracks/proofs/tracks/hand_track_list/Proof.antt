@@ -3,7 +3,7 @@
 use borrow.Author.Needs.{needs}
 use mathlib.Core.Path.{refl}
 use Rattle.hand.proofs.Answered.{too-few, fills, of-case}
-use Rattle.movie.specs.TrackList.{listRefusal, trackListNumbers}
+use Rattle.track_list.specs.TrackList.{listRefusal, trackListNumbers}
 use Rattle.host_tracks.proofs.Judged.{list-judged}
 use Rattle.host_tracks.proofs.tracks.hand_track_list.Statement.{statement}
 use Rattle.host_tracks.proofs.tracks.hand_track_list.Tie as tie
@@ -16,7 +16,7 @@ or-short-requires c κs = search needs
 
 returns : tie.Need-returns
 unfolding listRefusal
-returns c = too-few _ _ _ _ _ _ _ _ (list-judged _ _) refl (c .before .before .if1 .taken) (rw (← c .before .refusal .ensures) (c .or-short .ensures))
+returns c = too-few _ _ _ _ _ _ _ _ (list-judged _ _ _) refl (c .before .before .if1 .taken) (rw (← c .before .refusal .ensures) (c .or-short .ensures))
 
 track-list-requires : tie.Need-track-list-requires
 track-list-requires c κs = search needs
@@ -48,7 +48,7 @@ same-length-2 c = search needs
 returns-2 : tie.Need-returns-2
 unfolding trackListNumbers
 returns-2 c =
-    fills _ _ _ _ _ _ _ _ _ _ _ (list-judged _ _) (of-case trackListNumbers (c .before .before .before .before .before .before .before .before .before .before .track-list .ensures .answer) (c .before .before .before .before .before .before .n .given .1))
+    fills _ _ _ _ _ _ _ _ _ _ _ (list-judged _ _ _) (of-case trackListNumbers (c .before .before .before .before .before .before .before .before .before .before .track-list .ensures .answer) (c .before .before .before .before .before .before .n .given .1))
     (c .before .before .before .before .before .before .before .before .before .before .before .before .if1 .left)
     (c .before .before .hand .ensures)
     (c .before .before .before .before .before .before .before .before .before .before .track-list .ensures .places)
@@ -62,7 +62,7 @@ same-length-4 c = search needs
 returns-3 : tie.Need-returns-3
 unfolding trackListNumbers
 returns-3 c =
-    fills _ _ _ _ _ _ _ _ _ _ _ (list-judged _ _) (of-case trackListNumbers (c .before .before .before .before .before .before .before .before .before .before .track-list .ensures .answer) (c .before .before .before .before .before .before .r .given .1))
+    fills _ _ _ _ _ _ _ _ _ _ _ (list-judged _ _ _) (of-case trackListNumbers (c .before .before .before .before .before .before .before .before .before .before .track-list .ensures .answer) (c .before .before .before .before .before .before .r .given .1))
     (c .before .before .before .before .before .before .before .before .before .before .before .before .if1 .left)
     (c .before .before .hand2 .ensures)
     (c .before .before .before .before .before .before .before .before .before .before .track-list .ensures .places)
