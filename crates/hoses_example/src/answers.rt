@@ -2,12 +2,13 @@
 use super::filing;
 use super::show;
 use edits::MediaTime;
-use movie::list::LINE;
-use movie::list::Line;
-use movie::list::TrackList;
-use movie::list::track_list;
 use stretch::StretchAnswer;
 use stretch::stretch_of;
+use structure::source::Source;
+use track_list::LINE;
+use track_list::Line;
+use track_list::TrackList;
+use track_list::track_list;
 ghost use Prim.Native.Nat.{_≤_};
 
 // The track that films the second hose.
@@ -27,6 +28,7 @@ fn print_tracks(list: &[u32]) {
             samples: t[4],
             chunks: t[5],
             edits: t[6],
+            stored: t[7],
         });
         t = &t[LINE..];
     }
@@ -46,10 +48,10 @@ fn total_of(list: &[u32], id: u32) -> u32 {
 
 // How many numbers so many tracks fill; the whole room where it has no place for them, which an accepted list never needs.
 fn of_tracks(count: usize) -> usize
-    ensures { λ r. ⌜ r ≤ 112 ⌝ }
+    ensures { λ r. ⌜ r ≤ 128 ⌝ }
 {
     if 16 < count {
-        return 112;
+        return 128;
     }
     LINE * count
 }
@@ -95,7 +97,7 @@ fn print_accounts(film: &[u8], list: &[u32]) {
 
 fn print_answers(film: &[u8], list: &[u32]) {
     show::text(b"Which tracks does the movie hold?\n");
-    show::text(b"id subtype scale total samples chunks edits\n");
+    show::text(b"id subtype scale total samples chunks edits stored\n");
     print_tracks(list);
     show::text(b"Which bytes show the second hose?\n");
     print_bytes(film, SECOND_HOSE, total_of(list, SECOND_HOSE));
@@ -104,9 +106,9 @@ fn print_answers(film: &[u8], list: &[u32]) {
 }
 
 pub fn answer(film: &[u8]) {
-    // Seven numbers for each of 16 tracks: more tracks are refused 6.
-    let mut room = [0u32; 112];
-    match track_list(film, &mut room) {
+    // Eight numbers for each of 16 tracks: more tracks are refused 6.
+    let mut room = [0u32; 128];
+    match track_list(film, Source::whole(), &mut room) {
         TrackList::Tracks(count) => {
             let n = of_tracks(count);
             print_answers(film, &room[..n]);

@@ -7,6 +7,7 @@ use slip::SlipRead;
 use slip::read_slip;
 use stretch::slips::SlipAnswer;
 use stretch::slips::write_slip;
+use structure::source::Source;
 ghost use Prim.Native.Nat.{_≤_};
 
 // More bytes than a slip of a film of 65,536 bytes can have: its chunks are fewer than 16,384, and a pair takes six bytes at most.
@@ -71,7 +72,7 @@ fn narrow(t: u64) -> u32 {
 
 // Where the second sample of a track starts; 0 where it has none.
 fn second_start(film: &[u8], id: u32) -> u32 {
-    match sample_by_number(film, id, 2) {
+    match sample_by_number(film, Source::whole(), id, 2) {
         SampleAnswer::Found(sample) => narrow(sample.decode),
         SampleAnswer::Refused(_) => 0,
     }

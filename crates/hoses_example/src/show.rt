@@ -1,5 +1,5 @@
 // What the program prints.
-use movie::list::Line;
+use track_list::Line;
 
 pub fn text(s: &[u8]) {
     io::write_all(libc::STDOUT_FILENO, s);
@@ -25,6 +25,7 @@ pub fn track(line: Line) {
     field(b" ", line.samples);
     field(b" ", line.chunks);
     field(b" ", line.edits);
+    field(b" ", line.stored);
     text(b"\n");
 }
 

@@ -2,10 +2,11 @@
 // or `too long`. With arguments it lists each file that they name, one after the other; `-` is standard input.
 mod show;
 
-use movie::list::LINE;
-use movie::list::Line;
-use movie::list::TrackList;
-use movie::list::track_list;
+use structure::source::Source;
+use track_list::LINE;
+use track_list::Line;
+use track_list::TrackList;
+use track_list::track_list;
 
 // The most bytes that a film may have.
 const MOST_BYTES: usize = 65536;
@@ -26,6 +27,7 @@ fn print_tracks(room: &[u32], count: usize) {
             samples: t[4],
             chunks: t[5],
             edits: t[6],
+            stored: t[7],
         });
         t = &t[LINE..];
         i += 1;
@@ -33,9 +35,9 @@ fn print_tracks(room: &[u32], count: usize) {
 }
 
 fn print_list(film: &[u8]) {
-    // Seven numbers for each of 16 tracks: more tracks are refused 6.
-    let mut room = [0u32; 112];
-    match track_list(film, &mut room) {
+    // Eight numbers for each of 16 tracks: more tracks are refused 6.
+    let mut room = [0u32; 128];
+    match track_list(film, Source::whole(), &mut room) {
         TrackList::Tracks(count) => {
             show::heading();
             print_tracks(&room, count);

@@ -1,5 +1,5 @@
 // What the program prints, line by line.
-use movie::list::Line;
+use track_list::Line;
 
 fn text(s: &[u8]) {
     io::write_all(libc::STDOUT_FILENO, s);
@@ -16,7 +16,7 @@ fn next(n: u32) {
 }
 
 pub fn heading() {
-    text(b"id subtype scale total samples chunks edits\n");
+    text(b"id subtype scale total samples chunks edits stored\n");
 }
 
 // A track: the subtype as eight hex digits, the rest decimal.
@@ -29,6 +29,7 @@ pub fn line(line: Line) {
     next(line.samples);
     next(line.chunks);
     next(line.edits);
+    next(line.stored);
     text(b"\n");
 }
 

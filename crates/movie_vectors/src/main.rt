@@ -1,12 +1,16 @@
-// Writes, for each film that its arguments name, the number from 1 to 13 with which the crate movie refuses it, 0 for none, and what the list of its
-// tracks answers and puts into rooms of several lengths. The films and the lines are those that the reference in host/reference writes.
+// Writes, for each film that its arguments name, the number from 1 to 13 with which the crate movie refuses it, 0 for none, by default and where strict
+// reading is asked for, and what the list of its tracks answers and puts into rooms of several lengths. The films and the lines are those that the reference in host/reference writes.
 mod rooms;
 mod show;
 
+use structure::source::Source;
+
 fn lines(name: &[u8], film: &[u8]) {
-    let number = movie::refusal(film);
+    let number = movie::refusal(film, Source::whole());
+    let strict = movie::refusal(film, Source::whole().strictly());
     show::text(name);
     show::field(b": ", number);
+    show::field(b", strictly ", strict);
     if number != 0 {
         rooms::of_refused(film);
         show::text(b"\n");

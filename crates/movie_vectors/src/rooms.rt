@@ -1,14 +1,15 @@
 // Track lists asked for with rooms of several lengths.
 use super::show;
-use movie::list::TrackList;
-use movie::list::track_list;
+use structure::source::Source;
+use track_list::TrackList;
+use track_list::track_list;
 ghost use Prim.Native.Nat.{_≤_};
 
 // What every place holds before a list is asked for. No film has this number in its list.
 const GUARD: u32 = 0xEEEEEEEE;
 
-// The places of the longest room. The list of 16 tracks takes 112, and a room of three more is asked with.
-const PLACES: usize = 128;
+// The places of the longest room. The list of 16 tracks takes 128, and a room of three more is asked with.
+const PLACES: usize = 136;
 
 // The most tracks of a film that is not refused.
 const MOST_TRACKS: usize = 16;
@@ -43,7 +44,7 @@ fn listed(count: usize, room: &[u32]) {
 fn ask(film: &[u8], room: &mut [u32]) {
     show::count(b"room ", room.len());
     show::text(b": ");
-    match track_list(film, room) {
+    match track_list(film, Source::whole(), room) {
         TrackList::Tracks(count) => listed(count, room),
         TrackList::Refused(number) => refused(number, room),
     }
@@ -59,10 +60,10 @@ pub fn ask_with(film: &[u8], length: usize) {
 
 // How many places a film's list takes; 0 where it is refused.
 fn places_of(film: &[u8]) -> usize
-    ensures { λ r. ⌜ r ≤ 112 ⌝ }
+    ensures { λ r. ⌜ r ≤ 128 ⌝ }
 {
     let mut room = [GUARD; PLACES];
-    match track_list(film, &mut room) {
+    match track_list(film, Source::whole(), &mut room) {
         TrackList::Tracks(count) => places(count),
         TrackList::Refused(_) => 0,
     }
@@ -70,12 +71,12 @@ fn places_of(film: &[u8]) -> usize
 
 // The bound keeps the product small, whatever the count.
 fn places(count: usize) -> usize
-    ensures { λ r. ⌜ r ≤ 112 ⌝ }
+    ensures { λ r. ⌜ r ≤ 128 ⌝ }
 {
     if count > MOST_TRACKS {
         return 0;
     }
-    movie::list::LINE * count
+    track_list::LINE * count
 }
 
 fn line(film: &[u8], length: usize) {

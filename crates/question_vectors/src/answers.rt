@@ -14,6 +14,7 @@ use questions::times::NumberAnswer;
 use questions::times::TimeAnswer;
 use questions::times::media_time_of;
 use questions::times::sample_at_time;
+use structure::source::Source;
 
 // The question, the track asked and the number asked.
 fn asked(words: &[u8], id: u32, n: u32) {
@@ -73,7 +74,7 @@ fn handed(bytes: &[u8]) {
 // Sample n, and its bytes.
 pub fn sample(film: &[u8], id: u32, n: u32) {
     asked(b"sample ", id, n);
-    match sample_by_number(film, id, n) {
+    match sample_by_number(film, Source::whole(), id, n) {
         SampleAnswer::Found(s) => found(s),
         SampleAnswer::Refused(number) => refused(number),
     }
@@ -83,7 +84,7 @@ pub fn sample(film: &[u8], id: u32, n: u32) {
 // The sample at a media time.
 pub fn at(film: &[u8], id: u32, t: u32) {
     asked(b"at ", id, t);
-    match sample_at_time(film, id, MediaTime(t)) {
+    match sample_at_time(film, Source::whole(), id, MediaTime(t)) {
         NumberAnswer::Number(n) => show::number(n as u64),
         NumberAnswer::Refused(number) => refused(number),
     }
@@ -92,7 +93,7 @@ pub fn at(film: &[u8], id: u32, t: u32) {
 // Movie time to media time.
 pub fn map(film: &[u8], id: u32, t: u32) {
     asked(b"map ", id, t);
-    match media_time_of(film, id, MovieTime(t)) {
+    match media_time_of(film, Source::whole(), id, MovieTime(t)) {
         TimeAnswer::Shown(time) => show::number(time.0 as u64),
         TimeAnswer::NothingShown => show::text(b"nothing"),
         TimeAnswer::NotMapped(number) => refused(number),
@@ -129,7 +130,7 @@ fn asked_by_code(words: &[u8], id: u32, code: u32) {
 
 pub fn feature(film: &[u8], id: u32, code: u32) {
     asked_by_code(b"feature ", id, code);
-    match feature_by_code(film, id, code) {
+    match feature_by_code(film, Source::whole(), id, code) {
         FeatureAnswer::Value(v) => value(v),
         FeatureAnswer::Refused(number) => refused(number),
     }
@@ -144,7 +145,7 @@ fn run(first: u32, count: u32) {
 // Where the highest rate over a second is.
 pub fn peak(film: &[u8], id: u32, code: u32) {
     asked_by_code(b"peak ", id, code);
-    match peak_by_code(film, id, code) {
+    match peak_by_code(film, Source::whole(), id, code) {
         PeakAnswer::Run(first, count) => run(first, count),
         PeakAnswer::Refused(number) => refused(number),
     }

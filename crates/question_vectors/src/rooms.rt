@@ -3,6 +3,7 @@ use super::show;
 use profiles::ProfileAnswer;
 use profiles::RECORD;
 use profiles::stored_profile;
+use structure::source::Source;
 ghost use Prim.Native.Nat.{_≤_};
 
 // What every place holds before a profile is asked for. No film has this number in a profile.
@@ -57,7 +58,7 @@ fn kept(count: usize, room: &[u32]) {
 }
 
 fn ask(film: &[u8], id: u32, room: &mut [u32]) {
-    match stored_profile(film, id, room) {
+    match stored_profile(film, Source::whole(), id, room) {
         ProfileAnswer::Records(count) => kept(count, room),
         ProfileAnswer::Refused(number) => refused(number, room),
     }

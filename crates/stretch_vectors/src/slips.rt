@@ -3,9 +3,6 @@ use super::Ask;
 use super::show;
 use super::stretches::GUARD;
 use edits::MediaTime;
-use movie::list::LINE;
-use movie::list::TrackList;
-use movie::list::track_list;
 use slip::Head;
 use slip::SlipRead;
 use slip::read_slip;
@@ -13,6 +10,10 @@ use stretch::StretchAnswer;
 use stretch::slips::SlipAnswer;
 use stretch::slips::write_slip;
 use stretch::stretch_of;
+use structure::source::Source;
+use track_list::LINE;
+use track_list::TrackList;
+use track_list::track_list;
 ghost use Prim.Native.Nat.{_≤_};
 
 // What every byte holds before a slip is asked for.
@@ -45,9 +46,9 @@ fn scale_beside(list: &[u32], id: u32) -> u32 {
 }
 
 fn scale_of(film: &[u8], id: u32) -> u32 {
-    // Seven numbers for each of 16 tracks. The places after the last track hold no ID that is asked for.
-    let mut room = [0u32; 112];
-    match track_list(film, &mut room) {
+    // Eight numbers for each of 16 tracks. The places after the last track hold no ID that is asked for.
+    let mut room = [0u32; 128];
+    match track_list(film, Source::whole(), &mut room) {
         TrackList::Tracks(_) => scale_beside(&room, id),
         TrackList::Refused(_) => 0,
     }

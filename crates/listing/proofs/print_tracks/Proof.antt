@@ -38,6 +38,9 @@ shared-slice-read-t19 c = search needs
 shared-slice-read-t21 : tie.Need-shared-slice-read-t21 Inv-loop μ-loop
 shared-slice-read-t21 c = search needs
 
+shared-slice-read-t23 : tie.Need-shared-slice-read-t23 Inv-loop μ-loop
+shared-slice-read-t23 c = search needs
+
 line-requires : tie.Need-line-requires Inv-loop μ-loop
 line-requires c κs = search needs
 
@@ -77,6 +80,7 @@ print-tracks-spec =
     shared-slice-read-t17
     shared-slice-read-t19
     shared-slice-read-t21
+    shared-slice-read-t23
     line-requires
     sub-t
     part-t-start

@@ -7,6 +7,9 @@ use borrow.Author.Needs.{needs}
 use Rattle.hoses_example.proofs.answers.answer.Statement.{statement}
 use Rattle.hoses_example.proofs.answers.answer.Tie as tie
 
+whole-requires : tie.Need-whole-requires
+whole-requires c κs = search needs
+
 slice-aggregate-track-list : tie.Need-slice-aggregate-track-list
 slice-aggregate-track-list c = search needs
 
@@ -44,6 +47,7 @@ pub answer-spec : {M : Type 1} → statement M
 answer-spec =
     tie.close
     (tie.spec
+    whole-requires
     slice-aggregate-track-list
     track-list-requires
     enum-known-count

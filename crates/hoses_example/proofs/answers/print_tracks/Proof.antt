@@ -35,6 +35,9 @@ shared-slice-read-t17 c = search needs
 shared-slice-read-t19 : tie.Need-shared-slice-read-t19 Inv-loop μ-loop
 shared-slice-read-t19 c = search needs
 
+shared-slice-read-t21 : tie.Need-shared-slice-read-t21 Inv-loop μ-loop
+shared-slice-read-t21 c = search needs
+
 track-requires : tie.Need-track-requires Inv-loop μ-loop
 track-requires c κs = search needs
 
@@ -70,6 +73,7 @@ print-tracks-spec =
     shared-slice-read-t15
     shared-slice-read-t17
     shared-slice-read-t19
+    shared-slice-read-t21
     track-requires
     sub-t
     part-t-start
