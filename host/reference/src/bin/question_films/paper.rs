@@ -50,7 +50,7 @@ pub fn films(films: &mut Films) {
     // "the W case with 121 .. is accepted elsewhere": the media ends where the samples do.
     films.node(0, "w-mdhd-121", w_film(|track| track.duration = 121)).each(1).ends().strangers().says(&[
         "sample 1 4: 72 48 72 sync 1 chunk 2 900 70, bytes 70 sum 12705",
-        "at 1 119: 4",
+        "at 1 119: 4 entry 2",
         "at 1 120: refused 15",
         "map 1 119: 119",
         "map 1 120: refused 15",
