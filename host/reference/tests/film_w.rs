@@ -93,6 +93,8 @@ fn edits() {
     assert_eq!(media_time(&film, 1, 60), MediaTime::At(24));
     assert_eq!(media_time(&film, 1, 119), MediaTime::At(83));
     assert_eq!(media_time(&film, 1, 120), MediaTime::Refused(15));
+    // Document 02: "W with the edits (60,-1),(60,24) covers samples 2 to 4: 120 bytes over 96 units, so avvb is 6000."
+    assert_eq!(feature(&film, 1, code(b"avvb")), (0, 6000));
     assert_eq!(refusal(&edited(61)), 13);
     assert_eq!(refusal(&edited(60)), 0);
 }

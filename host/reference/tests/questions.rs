@@ -176,6 +176,28 @@ fn the_first_profile_alone_counts() {
 }
 
 #[test]
+fn averages_with_edits() {
+    let avvb = |list: &[(u32, i32)]| {
+        let edits = list.iter().map(|(duration, media_time)| (*duration, *media_time, 65536)).collect();
+        feature(&with(|track| track.edits = Some(Vec::clone(&edits))), 1, code(b"avvb"))
+    };
+    assert_eq!(avvb(&[(120, 0)]), (0, 8800));
+    // A place is enough to cover its sample, and it is covered again by each entry: 100 bytes over 24 units, then 100, 100 and 70 over 24, 24 and 48.
+    assert_eq!(avvb(&[(1, 23)]), (0, 20_000));
+    assert_eq!(avvb(&[(1, 23), (5, -1), (1, 0), (1, 72)]), (0, 13_500));
+    // The sample of no bytes alone, and nothing at all.
+    assert_eq!(avvb(&[(24, 48)]), (0, 0));
+    assert_eq!(avvb(&[(60, -1), (1, -1)]), (18, 0));
+    // The last place is a unit before the next sample, and then in it.
+    assert_eq!(avvb(&[(24, 0)]), (0, 20_000));
+    assert_eq!(avvb(&[(25, 0)]), (0, 15_000));
+    // Movie time counts twice as fast as media time: its unit 48 is media time 24.
+    let film =
+        Movie { scale: 1200, tracks: vec![Track { edits: Some(vec![(49, 0, 65536)]), ..w_track() }], ..w_movie() };
+    assert_eq!(feature(&film.file_of(4096).bytes(), 1, code(b"avvb")), (0, 15_000));
+}
+
+#[test]
 fn features_are_refused_18() {
     let avvb = |change: fn(&mut Track)| feature(&with(change), 1, code(b"avvb"));
     let film = w().bytes();

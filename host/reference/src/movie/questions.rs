@@ -138,7 +138,7 @@ impl Movie {
 
     /// "the feature cannot be computed"
     pub fn feature(&self, id: u32, code: u32) -> Result<u32, u32> {
-        computed(self.track(id)?, code).ok_or(NOT_COMPUTED)
+        computed(self.track(id)?, self.scale, code).ok_or(NOT_COMPUTED)
     }
 
     /// Which samples give 'mvbr' or 'mabr' its value: the number of the first, and how many they are. Refused as the feature is, and for other codes.

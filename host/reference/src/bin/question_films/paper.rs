@@ -62,7 +62,15 @@ pub fn films(films: &mut Films) {
         let film = films.node(0, &format!("w-edits-60-empty-and-60-from-{media}"), film);
         film.map(1, &[0, 59, 60, 61, 119, 120, u32::MAX]).at(1, &[0, 59, 60, 119, 120]);
         film.says(&["map 1 59: nothing", "map 1 120: refused 15", "at 1 119: 4 entry 2"]);
+        film.features(1, &[b"avvb", b"avab", b"vfps", b"mvbr"]);
         film.says(if media == 24 { &["map 1 60: 24", "map 1 119: 83"] } else { &["map 1 60: 60", "map 1 119: 119"] });
+        // Samples 2 to 4, "120 bytes over 96 units", and samples 3 and 4, 70 bytes over 72. Peaks are taken over the whole media.
+        film.says(&[if media == 24 {
+            "feature 1 avvb: 6000 = 0x00001770"
+        } else {
+            "feature 1 avvb: 4667 = 0x0000123b"
+        }]);
+        film.says(&["feature 1 mvbr: 8800 = 0x00002260", "feature 1 avab: refused 18"]);
     }
     films.node(0, "w-second-chunk-at-4026", w_film(|track| track.stco[1] = 4026)).sample(1, &[3, 4, 5]).says(&[
         // 4026 is 10 above 16 times 251.
