@@ -6,19 +6,21 @@ use mathlib.Core.Bool.{true}
 use mathlib.Core.List.{List, [], _∷_}
 use native.Mathlib.Omega.{arith}
 use native.Mathlib.Nat.{mul-le-mul-right, div-zero, div-mul-le-self, le-div-iff-mul-le, le-trans, zero-add}
-use native.Mathlib.Decide.{decLt}
+use native.Mathlib.Decide.{decLt, ℕ-discrete}
 use lib.Dec.{eqb}
 use lib.IntN.{ℤ, pos, negsuc}
-use lib.ListN.{length, getD, length-map}
+use lib.ListN.{length, drop, getD, length-drop, length-map}
 use borrow.Author.Tests.{lt-ltb, le-ltb, eq-eqb, ne-eqb, ltb-true, eqb-true, eqb-false}
 use Rattle.lists.specs.Lists.{sum, before, holder}
 use Rattle.lists.proofs.Places.{holder-holds, holds-below}
 use Rattle.lists.proofs.Booleans.{cond-both, cond-unless}
 use Rattle.edits.specs.declared.Edit.{Edit}
 use Rattle.edits.specs.declared.Mapped.the-variants.{Media, Nothing, Outside}
+use Rattle.edits.specs.declared.EditStart.the-variants.{From}
 use Rattle.edits.specs.declared.MovieTime.{MovieTime}
 use Rattle.edits.specs.Edits.{edits, durationsOf, editTotal, startOf, inMedia, startOk, editOk, allOk, listOk, editsOk, placed, shownAt, mapIn, mediaAt}
-use Rattle.edits.proofs.Turns.{edits-in, media-absent, media-listed}
+use Rattle.edits.proofs.Turns.{edits-in, edits-none, media-absent, media-listed}
+use Rattle.edits.proofs.Signs.{from-pos}
 
 -- ---- refusal 13
 
@@ -84,6 +86,22 @@ module _ (scale movie total : ℕ) where
   pub ok-listed : (s : List ℕ) → (length s ≡ 0 → ⊥) → editsOk scale movie total s ≡ listOk scale movie total (edits s)
   unfolding editsOk
   ok-listed s z = rw (ne-eqb (length s) 0 z)
+
+-- an entry that shows media, where refusal 13 does not apply
+pub ok-from : (scale movie total : ℕ) (e : Edit) (m : ℕ) → editOk scale movie total e ≡ true → From m ≡ startOf (e .media)
+    → (0 < e .duration) × (m + inMedia scale movie (e .duration - 1) < total)
+ok-from scale movie total e m o p = let r = edit-known scale movie total e o in (r .lasts, r .ends m (from-pos (e .media) m p))
+
+-- without a list there is no entry that could be wrong
+pub ok-all : (scale movie total : ℕ) (s : List ℕ) → editsOk scale movie total s ≡ true → allOk scale movie total (edits s) ≡ true
+ok-all scale movie total s o = elim (ℕ-discrete (length s) 0) [
+  | yes z ↦ ap (allOk scale movie total) (sym (edits-in s) ∙ edits-none (drop 16 s) (omega (arith, length-drop 16 s)))
+  | no z ↦ of-list (edits s) (sym (ok-listed scale movie total s z) ∙ o)
+]
+  where
+    of-list : (es : List Edit) → listOk scale movie total es ≡ true → allOk scale movie total es ≡ true
+    of-list [] p = refl
+    of-list (e ∷ es) p = p
 
 -- ---- movie time to media time
 
