@@ -1,11 +1,11 @@
 -- What document 01 says in sentences of the definitions that compute, entry by entry: when an edit list is right, and what a movie time shows.
 -- Assumes nothing.
-use Prim.Native.Nat.{ℕ, zero, suc, _+_, _-_, _*_, _≤_, _<_}
+use Prim.Native.Nat.{ℕ, zero, suc, _+_, _-_, _*_, _/_, _≤_, _<_}
 use mathlib.Core.Path.{_≡_, refl, sym, ap, _∙_}
 use mathlib.Core.Bool.{true}
 use mathlib.Core.List.{List, [], _∷_}
 use native.Mathlib.Omega.{arith}
-use native.Mathlib.Nat.{mul-le-mul-right, div-zero, div-mul-le-self, le-div-iff-mul-le, le-trans, zero-add}
+use native.Mathlib.Nat.{mul-le-mul-right, suc-mul, div-lt-iff-lt-mul, div-zero, div-mul-le-self, le-div-iff-mul-le, le-trans, zero-add}
 use native.Mathlib.Decide.{decLt, ℕ-discrete}
 use lib.Dec.{eqb}
 use lib.IntN.{ℤ, pos, negsuc}
@@ -110,6 +110,16 @@ in-media-mono scale zero t u l = omega (arith, div-zero (t * scale), div-zero (u
 in-media-mono scale (suc k) t u l =
     le-div-iff-mul-le {k = suc k} {x = inMedia scale (suc k) t} {y = u * scale} (omega arith) .1
     (le-trans (div-mul-le-self (t * scale) (suc k)) (mul-le-mul-right scale l))
+
+-- in a media scale no finer than the movie's, a unit of movie time is at most one of media time
+pub in-media-step : (scale movie t : ℕ) → scale ≤ movie → inMedia scale movie (suc t) ≤ suc (inMedia scale movie t)
+in-media-step scale zero t l = omega (arith, div-zero (suc t * scale))
+in-media-step scale (suc k) t l =
+    let q = inMedia scale (suc k) t in
+    let a : t * scale < suc q * suc k = div-lt-iff-lt-mul {k = suc k} {x = t * scale} {y = suc q} (omega arith) .0 (omega arith) in
+    let b : suc t * scale < suc (suc q) * suc k = omega (arith, a, suc-mul t scale, suc-mul (suc q) (suc k)) in
+    let c : suc t * scale / suc k < suc (suc q) = div-lt-iff-lt-mul {k = suc k} {x = suc t * scale} {y = suc (suc q)} (omega arith) .1 b in
+    omega arith
 
 duration-at : (e₀ : Edit) (es : List Edit) (i : ℕ) → i < length es → getD (durationsOf es) i 0 ≡ getD es i e₀ .duration
 duration-at e₀ [] i h = absurd (omega arith)
