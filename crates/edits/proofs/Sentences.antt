@@ -195,13 +195,15 @@ module _ (scale movie total : ℕ) where
       pub media-nothing : here .media ≡ negsuc 0 → mediaAt scale movie total s t ≡ Nothing
       media-nothing e = media-in e₀ h ∙ ap (λ y. shownAt scale movie total (t .0 - before ds (holder ds (t .0))) (startOf y)) e
 
+      pub media-below : (m : ℕ) → here .media ≡ pos m → m + inMedia scale movie (t .0 - before ds (holder ds (t .0))) < total
+      media-below m e =
+          let w = within in
+          let r = list-known scale movie total e₀ (edits s) (sym (ok-listed scale movie total s z) ∙ o) .1 (holder ds (t .0)) (w .0) in
+          omega (arith, r .ends m e, in-media-mono scale movie (t .0 - before ds (holder ds (t .0))) (here .duration - 1) (omega (arith, w .1)))
+
       pub media-shown : (m : ℕ) → here .media ≡ pos m →
           mediaAt scale movie total s t ≡ Media (record { 0 = m + inMedia scale movie (t .0 - before ds (holder ds (t .0))) })
       media-shown m e =
-          let w = within in
-          let r = list-known scale movie total e₀ (edits s) (sym (ok-listed scale movie total s z) ∙ o) .1 (holder ds (t .0)) (w .0) in
-          let p = r .ends m e in
           media-in e₀ h
           ∙ ap (λ y. shownAt scale movie total (t .0 - before ds (holder ds (t .0))) (startOf y)) e
-          ∙ placed-in total (m + inMedia scale movie (t .0 - before ds (holder ds (t .0))))
-          (omega (arith, p, in-media-mono scale movie (t .0 - before ds (holder ds (t .0))) (here .duration - 1) (omega (arith, w .1))))
+          ∙ placed-in total (m + inMedia scale movie (t .0 - before ds (holder ds (t .0)))) (media-below m e)
