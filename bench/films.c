@@ -222,6 +222,18 @@ static void put_stbl(struct writer *w, const struct plan *p, struct track_facts 
     close_atom(w, at);
 }
 
+/* Where the bytes are: in this file, which the lowest flag bit of the one data reference says. */
+static void put_dinf(struct writer *w)
+{
+    size_t dinf = open_atom(w, "dinf");
+    size_t dref = open_table(w, "dref");
+    size_t one = open_atom(w, "alis");
+    put32(w, 1);
+    close_atom(w, one);
+    close_table(w, dref, 1);
+    close_atom(w, dinf);
+}
+
 static void put_mdia(struct writer *w, const struct plan *p, struct track_facts *f, uint32_t offset)
 {
     size_t mdia = open_atom(w, "mdia");
@@ -235,6 +247,7 @@ static void put_mdia(struct writer *w, const struct plan *p, struct track_facts 
     zeros(w, 13);
     close_atom(w, hdlr);
     size_t minf = open_atom(w, "minf");
+    put_dinf(w);
     put_stbl(w, p, f, offset);
     close_atom(w, minf);
     close_atom(w, mdia);

@@ -17,14 +17,15 @@
  *                says where the slip goes wrong), the rest is left
  *
  * Places fewer than a function names are refused 16 as room is, and then nothing
- * at all is written. The order of refusals is: the file's (1 to 13), 14, 15 or 18,
- * then 16; in reading a slip 17, then 16. Of the file's, 11 is the slip writer's
- * alone: every other function accepts a film whose stored duration is not the total
- * of its samples' durations. docs/RULES.md has each rule in full.
+ * at all is written. The order of refusals is: the file's (1 to 13 and 19, which is
+ * judged after 11 and before 12), 14, 15 or 18, then 16; in reading a slip 17, then
+ * 16. Of the file's, 11 is the slip writer's alone: every other function accepts a
+ * film whose stored duration is not the total of its samples' durations.
+ * docs/RULES.md has each rule in full.
  *
  * Limits. A file has at most 2,147,483,647 bytes, a movie 16 tracks, a track
- * 1,048,576 samples, 1,048,576 chunks, 256 edits and 64 sample descriptions, a
- * profile 64 records; beyond them the file is refused 1 or 6. A slip has at most
+ * 1,048,576 samples, 1,048,576 chunks, 256 edits, 64 sample descriptions and 64
+ * data references, a profile 64 records; beyond them the file is refused 1 or 6. A slip has at most
  * 1,048,576 pairs. No function allocates memory, and the stack it needs does not
  * grow with the file: the walk of the atom tree is six levels deep.
  *
@@ -61,8 +62,8 @@ extern "C" {
 #define CHALDOREF_VERSION_PATCH 0
 #define CHALDOREF_VERSION "0.1.0"
 
-/* The refusals, by their numbers in document 01. Of a file the lowest number that
-   applies is given. */
+/* The refusals, by their numbers in documents 01 and 02. Of a file the lowest number that
+   applies is given, but that 19 is judged after 11 and before 12. */
 enum {
     CHALDOREF_ANSWERED = 0,
     CHALDOREF_FILE_TOO_LONG = 1,      /* longer than 2,147,483,647 bytes */
@@ -70,7 +71,7 @@ enum {
     CHALDOREF_ATOM_COUNT = 3,         /* an atom is absent or occurs too often */
     CHALDOREF_LEAF_VERSION = 4,       /* a leaf that is read has a version other than 0 */
     CHALDOREF_LEAF_SIZE = 5,          /* a leaf that is read, or a profile, hasn't its size */
-    CHALDOREF_OVER_LIMIT = 6,         /* too many tracks, samples, chunks, edits, descriptions or records */
+    CHALDOREF_OVER_LIMIT = 6,         /* too many tracks, samples, chunks, edits, descriptions, references or records */
     CHALDOREF_TRACK_IDS = 7,          /* a track ID is 0 or occurs twice */
     CHALDOREF_TIME_SCALE = 8,         /* a movie or media time scale is 0 */
     CHALDOREF_TABLES = 9,             /* the sample tables contradict each other */
@@ -82,7 +83,8 @@ enum {
     CHALDOREF_OUTSIDE = 15,           /* the sample number, time or stretch lies outside */
     CHALDOREF_NO_ROOM = 16,           /* the lent room or places are shorter than the answer */
     CHALDOREF_MALFORMED_SLIP = 17,    /* a slip is malformed */
-    CHALDOREF_NOT_COMPUTED = 18       /* the feature cannot be computed */
+    CHALDOREF_NOT_COMPUTED = 18,      /* the feature cannot be computed */
+    CHALDOREF_DATA_ELSEWHERE = 19     /* a description names data elsewhere, or no such data reference */
 };
 
 /* How many places each function fills. */
@@ -258,7 +260,7 @@ static inline const char *chaldoref_version(void)
 }
 
 /*
- * The words of document 01 for a refusal, by its number; "answered" for 0. For a number
+ * The words of the documents for a refusal, by its number; "answered" for 0. For a number
  * that no refusal has it says so: the result is never NULL.
  */
 static inline const char *chaldoref_refusal_text(uint32_t number)
@@ -270,7 +272,7 @@ static inline const char *chaldoref_refusal_text(uint32_t number)
         "an atom is absent or occurs too often",
         "a read leaf has a body whose first byte is not 0",
         "a read leaf or profile hasn't its size",
-        "over 16 tracks, or in one track over 1,048,576 samples or chunks, 256 edits or 64 descriptions; in one profile over 64 records",
+        "over 16 tracks, or in one track over 1,048,576 samples or chunks, 256 edits, 64 descriptions or 64 references; in one profile over 64 records",
         "a track ID is 0 or occurs twice",
         "a movie or media time scale is 0",
         "sample tables contradict each other",
@@ -282,7 +284,8 @@ static inline const char *chaldoref_refusal_text(uint32_t number)
         "the sample number is not in 1 to N, or the time or stretch lies outside",
         "the lent room is shorter than the answer",
         "a slip is malformed",
-        "the feature cannot be computed"
+        "the feature cannot be computed",
+        "a description names data elsewhere, or no such data reference"
     };
     return number < sizeof texts / sizeof *texts ? texts[number] : "no refusal has this number";
 }

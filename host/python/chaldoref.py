@@ -48,7 +48,7 @@ _SLIP_HEAD_BYTES, _SLIP_PAIR_BYTES = 24, 10
 
 
 class Refusal(enum.IntEnum):
-    """The refusals, by their numbers in document 01."""
+    """The refusals, by their numbers in documents 01 and 02."""
 
     FILE_TOO_LONG = 1
     ATOM_SIZE = 2
@@ -68,10 +68,11 @@ class Refusal(enum.IntEnum):
     NO_ROOM = 16
     MALFORMED_SLIP = 17
     NOT_COMPUTED = 18
+    DATA_ELSEWHERE = 19
 
     @property
     def words(self) -> str:
-        """When document 01 gives this refusal, in its own words."""
+        """When the documents give this refusal, in their words."""
         return _WORDS[self]
 
 
@@ -83,8 +84,8 @@ _WORDS = {
     Refusal.LEAF_VERSION: "a read leaf has a body whose first byte is not 0",
     Refusal.LEAF_SIZE: "a read leaf or profile hasn't its size",
     Refusal.OVER_LIMIT:
-        "over 16 tracks, or in one track over 1,048,576 samples or chunks, 256 edits or 64 descriptions; "
-        "in one profile over 64 records",
+        "over 16 tracks, or in one track over 1,048,576 samples or chunks, 256 edits, 64 descriptions or "
+        "64 references; in one profile over 64 records",
     Refusal.TRACK_IDS: "a track ID is 0 or occurs twice",
     Refusal.TIME_SCALE: "a movie or media time scale is 0",
     Refusal.TABLES: "sample tables contradict each other",
@@ -97,13 +98,14 @@ _WORDS = {
     Refusal.NO_ROOM: "the lent room is shorter than the answer",
     Refusal.MALFORMED_SLIP: "a slip is malformed",
     Refusal.NOT_COMPUTED: "the feature cannot be computed",
+    Refusal.DATA_ELSEWHERE: "a description names data elsewhere, or no such data reference",
 }
 
 
 class Refused(Exception):
     """A question that the library refuses, or a file."""
 
-    #: The refusal's number in document 01, 1 to 18.
+    #: The refusal's number in documents 01 and 02, 1 to 19.
     number: Refusal
 
     def __init__(self, number: int) -> None:
@@ -112,7 +114,7 @@ class Refused(Exception):
 
     @property
     def words(self) -> str:
-        """When document 01 gives this refusal, in its own words."""
+        """When the documents give this refusal, in their words."""
         return self.number.words
 
     def __str__(self) -> str:
@@ -254,7 +256,7 @@ class Movie:
     """
 
     def __init__(self, file: Bytes) -> None:
-        """Judges a whole movie file and reads its track list. Refusals 1 to 13 but 11."""
+        """Judges a whole movie file and reads its track list. Refusals 1 to 13 but 11, and 19."""
         self._file = _lent(file)
         room = _room(ctypes.c_uint32, _TRACK_NUMBERS * _MAX_TRACKS)
         count, = self._ask("track_list", 1, room=room)

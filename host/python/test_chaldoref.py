@@ -162,6 +162,11 @@ class FilmsMadeOfW(Case):
         self.assertRefused(11, movie.write_slip, 1, 24, 73)
         self.assertRefused(11, movie.write_slip, 2, 24, 73)
 
+    def test_data_elsewhere(self):
+        # The lowest flag bit of the one data reference, and a reference index of 2.
+        self.assertRefused(19, Movie, changed(W, body(W, b"dref") + 16, 0))
+        self.assertRefused(19, Movie, changed(W, body(W, b"stsd") + 20, 2))
+
     def test_chunk_past_the_end(self):
         second = body(W, b"stco") + 12
         self.assertRefused(12, Movie, changed(W, second, 4027))
@@ -281,7 +286,7 @@ class Header(unittest.TestCase):
         del constants["ANSWERED"]
         self.assertEqual({name: int(number) for name, number in constants.items()},
                          {refusal.name: refusal.value for refusal in Refusal})
-        self.assertEqual(len({refusal.words for refusal in Refusal}), 18)
+        self.assertEqual(len({refusal.words for refusal in Refusal}), 19)
 
     def test_sizes(self):
         for name in ("TRACK_NUMBERS", "PAIR_NUMBERS", "RECORD_NUMBERS", "MAX_TRACKS", "MAX_PAIRS", "MAX_RECORDS",

@@ -10,7 +10,7 @@ use lib.Dec.{eqb}
 use borrow.Author.Tests.{eqb-true}
 use native.Mathlib.Nat.{add-zero, add-suc}
 use native.Mathlib.Omega.{arith}
-use Rattle.atoms.specs.Kinds.{file, moov, trak, edts, mdia, minf, stbl, container}
+use Rattle.atoms.specs.Kinds.{file, moov, trak, edts, mdia, minf, stbl, dinf, container}
 use Rattle.atoms.specs.Atoms.{kindOf, bodyOf, atoms}
 use Rattle.atoms.specs.Tree.{all, everywhere}
 use Rattle.atoms.proofs.Laws.{below}
@@ -38,7 +38,8 @@ lower p k h =
     (λ b. ⊎-elim (known p trak k edts (omega arith))
     (λ c. ⊎-elim (known p trak k mdia (omega arith))
     (λ d. ⊎-elim (known p mdia k minf (omega arith))
-    (λ e. ⊎-elim (known p minf k stbl (omega arith)) (λ f. absurd (never f)) (pick (eqb k stbl) _ _ e))
+    (λ e. ⊎-elim (known p minf k stbl (omega arith))
+    (λ f. ⊎-elim (known p minf k dinf (omega arith)) (λ g. absurd (never g)) (pick (eqb k dinf) _ _ f)) (pick (eqb k stbl) _ _ e))
     (pick (eqb k minf) _ _ d)) (pick (eqb k mdia) _ _ c)) (pick (eqb k edts) _ _ b)) (pick (eqb k trak) _ _ a)) (pick (eqb k moov) _ _ h)
 
 cond-pos : (b : Bool) (x y : ℕ) → 1 ≤ x → 1 ≤ y → 1 ≤ cond b x y

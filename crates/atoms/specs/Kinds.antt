@@ -26,6 +26,9 @@ minf = 0x6d696e66
 abbrev pub stbl : ℕ
 stbl = 0x7374626c
 
+abbrev pub dinf : ℕ
+dinf = 0x64696e66
+
 abbrev pub mvhd : ℕ
 mvhd = 0x6d766864
 
@@ -62,6 +65,9 @@ stss = 0x73747373
 abbrev pub stsd : ℕ
 stsd = 0x73747364
 
+abbrev pub dref : ℕ
+dref = 0x64726566
+
 abbrev pub prfl : ℕ
 prfl = 0x7072666c
 
@@ -71,6 +77,7 @@ vide = 0x76696465
 
 -- whether an atom of kind k is a container in the parent p. "Containers, each only in the parent shown: moov in the file; trak in
 -- moov; edts and mdia in trak; minf in mdia; stbl in minf. Every other atom is a leaf, even a container's type in the wrong place."
+-- Document 02: "one 'dinf' container in minf"
 unfoldable pub container : ℕ → ℕ → Bool
 container p k =
     cond (eqb k moov) (eqb p file)
@@ -79,4 +86,5 @@ container p k =
     (cond (eqb k mdia) (eqb p trak)
     (cond (eqb k minf) (eqb p mdia)
     (cond (eqb k stbl) (eqb p minf)
-    false)))))
+    (cond (eqb k dinf) (eqb p minf)
+    false))))))

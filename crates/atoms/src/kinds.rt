@@ -15,6 +15,8 @@ pub const MINF: u32 = 0x6d696e66;
 
 pub const STBL: u32 = 0x7374626c;
 
+pub const DINF: u32 = 0x64696e66;
+
 pub const MVHD: u32 = 0x6d766864;
 
 pub const TKHD: u32 = 0x746b6864;
@@ -38,6 +40,8 @@ pub const STCO: u32 = 0x7374636f;
 pub const STSS: u32 = 0x73747373;
 
 pub const STSD: u32 = 0x73747364;
+
+pub const DREF: u32 = 0x64726566;
 
 pub const PRFL: u32 = 0x7072666c;
 

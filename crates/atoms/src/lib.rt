@@ -19,7 +19,7 @@ pub fn is_container(parent: u32, kind: u32) -> bool
         kinds::TRAK => parent == kinds::MOOV,
         kinds::EDTS | kinds::MDIA => parent == kinds::TRAK,
         kinds::MINF => parent == kinds::MDIA,
-        kinds::STBL => parent == kinds::MINF,
+        kinds::STBL | kinds::DINF => parent == kinds::MINF,
         _ => false,
     }
 }

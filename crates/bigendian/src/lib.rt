@@ -98,7 +98,8 @@ fn whole16(s: &[u8], at: usize) -> u16
     joined2(s[at], s[at + 1])
 }
 
-fn whole32(s: &[u8], at: usize) -> u32
+// For a loop that has tested the length: no slow way stands beside it.
+pub fn whole32(s: &[u8], at: usize) -> u32
     requires { ⌜ at + 4 ≤ length (now s) ⌝ }
     ensures { λ r. ⌜ r ≡ u32At (now (s .entry)) at ⌝ }
 {

@@ -81,7 +81,7 @@ pub extern "C" fn chaldoref_peak(file: &[u8], id: u32, code: u32, places: &mut [
     hand_peak(file, Source::whole(), id, code, places)
 }
 
-// The number of the sample at media time t, in one place.
+// The number of the sample at media time t and the position of its entry in stts, in two places.
 #[no_mangle]
 pub extern "C" fn chaldoref_sample_at(file: &[u8], id: u32, t: u32, places: &mut [u64]) -> u32
     ensures { λ r. ⌜ Answers (ofSampleAt (now (file .entry)) wholeFile id t) (now (places .entry)) r (now (places .exit)) ⌝ }

@@ -1,24 +1,26 @@
 -- What document 01 says in sentences of the definitions that compute, entry by entry: when an edit list is right, and what a movie time shows.
 -- Assumes nothing.
-use Prim.Native.Nat.{ℕ, zero, suc, _+_, _-_, _*_, _≤_, _<_}
+use Prim.Native.Nat.{ℕ, zero, suc, _+_, _-_, _*_, _/_, _≤_, _<_}
 use mathlib.Core.Path.{_≡_, refl, sym, ap, _∙_}
 use mathlib.Core.Bool.{true}
 use mathlib.Core.List.{List, [], _∷_}
 use native.Mathlib.Omega.{arith}
-use native.Mathlib.Nat.{mul-le-mul-right, div-zero, div-mul-le-self, le-div-iff-mul-le, le-trans, zero-add}
-use native.Mathlib.Decide.{decLt}
+use native.Mathlib.Nat.{mul-le-mul-right, suc-mul, div-lt-iff-lt-mul, div-zero, div-mul-le-self, le-div-iff-mul-le, le-trans, zero-add}
+use native.Mathlib.Decide.{decLt, ℕ-discrete}
 use lib.Dec.{eqb}
 use lib.IntN.{ℤ, pos, negsuc}
-use lib.ListN.{length, getD, length-map}
+use lib.ListN.{length, drop, getD, length-drop, length-map}
 use borrow.Author.Tests.{lt-ltb, le-ltb, eq-eqb, ne-eqb, ltb-true, eqb-true, eqb-false}
 use Rattle.lists.specs.Lists.{sum, before, holder}
 use Rattle.lists.proofs.Places.{holder-holds, holds-below}
 use Rattle.lists.proofs.Booleans.{cond-both, cond-unless}
 use Rattle.edits.specs.declared.Edit.{Edit}
 use Rattle.edits.specs.declared.Mapped.the-variants.{Media, Nothing, Outside}
+use Rattle.edits.specs.declared.EditStart.the-variants.{From}
 use Rattle.edits.specs.declared.MovieTime.{MovieTime}
 use Rattle.edits.specs.Edits.{edits, durationsOf, editTotal, startOf, inMedia, startOk, editOk, allOk, listOk, editsOk, placed, shownAt, mapIn, mediaAt}
-use Rattle.edits.proofs.Turns.{edits-in, media-absent, media-listed}
+use Rattle.edits.proofs.Turns.{edits-in, edits-none, media-absent, media-listed}
+use Rattle.edits.proofs.Signs.{from-pos}
 
 -- ---- refusal 13
 
@@ -85,6 +87,22 @@ module _ (scale movie total : ℕ) where
   unfolding editsOk
   ok-listed s z = rw (ne-eqb (length s) 0 z)
 
+-- an entry that shows media, where refusal 13 does not apply
+pub ok-from : (scale movie total : ℕ) (e : Edit) (m : ℕ) → editOk scale movie total e ≡ true → From m ≡ startOf (e .media)
+    → (0 < e .duration) × (m + inMedia scale movie (e .duration - 1) < total)
+ok-from scale movie total e m o p = let r = edit-known scale movie total e o in (r .lasts, r .ends m (from-pos (e .media) m p))
+
+-- without a list there is no entry that could be wrong
+pub ok-all : (scale movie total : ℕ) (s : List ℕ) → editsOk scale movie total s ≡ true → allOk scale movie total (edits s) ≡ true
+ok-all scale movie total s o = elim (ℕ-discrete (length s) 0) [
+  | yes z ↦ ap (allOk scale movie total) (sym (edits-in s) ∙ edits-none (drop 16 s) (omega (arith, length-drop 16 s)))
+  | no z ↦ of-list (edits s) (sym (ok-listed scale movie total s z) ∙ o)
+]
+  where
+    of-list : (es : List Edit) → listOk scale movie total es ≡ true → allOk scale movie total es ≡ true
+    of-list [] p = refl
+    of-list (e ∷ es) p = p
+
 -- ---- movie time to media time
 
 pub in-media-mono : (scale movie t u : ℕ) → t ≤ u → inMedia scale movie t ≤ inMedia scale movie u
@@ -92,6 +110,16 @@ in-media-mono scale zero t u l = omega (arith, div-zero (t * scale), div-zero (u
 in-media-mono scale (suc k) t u l =
     le-div-iff-mul-le {k = suc k} {x = inMedia scale (suc k) t} {y = u * scale} (omega arith) .1
     (le-trans (div-mul-le-self (t * scale) (suc k)) (mul-le-mul-right scale l))
+
+-- in a media scale no finer than the movie's, a unit of movie time is at most one of media time
+pub in-media-step : (scale movie t : ℕ) → scale ≤ movie → inMedia scale movie (suc t) ≤ suc (inMedia scale movie t)
+in-media-step scale zero t l = omega (arith, div-zero (suc t * scale))
+in-media-step scale (suc k) t l =
+    let q = inMedia scale (suc k) t in
+    let a : t * scale < suc q * suc k = div-lt-iff-lt-mul {k = suc k} {x = t * scale} {y = suc q} (omega arith) .0 (omega arith) in
+    let b : suc t * scale < suc (suc q) * suc k = omega (arith, a, suc-mul t scale, suc-mul (suc q) (suc k)) in
+    let c : suc t * scale / suc k < suc (suc q) = div-lt-iff-lt-mul {k = suc k} {x = suc t * scale} {y = suc (suc q)} (omega arith) .1 b in
+    omega arith
 
 duration-at : (e₀ : Edit) (es : List Edit) (i : ℕ) → i < length es → getD (durationsOf es) i 0 ≡ getD es i e₀ .duration
 duration-at e₀ [] i h = absurd (omega arith)
@@ -167,13 +195,15 @@ module _ (scale movie total : ℕ) where
       pub media-nothing : here .media ≡ negsuc 0 → mediaAt scale movie total s t ≡ Nothing
       media-nothing e = media-in e₀ h ∙ ap (λ y. shownAt scale movie total (t .0 - before ds (holder ds (t .0))) (startOf y)) e
 
+      pub media-below : (m : ℕ) → here .media ≡ pos m → m + inMedia scale movie (t .0 - before ds (holder ds (t .0))) < total
+      media-below m e =
+          let w = within in
+          let r = list-known scale movie total e₀ (edits s) (sym (ok-listed scale movie total s z) ∙ o) .1 (holder ds (t .0)) (w .0) in
+          omega (arith, r .ends m e, in-media-mono scale movie (t .0 - before ds (holder ds (t .0))) (here .duration - 1) (omega (arith, w .1)))
+
       pub media-shown : (m : ℕ) → here .media ≡ pos m →
           mediaAt scale movie total s t ≡ Media (record { 0 = m + inMedia scale movie (t .0 - before ds (holder ds (t .0))) })
       media-shown m e =
-          let w = within in
-          let r = list-known scale movie total e₀ (edits s) (sym (ok-listed scale movie total s z) ∙ o) .1 (holder ds (t .0)) (w .0) in
-          let p = r .ends m e in
           media-in e₀ h
           ∙ ap (λ y. shownAt scale movie total (t .0 - before ds (holder ds (t .0))) (startOf y)) e
-          ∙ placed-in total (m + inMedia scale movie (t .0 - before ds (holder ds (t .0))))
-          (omega (arith, p, in-media-mono scale movie (t .0 - before ds (holder ds (t .0))) (here .duration - 1) (omega (arith, w .1))))
+          ∙ placed-in total (m + inMedia scale movie (t .0 - before ds (holder ds (t .0)))) (media-below m e)

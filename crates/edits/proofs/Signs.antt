@@ -1,7 +1,7 @@
 -- A signed media time taken apart by its sign, as the code tests it: through its bits.
 -- Assumes nothing.
 use Prim.Native.Nat.{ℕ, zero, suc, _<_}
-use mathlib.Core.Path.{_≡_, refl}
+use mathlib.Core.Path.{_≡_, refl, sym, ap}
 use mathlib.Core.Bool.{true, false}
 use native.Mathlib.Omega.{arith}
 use lib.IntN.{ℤ, pos, negsuc, natAbs}
@@ -47,3 +47,8 @@ pub from-mag : (z : ℤ) (m : ℕ) → From m ≡ startOf z → m ≡ mag z
 from-mag (pos n) m e = cc
 from-mag (negsuc zero) m e = let x : _≡_ {A = ℕ} 0 1 = cc in absurd (omega arith)
 from-mag (negsuc (suc k)) m e = let x : _≡_ {A = ℕ} 0 1 = cc in absurd (omega arith)
+
+pub from-pos : (z : ℤ) (m : ℕ) → From m ≡ startOf z → z ≡ pos m
+from-pos (pos n) m e = let x : m ≡ n = cc in sym (ap pos x)
+from-pos (negsuc zero) m e = let x : _≡_ {A = ℕ} 0 1 = cc in absurd (omega arith)
+from-pos (negsuc (suc k)) m e = let x : _≡_ {A = ℕ} 0 1 = cc in absurd (omega arith)

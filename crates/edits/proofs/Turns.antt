@@ -1,19 +1,20 @@
 -- One turn of a loop over edits, for the total, the rule of each entry and the time that is mapped: the first entry of a part is what its first twelve bytes say,
 -- and the others are those of the rest.
 -- Assumes nothing.
-use Prim.Native.Nat.{ℕ, _+_, _-_, _≤_, _<_}
+use Prim.Native.Nat.{ℕ, _+_, _-_, _*_, _≤_, _<_}
 use mathlib.Core.Path.{_≡_, refl, sym, ap, _∙_}
 use mathlib.Core.Bool.{true, false}
 use mathlib.Core.List.{List, [], _∷_, map}
+use native.Mathlib.Nat.{div-mul-le-self}
 use native.Mathlib.Omega.{arith}
 use lib.Dec.{lit<, lit≤}
-use lib.ListN.{length, drop}
+use lib.ListN.{length, drop, length-drop, length-map}
 use borrow.Author.Tests.{eq-eqb, ne-eqb, lt-ltb, le-ltb}
 use Rattle.bigendian.specs.BigEndian.{u32At, signed32}
 use Rattle.bigendian.proofs.Laws.{beAt-take}
 use Rattle.lists.specs.Lists.{sum}
-use Rattle.lists.specs.Entries.{entries}
-use Rattle.lists.proofs.Rows.{rows-none, rows-next}
+use Rattle.lists.specs.Entries.{rowsOf, entries}
+use Rattle.lists.proofs.Rows.{rows-none, rows-next, length-rows}
 use Rattle.edits.specs.declared.Edit.{Edit}
 use Rattle.edits.specs.declared.Mapped.the-variants.{Outside}
 use Rattle.edits.specs.declared.MovieTime.{MovieTime}
@@ -40,6 +41,13 @@ edits-next t h p =
       rate = beAt-take 4 12 t 8 (lit≤ tt) i;
     } ∷ editsIn (drop 12 t))
     ∙ ap (λ x. x ∷ editsIn (drop 12 t)) (sym p)
+
+-- a list as long as n entries has no more
+pub edits-few : (s : List ℕ) (n : ℕ) → length s ≤ 16 + 12 * n → length (edits s) ≤ n
+unfolding edits entries
+edits-few s n h =
+    let r = rowsOf 12 (drop 16 s) in
+    omega (arith, length-map r editOf, length-rows 12 (drop 16 s), length-drop 16 s, div-mul-le-self (length (drop 16 s)) 12)
 
 -- ---- the total
 

@@ -38,7 +38,7 @@ pub enum EditStart {
 }
 
 // The only place that tests a sign.
-fn start_of(media: i64) -> EditStart
+pub fn start_of(media: i64) -> EditStart
     ensures { λ r. ⌜ r ≡ startOf media ⌝ }
 {
     if media >= 0 {
@@ -51,7 +51,7 @@ fn start_of(media: i64) -> EditStart
 }
 
 // The first entry of a part.
-fn edit_at(t: &[u8]) -> Edit
+pub fn edit_at(t: &[u8]) -> Edit
     ensures { λ r. ⌜ (r ≡ editOf (now (t .entry))) × (mag (r .media) < 2 ^ 31) ⌝ }
 {
     Edit {
@@ -79,7 +79,7 @@ pub fn edits_total(elst: &[u8]) -> Total
 }
 
 // A time of the movie's scale in the media's, rounded down; 0 where the movie's scale is 0.
-fn scaled(t: u32, scale: u32, movie: u32) -> u64
+pub fn scaled(t: u32, scale: u32, movie: u32) -> u64
     ensures { λ r. ⌜ (r ≡ inMedia scale movie t) × (r ≤ 18446744065119617025) ⌝ }
 {
     if movie == 0 {

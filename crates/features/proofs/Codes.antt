@@ -25,20 +25,20 @@ module _ (t : List ℕ) (wanted subtype : ℕ) (f : Feature) (s : subtype ≡ su
   unfolding onlyIn trackOf
   only-no e = rw (ne-eqb (subtypeOf t) wanted (λ z. e (s ∙ z)))
 
-module _ (t : Track) (code : ℕ) where
-  pub code-avvb : code ≡ avvb → featureOf t code ≡ onlyIn vide t (average t)
+module _ (movie : ℕ) (t : Track) (code : ℕ) where
+  pub code-avvb : code ≡ avvb → featureOf movie t code ≡ onlyIn vide t (average movie t)
   unfolding featureOf
   code-avvb e = rw e
 
-  pub code-avab : code ≡ avab → featureOf t code ≡ onlyIn soun t (average t)
+  pub code-avab : code ≡ avab → featureOf movie t code ≡ onlyIn soun t (average movie t)
   unfolding featureOf
   code-avab e = rw e
 
-  pub code-tvsz : code ≡ tvsz → featureOf t code ≡ onlyIn vide t (picture t)
+  pub code-tvsz : code ≡ tvsz → featureOf movie t code ≡ onlyIn vide t (picture t)
   unfolding featureOf
   code-tvsz e = rw e
 
-  pub code-vfps : code ≡ vfps → featureOf t code ≡ onlyIn vide t (frames t)
+  pub code-vfps : code ≡ vfps → featureOf movie t code ≡ onlyIn vide t (frames t)
   unfolding featureOf
   code-vfps e = rw e
 
@@ -51,22 +51,23 @@ module _ (t : Track) (code : ℕ) where
       by true = peak-rate (t .scale) (t .durations) (t .sizes)
       by false = refl
 
-  pub code-mvbr : code ≡ mvbr → featureOf t code ≡ rateIn (peakFor t code)
+  pub code-mvbr : code ≡ mvbr → featureOf movie t code ≡ rateIn (peakFor t code)
   unfolding featureOf peakFor
   code-mvbr e = rw e (sym (rate-only vide))
 
-  pub code-mabr : code ≡ mabr → featureOf t code ≡ rateIn (peakFor t code)
+  pub code-mabr : code ≡ mabr → featureOf movie t code ≡ rateIn (peakFor t code)
   unfolding featureOf peakFor
   code-mabr e = rw e (sym (rate-only soun))
 
   pub code-other : (code ≡ avvb → ⊥) → (code ≡ avab → ⊥) → (code ≡ tvsz → ⊥) → (code ≡ vfps → ⊥) → (code ≡ mvbr → ⊥) → (code ≡ mabr → ⊥)
-      → featureOf t code ≡ NotComputed
+      → featureOf movie t code ≡ NotComputed
   unfolding featureOf
   code-other a b c d e f =
       rw (ne-eqb code avvb a, ne-eqb code avab b, ne-eqb code tvsz c, ne-eqb code vfps d, ne-eqb code mvbr e, ne-eqb code mabr f)
 
-  -- ---- the peak, by its code
+-- ---- the peak, by its code
 
+module _ (t : Track) (code : ℕ) where
   pub peak-mvbr : code ≡ mvbr → peakFor t code ≡ peakOnlyIn vide t
   unfolding peakFor
   peak-mvbr e = rw e

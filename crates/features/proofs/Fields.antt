@@ -12,17 +12,21 @@ use Rattle.runs.specs.Runs.{perSample, leastOf}
 use Rattle.words.specs.Words.{sizes}
 use Rattle.descriptions.specs.Descriptions.{descriptions, pictureSize}
 use Rattle.descriptions.specs.declared.PictureSize.{PictureSize}
-use Rattle.structure.specs.Track.{scaleOf, subtypeOf, tableOf}
+use Rattle.edits.specs.Edits.{edits}
+use Rattle.averages.specs.Averages.{covered, averageOver}
+use Rattle.averages.specs.Computed.{Small, Edited}
+use Rattle.structure.specs.Track.{scaleOf, subtypeOf, tableOf, elstOf}
 use Rattle.structure.proofs.Lengths.{table-short}
 use Rattle.track.specs.Track.{trackOf, leastSize}
 use Rattle.track.specs.Refusals.{totalIn}
 use Rattle.rates.specs.declared.Feature.{Feature}
 use Rattle.rates.specs.declared.Feature.the-variants.{Value, NotComputed}
 use Rattle.rates.specs.Rates.{valueOf, rateOf}
-use Rattle.peaks.specs.Peaks.{peakIn, Timed}
+use Rattle.windows.specs.Windows.{Timed}
+use Rattle.peaks.specs.Peaks.{peakIn}
 use Rattle.peaks.specs.declared.Peak.{Peak}
 use Rattle.peaks.specs.declared.Peak.the-variants as peaks
-use Rattle.features.specs.Features.{average, picture, frames, peakOnlyIn, Computable}
+use Rattle.features.specs.Features.{wholeAverage, average, picture, frames, peakOnlyIn, Computable, Averaged}
 use Rattle.rates.proofs.Products.{value-small}
 use Rattle.rates.proofs.Orders.{eightfold}
 
@@ -30,11 +34,30 @@ use Rattle.rates.proofs.Orders.{eightfold}
 pub fits : (k : ℕ) (t s : List ℕ) → s ≡ tableOf k t → length t < 4294967296 → length s < 4294967296
 fits k t s e h = rw e (omega (arith, table-short k t))
 
-pub average-is : (t s : List ℕ) (bytes scale total : ℕ) (r : Feature) → s ≡ tableOf stsz t → bytes ≡ sum (sizes s) → scale ≡ scaleOf t → total ≡ totalIn t
-    → r ≡ rateOf (bytes * (8 * scale)) total → r ≡ average (trackOf t)
-unfolding average trackOf totalIn
-average-is t s bytes scale total r p b c d e =
+pub whole-is : (t s : List ℕ) (bytes scale total : ℕ) (r : Feature) → s ≡ tableOf stsz t → bytes ≡ sum (sizes s) → scale ≡ scaleOf t → total ≡ totalIn t
+    → r ≡ rateOf (bytes * (8 * scale)) total → r ≡ wholeAverage (trackOf t)
+unfolding wholeAverage trackOf totalIn
+whole-is t s bytes scale total r p b c d e =
     e ∙ ap (λ (n : ℕ). rateOf n total) (eightfold bytes scale) ∙ rw (b, p, c, d) refl
+
+pub averaged-total : (movie : ℕ) (t : List ℕ) → Averaged movie t → totalIn t < 4294967296
+unfolding totalIn
+averaged-total movie t h = h .small .total-fits
+
+-- the edit list, and the tables of what it shows
+module _ (movie : ℕ) (t l : List ℕ) (p : l ≡ elstOf t) where
+  pub average-whole : (r : Feature) → length l ≡ 0 → r ≡ wholeAverage (trackOf t) → r ≡ average movie (trackOf t)
+  unfolding average trackOf
+  average-whole r z e = e ∙ rw (← p, eq-eqb (length l) 0 z)
+
+  pub average-edited : (d z : List ℕ) (scale : ℕ) (r : Feature) → (length l ≡ 0 → ⊥) → d ≡ tableOf stts t → z ≡ tableOf stsz t → scale ≡ scaleOf t
+      → r ≡ averageOver scale (perSample d) (sizes z) (covered scale movie (perSample d) (edits l)) → r ≡ average movie (trackOf t)
+  unfolding average trackOf
+  average-edited d z scale r n a b c e = e ∙ rw (a, b, c, ← p, ne-eqb (length l) 0 n)
+
+  pub average-asks : (d : List ℕ) (scale : ℕ) → Averaged movie t → d ≡ tableOf stts t → scale ≡ scaleOf t
+      → Small d × Edited scale movie (sum (perSample d)) (edits l)
+  average-asks d scale h a c = rw (a, c, p) (h .small, h .edited)
 
 pub frames-are : (t s : List ℕ) (scale least : ℕ) (r : Feature) → s ≡ tableOf stts t → least ≡ leastOf (perSample s) → scale ≡ scaleOf t
     → r ≡ rateOf (65536 * scale) least → r ≡ frames (trackOf t)

@@ -9,12 +9,16 @@ use Rattle.lists.specs.Lists.{sum}
 use Rattle.runs.specs.Runs.{perSample, leastOf}
 use Rattle.words.specs.Words.{sizes}
 use Rattle.descriptions.specs.Descriptions.{greatest, widthOf, heightOf}
-use Rattle.structure.specs.Track.{scaleOf, tableOf}
+use Rattle.edits.specs.Edits.{edits}
+use Rattle.averages.specs.Averages.{covered, averageOver}
+use Rattle.averages.specs.Computed.{Small, Edited}
+use Rattle.structure.specs.Track.{scaleOf, tableOf, elstOf}
 use Rattle.track.specs.Track.{Track}
 use Rattle.rates.specs.declared.Feature.{Feature}
 use Rattle.rates.specs.declared.Feature.the-variants.{NotComputed}
 use Rattle.rates.specs.Rates.{valueOf, rateOf}
-use Rattle.peaks.specs.Peaks.{peakOf, peakIn, Timed}
+use Rattle.windows.specs.Windows.{Timed}
+use Rattle.peaks.specs.Peaks.{peakOf, peakIn}
 use Rattle.peaks.specs.declared.Peak.{Peak}
 use Rattle.peaks.specs.declared.Peak.the-variants as peaks
 
@@ -41,8 +45,14 @@ abbrev pub soun : ℕ
 soun = 0x736f756e
 
 -- "8 × all sizes × scale / total"
-unfoldable pub average : Track → Feature
-average t = rateOf (8 * sum (t .sizes) * t .scale) (sum (t .durations))
+unfoldable pub wholeAverage : Track → Feature
+wholeAverage t = rateOf (8 * sum (t .sizes) * t .scale) (sum (t .durations))
+
+-- the same over the samples that the entries of the edit list cover; "Without a list nothing changes". movie is the movie's time scale
+unfoldable pub average : ℕ → Track → Feature
+average movie t =
+    cond (eqb (length (t .editTable)) 0) (wholeAverage t)
+    (averageOver (t .scale) (t .durations) (t .sizes) (covered (t .scale) movie (t .durations) (t .edits)))
 
 -- "greatest width × 65536 + greatest height"; "no description for tvsz"
 unfoldable pub picture : Track → Feature
@@ -62,10 +72,10 @@ unfoldable pub onlyIn : ℕ → Track → Feature → Feature
 onlyIn subtype t f = cond (eqb (t .subtype) subtype) f NotComputed
 
 -- 'avvb' (vide), 'avab' (soun), 'tvsz' (vide), 'vfps' (vide), 'mvbr' (vide), 'mabr' (soun); "another code" can't be computed
-unfoldable pub featureOf : Track → ℕ → Feature
-featureOf t code =
-    cond (eqb code avvb) (onlyIn vide t (average t))
-    (cond (eqb code avab) (onlyIn soun t (average t))
+unfoldable pub featureOf : ℕ → Track → ℕ → Feature
+featureOf movie t code =
+    cond (eqb code avvb) (onlyIn vide t (average movie t))
+    (cond (eqb code avab) (onlyIn soun t (average movie t))
     (cond (eqb code tvsz) (onlyIn vide t (picture t))
     (cond (eqb code vfps) (onlyIn vide t (frames t))
     (cond (eqb code mvbr) (onlyIn vide t (peak t))
@@ -86,3 +96,8 @@ peakFor t code = cond (eqb code mvbr) (peakOnlyIn vide t) (cond (eqb code mabr) 
 pub record Computable (t : List ℕ) : Type 0 where
   pub short : length t < 4294967296
   pub timed : Timed (scaleOf t) (perSample (tableOf stts t)) (sizes (tableOf stsz t))
+
+pub record Averaged (movie : ℕ) (t : List ℕ) : Type 0 where
+  pub small : Small (tableOf stts t)
+  pub short : length t < 4294967296
+  pub edited : Edited (scaleOf t) movie (sum (perSample (tableOf stts t))) (edits (elstOf t))

@@ -1,5 +1,6 @@
 // Features of a track: rates, rounded up, and the greatest picture.
 use atoms::kinds;
+use averages::edited_average;
 use descriptions::description_count;
 use descriptions::greatest_size;
 use peaks::Peak;
@@ -7,6 +8,7 @@ use peaks::peak_of;
 use rates::Feature;
 use rates::rate;
 use runs::least_duration;
+use structure::trak::edit_list;
 use structure::trak::media_scale;
 use structure::trak::subtype;
 use structure::trak::table;
@@ -20,7 +22,7 @@ ghost use Rattle.structure.specs.Track.{subtypeOf};
 ghost use Rattle.track.specs.Track.{trackOf};
 ghost use Rattle.track.specs.Refusals.{totalIn};
 ghost use Rattle.peaks.specs.Peaks.{rateIn};
-ghost use Rattle.features.specs.Features.{average, picture, frames, featureOf, peakOnlyIn, peakFor, Computable};
+ghost use Rattle.features.specs.Features.{wholeAverage, average, picture, frames, featureOf, peakOnlyIn, peakFor, Computable, Averaged};
 
 // The codes of the features, and the subtype of sound.
 pub const AVVB: u32 = 0x61767662;
@@ -37,14 +39,32 @@ pub const MABR: u32 = 0x6d616272;
 
 pub const SOUN: u32 = 0x736f756e;
 
-// The average rate of the media, in bits a second.
-fn average_rate(trak: &[u8]) -> Feature
+// The average rate of the whole media, in bits a second.
+fn whole_average(trak: &[u8]) -> Feature
     requires { ⌜ (length (now trak) < 2 ^ 32) × (totalIn (now trak) < 4294967296) ⌝ }
-    ensures { λ r. ⌜ r ≡ average (trackOf (now (trak .entry))) ⌝ }
+    ensures { λ r. ⌜ r ≡ wholeAverage (trackOf (now (trak .entry))) ⌝ }
 {
     let bytes = all_bytes(table(trak, kinds::STSZ));
     let eight = 8 * (media_scale(trak) as u64);
     rate(bytes, eight, media_total(trak) as u64)
+}
+
+// The average rate of what the edit list shows; of the whole media without one.
+fn average_rate(trak: &[u8], movie: u32) -> Feature
+    requires { ⌜ Averaged movie (now trak) ⌝ }
+    ensures { λ r. ⌜ r ≡ average movie (trackOf (now (trak .entry))) ⌝ }
+{
+    let elst = edit_list(trak);
+    if elst.len() == 0 {
+        return whole_average(trak);
+    }
+    edited_average(
+        table(trak, kinds::STTS),
+        table(trak, kinds::STSZ),
+        elst,
+        media_scale(trak),
+        movie,
+    )
 }
 
 // The greatest width and height of a track of pictures.
@@ -110,22 +130,22 @@ fn peak_rate(trak: &[u8], code: u32) -> Feature
     }
 }
 
-// A feature of a track, by its code.
-pub fn feature_of(trak: &[u8], code: u32) -> Feature
-    requires { ⌜ Computable (now trak) ⌝ }
-    ensures { λ r. ⌜ r ≡ featureOf (trackOf (now (trak .entry))) code ⌝ }
+// A feature of a track, by its code. `movie` is the movie's time scale.
+pub fn feature_of(trak: &[u8], movie: u32, code: u32) -> Feature
+    requires { ⌜ Computable (now trak) × Averaged movie (now trak) ⌝ }
+    ensures { λ r. ⌜ r ≡ featureOf movie (trackOf (now (trak .entry))) code ⌝ }
 {
     let kind = subtype(trak);
     match code {
         AVVB => {
             if kind == kinds::VIDE {
-                return average_rate(trak);
+                return average_rate(trak, movie);
             }
             Feature::NotComputed
         }
         AVAB => {
             if kind == SOUN {
-                return average_rate(trak);
+                return average_rate(trak, movie);
             }
             Feature::NotComputed
         }

@@ -2,10 +2,10 @@
 -- Assumes nothing.
 use Prim.Native.Nat.{ℕ}
 use mathlib.Core.Path.{_≡_, refl}
-use mathlib.Core.List.{List}
+use mathlib.Core.List.{List, [], _∷_}
 use lib.ListN.{length}
 use Rattle.bigendian.specs.BigEndian.{beAt, signed32}
-use Rattle.atoms.specs.Kinds.{container}
+use Rattle.atoms.specs.Kinds.{container, stts}
 use Rattle.atoms.specs.Pieces.{piecesAfter, total, filledBy, fitting}
 use Rattle.atoms.specs.Atoms.{headerOf, bodyOf, sizeInside, sizeTop, sizeIn, ofKind}
 use Rattle.atoms.specs.Tree.{all, everywhere}
@@ -13,26 +13,28 @@ use Rattle.leaves.specs.Present.{one, atMostOne, tables, present}
 use Rattle.leaves.specs.Leaves.{formOf, skipped, versionOk, holdsEntries, sizeEntry, filledWith, sizedEntries, sizeOk, leafOk}
 use Rattle.structure.specs.Profile.{firstBefore, ofVersion0, profileIn, profileOk}
 use Rattle.structure.specs.Source.{wholeFile, strictly}
-use Rattle.structure.specs.Track.{mdiaOf, minfOf, stblOf, tableOf, elstOf, idOf, scaleOf, durationOf, subtypeOf, profileOf, samplesOf}
+use Rattle.structure.specs.Track.{mdiaOf, minfOf, stblOf, tableOf, elstOf, drefOf, idOf, scaleOf, durationOf, subtypeOf, profileOf, samplesOf}
 use Rattle.structure.specs.Movie.{moovOf, movieScale, movieProfile}
 use Rattle.structure.specs.Limits.{overLimits, tooMany}
 use Rattle.structure.specs.Rows.{some, first, orElse}
 use Rattle.structure.specs.Refusals.{wrongVersion, wrongSize, shortVideoDescription, wrongTrackSize, fileRows}
 use Rattle.lists.specs.Entries.{rowsOf, entries}
-use Rattle.runs.specs.Runs.{runsOf, perSample, compositionOffset}
+use Rattle.lists.specs.Lists.{Run}
+use Rattle.runs.specs.Runs.{runsOf, perSample, entryOf, compositionOffset}
 use Rattle.words.specs.Words.{wordsAfter, sizes, chunkOffsets, syncs, syncsAgree, isSync}
 use Rattle.chunks.specs.Chunks.{deals, perChunk, descriptionIds, dealsContradict, offsetOf}
 use Rattle.pairs.specs.Pairs.{pairOf}
 use Rattle.edits.specs.Edits.{edits, editTotal, editsOk}
+use Rattle.references.specs.References.{isThisFile, namesThisFile, allInThisFile}
 use Rattle.track.specs.Track.{leastSize, trackOf}
-use Rattle.track.specs.Refusals.{miscounted, contradicts, totalIn, totalTooLarge, otherDuration, chunkPastEnd, wrongEdits}
+use Rattle.track.specs.Refusals.{miscounted, contradicts, totalIn, totalTooLarge, otherDuration, dataElsewhere, chunkPastEnd, wrongEdits}
 use Rattle.movie.specs.Tracks.{hasTrack, trackWith}
 use Rattle.movie.specs.Rooms.{noRoom, filledRoom, roomAfter}
 use Rattle.movie.specs.Refusals.{sameIds, idIsZero, movieScaleIsZero, scaleIsZero, moovRows, moovRefusal, filmRefusal}
 use Rattle.leb128.specs.Numbers.{groupsIn, groups, writes}
 use Rattle.slip.specs.Slip.{slipBytes}
 use Rattle.questions.specs.Asked.{askRefusal, trackAsked}
-use Rattle.questions.specs.Times.{atRefusal, atNumber}
+use Rattle.questions.specs.Times.{atRefusal, atNumber, atEntry}
 use Rattle.questions.specs.Samples.{sampleOf, sampleRefusal}
 use Rattle.stretch.specs.Stretches.{firstIn, pastIn, pairsIn, bytesIn, stretchPairs, spanRefusal, stretchRefusal}
 use Rattle.stretch.specs.Slips.{slipHead, slipOfStretch, slipRefusal}
@@ -45,7 +47,7 @@ length-w = refl
 
 -- unfoldable only so that the lines below, by naming it, open all that it opens
 unfoldable pub accepted-w : filmRefusal bytes wholeFile ≡ 0
-unfolding beAt container piecesAfter total filledBy fitting headerOf bodyOf sizeInside sizeTop sizeIn ofKind all everywhere one atMostOne tables present formOf skipped versionOk holdsEntries sizeEntry filledWith sizedEntries sizeOk leafOk firstBefore ofVersion0 profileIn profileOk mdiaOf minfOf stblOf tableOf elstOf idOf scaleOf durationOf subtypeOf profileOf moovOf movieScale movieProfile overLimits tooMany some first orElse wrongVersion wrongSize shortVideoDescription wrongTrackSize fileRows rowsOf entries runsOf perSample wordsAfter sizes chunkOffsets syncs syncsAgree deals perChunk dealsContradict edits editTotal editsOk miscounted contradicts totalIn totalTooLarge otherDuration chunkPastEnd wrongEdits sameIds idIsZero movieScaleIsZero scaleIsZero moovRows moovRefusal filmRefusal
+unfolding beAt container piecesAfter total filledBy fitting headerOf bodyOf sizeInside sizeTop sizeIn ofKind all everywhere one atMostOne tables present formOf skipped versionOk holdsEntries sizeEntry filledWith sizedEntries sizeOk leafOk firstBefore ofVersion0 profileIn profileOk mdiaOf minfOf stblOf tableOf elstOf drefOf idOf scaleOf durationOf subtypeOf profileOf moovOf movieScale movieProfile overLimits tooMany some first orElse wrongVersion wrongSize shortVideoDescription wrongTrackSize fileRows rowsOf entries runsOf perSample wordsAfter sizes chunkOffsets syncs syncsAgree deals perChunk dealsContradict edits editTotal editsOk miscounted contradicts totalIn totalTooLarge otherDuration isThisFile namesThisFile allInThisFile dataElsewhere chunkPastEnd wrongEdits sameIds idIsZero movieScaleIsZero scaleIsZero moovRows moovRefusal filmRefusal
 accepted-w = refl
 
 -- the track with ID 1: that there is one, its samples, total and scale, and its lists
@@ -74,14 +76,18 @@ pub track-w : trackOf (trackAsked bytes 1) ≡ plain
 unfolding accepted-w trackWith trackAsked signed32 compositionOffset isSync descriptionIds leastSize trackOf
 track-w = refl
 
+pub runs-w : runsOf (tableOf stts (trackAsked bytes 1)) ≡ record { count = 3; value = 24 } ∷ record { count = 1; value = 48 } ∷ []
+unfolding accepted-w trackWith trackAsked
+runs-w = refl
+
 -- the cases hold of each file that has such a track, from these numbers and the lists alone
 from-lists : (s : List ℕ) → askRefusal s wholeFile 1 ≡ 0 → askRefusal s (strictly wholeFile) 1 ≡ 0 → samplesOf (trackAsked s 1) ≡ 4 → totalIn (trackAsked s 1) ≡ 120 → scaleOf (trackAsked s 1) ≡ 600
-    → trackOf (trackAsked s 1) ≡ plain → AllHold s cases
-unfolding offsetOf pairOf noRoom filledRoom roomAfter orElse groupsIn groups writes slipBytes atRefusal atNumber sampleOf sampleRefusal firstIn pastIn pairsIn bytesIn stretchPairs spanRefusal stretchRefusal slipHead slipOfStretch slipRefusal
-from-lists s asked strict four total scale track =
-    rw (asked, strict, four, total, scale, track)
-    (refl, (refl, (refl, (refl, (refl, (refl, (refl, (refl, (refl, (refl, ((refl, refl), ((refl, refl), ((refl, refl), ((refl, refl), tt))))))))))))))
+    → trackOf (trackAsked s 1) ≡ plain → runsOf (tableOf stts (trackAsked s 1)) ≡ record { count = 3; value = 24 } ∷ record { count = 1; value = 48 } ∷ [] → AllHold s cases
+unfolding offsetOf pairOf noRoom filledRoom roomAfter orElse groupsIn groups writes slipBytes atRefusal atNumber atEntry entryOf sampleOf sampleRefusal firstIn pastIn pairsIn bytesIn stretchPairs spanRefusal stretchRefusal slipHead slipOfStretch slipRefusal
+from-lists s asked strict four total scale track runs =
+    rw (asked, strict, four, total, scale, track, runs)
+    (refl, (refl, (refl, (refl, (refl, (refl, (refl, (refl, (refl, (refl, (refl, ((refl, refl), ((refl, refl), ((refl, refl), ((refl, refl), tt)))))))))))))))
 
 -- "proved as a single theorem over the list of them"
 pub film-w : AllHold bytes cases
-film-w = from-lists bytes asked-w asked-strictly-w samples-w total-w scale-w track-w
+film-w = from-lists bytes asked-w asked-strictly-w samples-w total-w scale-w track-w runs-w

@@ -1,4 +1,4 @@
--- Film W of document 01, byte by byte: an atom a definition, each beginning with its size and the four characters of its type. The quotes are
+-- Film W of document 01, with document 02's dinf, byte by byte: an atom a definition, each beginning with its size and the four characters of its type. The quotes are
 -- the document's. These are the 4,096 bytes of films/w.mov (host/reference/tests/film_w_bytes.rs holds the two together).
 use Prim.Native.Nat.{ℕ, zero, suc, _%_}
 use mathlib.Core.List.{List, [], _∷_, _++_}
@@ -20,11 +20,21 @@ mdhd = 0 ∷ 0 ∷ 0 ∷ 32 ∷ 109 ∷ 100 ∷ 104 ∷ 100 ∷ replicate 12 0 +
 abbrev pub hdlr : List ℕ
 hdlr = 0 ∷ 0 ∷ 0 ∷ 32 ∷ 104 ∷ 100 ∷ 108 ∷ 114 ∷ 0 ∷ 0 ∷ 0 ∷ 0 ∷ 109 ∷ 104 ∷ 108 ∷ 114 ∷ 118 ∷ 105 ∷ 100 ∷ 101 ∷ replicate 12 0
 
--- "one description": of 36 bytes, its format jpeg, 320 by 240
+-- "W gains a dinf with one such entry": of 12 bytes, its type alis, its lowest flag bit set
+abbrev pub dref : List ℕ
+dref =
+    0 ∷ 0 ∷ 0 ∷ 28 ∷ 100 ∷ 114 ∷ 101 ∷ 102 ∷ 0 ∷ 0 ∷ 0 ∷ 0 ∷ 0 ∷ 0 ∷ 0 ∷ 1
+    ∷ 0 ∷ 0 ∷ 0 ∷ 12 ∷ 97 ∷ 108 ∷ 105 ∷ 115 ∷ 0 ∷ 0 ∷ 0 ∷ 1
+    ∷ []
+
+abbrev pub dinf : List ℕ
+dinf = 0 ∷ 0 ∷ 0 ∷ 36 ∷ 100 ∷ 105 ∷ 110 ∷ 102 ∷ [] ++ dref
+
+-- "one description": of 36 bytes, its format jpeg, its reference index 1, 320 by 240
 abbrev pub stsd : List ℕ
 stsd =
     0 ∷ 0 ∷ 0 ∷ 52 ∷ 115 ∷ 116 ∷ 115 ∷ 100 ∷ 0 ∷ 0 ∷ 0 ∷ 0 ∷ 0 ∷ 0 ∷ 0 ∷ 1
-    ∷ 0 ∷ 0 ∷ 0 ∷ 36 ∷ 106 ∷ 112 ∷ 101 ∷ 103 ∷ replicate 24 0 ++ 1 ∷ 64 ∷ 0 ∷ 240 ∷ []
+    ∷ 0 ∷ 0 ∷ 0 ∷ 36 ∷ 106 ∷ 112 ∷ 101 ∷ 103 ∷ replicate 7 0 ++ 1 ∷ replicate 16 0 ++ 1 ∷ 64 ∷ 0 ∷ 240 ∷ []
 
 -- "stts (3,24),(1,48)"
 abbrev pub stts : List ℕ
@@ -65,26 +75,26 @@ abbrev pub stbl : List ℕ
 stbl = 0 ∷ 0 ∷ 0 ∷ 192 ∷ 115 ∷ 116 ∷ 98 ∷ 108 ∷ [] ++ stsd ++ stts ++ stsc ++ stsz ++ stco
 
 abbrev pub minf : List ℕ
-minf = 0 ∷ 0 ∷ 0 ∷ 200 ∷ 109 ∷ 105 ∷ 110 ∷ 102 ∷ [] ++ stbl
+minf = 0 ∷ 0 ∷ 0 ∷ 236 ∷ 109 ∷ 105 ∷ 110 ∷ 102 ∷ [] ++ dinf ++ stbl
 
 abbrev pub mdia : List ℕ
-mdia = 0 ∷ 0 ∷ 1 ∷ 16 ∷ 109 ∷ 100 ∷ 105 ∷ 97 ∷ [] ++ mdhd ++ hdlr ++ minf
+mdia = 0 ∷ 0 ∷ 1 ∷ 52 ∷ 109 ∷ 100 ∷ 105 ∷ 97 ∷ [] ++ mdhd ++ hdlr ++ minf
 
 -- "one track"
 abbrev pub trak : List ℕ
-trak = 0 ∷ 0 ∷ 1 ∷ 116 ∷ 116 ∷ 114 ∷ 97 ∷ 107 ∷ [] ++ tkhd ++ mdia
+trak = 0 ∷ 0 ∷ 1 ∷ 152 ∷ 116 ∷ 114 ∷ 97 ∷ 107 ∷ [] ++ tkhd ++ mdia
 
 abbrev pub moov : List ℕ
-moov = 0 ∷ 0 ∷ 1 ∷ 232 ∷ 109 ∷ 111 ∷ 111 ∷ 118 ∷ [] ++ mvhd ++ trak
+moov = 0 ∷ 0 ∷ 2 ∷ 12 ∷ 109 ∷ 111 ∷ 111 ∷ 118 ∷ [] ++ mvhd ++ trak
 
 -- n bytes from the place i of the file on, each of them its place modulo 251
 abbrev pub placesFrom : ℕ → ℕ → List ℕ
 placesFrom i zero = []
 placesFrom i (suc n) = i % 251 ∷ placesFrom (suc i) n
 
--- the rest of the file: an atom of 14 × 256 + 24 bytes that is skipped, and in which the samples lie. The document leaves its bytes open
+-- the rest of the file: an atom of 13 × 256 + 244 bytes that is skipped, and in which the samples lie. The document leaves its bytes open
 abbrev pub mdat : List ℕ
-mdat = 0 ∷ 0 ∷ 14 ∷ 24 ∷ 109 ∷ 100 ∷ 97 ∷ 116 ∷ [] ++ placesFrom 496 3600
+mdat = 0 ∷ 0 ∷ 13 ∷ 244 ∷ 109 ∷ 100 ∷ 97 ∷ 116 ∷ [] ++ placesFrom 532 3564
 
 abbrev pub bytes : List ℕ
 bytes = moov ++ mdat

@@ -37,17 +37,18 @@ pub data Case : Type 0 where
 abbrev pub lent : ℕ → List ℕ
 lent n = replicate n 9
 
--- "time 0: sample 1; 23: 1; 24: 2; 72: 4; 119: 4; 120: refused 15."
+-- "time 0: sample 1; 23: 1; 24: 2; 72: 4; 119: 4; 120: refused 15." With each sample the position of its stts entry, which changes after time 71
 -- "sample 3: decode 48, chunk 1, offset 1150, size 0. Sample 4: chunk 2, offset 900. Sample 0 and 5: refused 15."
 -- "stretch 24 to 73: (1100,50),(900,70), 120 bytes. 0 to 120: (1000,150),(900,70), 220 bytes. 24 to 24: refused 15."
 -- "slip of 24 to 73: 01 01 D8 04 18 49 02 CC 08 32 84 07 46."
 abbrev pub cases : List Case
 cases =
-    time 0 (times.Number 1)
-    ∷ time 23 (times.Number 1)
-    ∷ time 24 (times.Number 2)
-    ∷ time 72 (times.Number 4)
-    ∷ time 119 (times.Number 4)
+    time 0 (times.Number 1 1)
+    ∷ time 23 (times.Number 1 1)
+    ∷ time 24 (times.Number 2 1)
+    ∷ time 71 (times.Number 3 1)
+    ∷ time 72 (times.Number 4 2)
+    ∷ time 119 (times.Number 4 2)
     ∷ time 120 (times.Refused 15)
     ∷ sample 3
     (samples.Found (record { decode = 48; duration = 24; composition = pos 48; sync = true; description = 1; chunk = 1; offset = 1150; size = 0 }))

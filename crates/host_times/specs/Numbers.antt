@@ -6,7 +6,7 @@ use Rattle.structure.specs.declared.source.Source.{Source}
 use Rattle.questions.specs.Times.{atAnswer, numberNumbers, mapAnswer, timeNumbers}
 use Rattle.hand.specs.Times.{media, movie}
 
--- "the n with decode time ≤ t < decode time plus duration"
+-- "the n with decode time ≤ t < decode time plus duration", and "the position, from 1, of the entry that holds the answered sample"
 abbrev pub ofSampleAt : List ℕ → Source → ℕ → ℕ → List ℕ
 ofSampleAt s w id t = numberNumbers (atAnswer s w id (media t))
 

@@ -10,13 +10,13 @@ use structure::source::Source;
 ghost use Rattle.hand.specs.Places.{Answers};
 ghost use Rattle.host_times.specs.Numbers.{ofSampleAt, ofMediaTime};
 
-// The number of the sample at media time t, in one place.
+// The number of the sample at media time t and the position of its entry in stts, in two places.
 pub fn hand_sample_at(lent: &[u8], source: Source, id: u32, t: u32, places: &mut [u64]) -> u32
     ensures { λ r. ⌜ Answers (ofSampleAt (now (lent .entry)) source id t) (now (places .entry)) r (now (places .exit)) ⌝ }
 {
     match sample_at_time(lent, source, id, MediaTime(t)) {
-        NumberAnswer::Number(n) => hand(0, &[n as u64], places),
-        NumberAnswer::Refused(r) => hand(r, &[0], places),
+        NumberAnswer::Number(n, entry) => hand(0, &[n as u64, entry as u64], places),
+        NumberAnswer::Refused(r) => hand(r, &[0, 0], places),
     }
 }
 

@@ -5,7 +5,7 @@ use mathlib.Core.Bool.{Bool, true, false, cond, _&&_}
 use lib.ListN.{length, getD, drop}
 use lib.Dec.{leb, eqb}
 use Rattle.bigendian.specs.BigEndian.{u32At}
-use Rattle.atoms.specs.Kinds.{moov, trak, edts, mdia, stbl, mvhd, tkhd, mdhd, hdlr, stsd, stts, stsc, stsz, stco, elst, ctts, stss}
+use Rattle.atoms.specs.Kinds.{moov, trak, edts, mdia, dinf, stbl, mvhd, tkhd, mdhd, hdlr, dref, stsd, stts, stsc, stsz, stco, elst, ctts, stss}
 use Rattle.atoms.specs.Pieces.{pieces, filledBy, fitting}
 use Rattle.atoms.specs.Atoms.{kindOf, atoms}
 use Rattle.atoms.specs.Tree.{all}
@@ -43,7 +43,9 @@ formOf p k =
     (cond (eqb k stss) (inParent (eqb p stbl) (Entries 4))
     -- "stsd | filled exactly by n descriptions", "each: size (at least 16)"
     (cond (eqb k stsd) (inParent (eqb p stbl) (Sized 16))
-    Skipped)))))))))))
+    -- document 02: "count at 12, then entries of size at least 12, type, version and flags, filling it exactly"
+    (cond (eqb k dref) (inParent (eqb p dinf) (Sized 12))
+    Skipped))))))))))))
 
 -- whether it is no read leaf
 unfoldable pub skipped : Form → Bool
@@ -71,7 +73,7 @@ sizeEntry least s = fitting least (u32At s 0) s
 unfoldable pub filledWith : (List ℕ → ℕ) → ℕ → List ℕ → Bool
 filledWith size n s = filledBy size s && eqb n (length (pieces size s))
 
--- "filled exactly by n descriptions", "n at 12; each: size (at least 16)": for any least size
+-- "filled exactly by n descriptions", "n at 12; each: size (at least 16)"; "count at 12, then entries of size at least 12"
 unfoldable pub sizedEntries : ℕ → List ℕ → Bool
 sizedEntries least a = leb 16 (length a) && filledWith (sizeEntry least) (u32At a 12) (drop 16 a)
 

@@ -3,7 +3,7 @@ use Prim.Native.Nat.{ℕ}
 use mathlib.Core.List.{List}
 use mathlib.Core.Bool.{Bool, true, cond, _&&_}
 use lib.Dec.{leb, eqb}
-use Rattle.atoms.specs.Kinds.{file, moov, trak, edts, mdia, minf, stbl, mvhd, tkhd, mdhd, hdlr, stsd, stts, stsc, stsz, stco, elst, ctts, stss}
+use Rattle.atoms.specs.Kinds.{file, moov, trak, edts, mdia, minf, dinf, stbl, mvhd, tkhd, mdhd, hdlr, dref, stsd, stts, stsc, stsz, stco, elst, ctts, stss}
 use Rattle.atoms.specs.Atoms.{countIn}
 
 -- "Exactly one"
@@ -32,7 +32,9 @@ present p s =
     (cond (eqb p edts) (one edts elst s)
     -- "mdhd, hdlr and minf in mdia"
     (cond (eqb p mdia) (one mdia mdhd s && one mdia hdlr s && one mdia minf s)
-    -- "stbl in minf"
-    (cond (eqb p minf) (one minf stbl s)
+    -- "stbl in minf"; document 02: "one 'dinf' container in minf"
+    (cond (eqb p minf) (one minf stbl s && one minf dinf s)
     (cond (eqb p stbl) (tables s)
-    true))))))
+    -- "one read leaf 'dref' in it"
+    (cond (eqb p dinf) (one dinf dref s)
+    true)))))))

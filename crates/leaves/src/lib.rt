@@ -50,6 +50,7 @@ fn form_of(parent: u32, kind: u32) -> Form
         kinds::STSZ => in_parent(parent == kinds::STBL, Form::Sizes),
         kinds::STCO | kinds::STSS => in_parent(parent == kinds::STBL, Form::Entries(4)),
         kinds::STSD => in_parent(parent == kinds::STBL, Form::Sized(16)),
+        kinds::DREF => in_parent(parent == kinds::DINF, Form::Sized(12)),
         _ => Form::Skipped,
     }
 }

@@ -46,8 +46,12 @@ pub(crate) fn has_its_atoms(body: &[u8], parent: u32) -> bool
             );
             both(a, one_of(body, kinds::MDIA, kinds::MINF))
         }
-        kinds::MINF => one_of(body, kinds::MINF, kinds::STBL),
+        kinds::MINF => both(
+            one_of(body, kinds::MINF, kinds::STBL),
+            one_of(body, kinds::MINF, kinds::DINF),
+        ),
         kinds::STBL => has_tables(body),
+        kinds::DINF => one_of(body, kinds::DINF, kinds::DREF),
         _ => true,
     }
 }

@@ -15,7 +15,7 @@ use Rattle.structure.specs.Movie.{moovOf, movieScale, tracksOf}
 use Rattle.structure.proofs.Shaped.{Shaped, ShapedMovie, ShapedFile}
 use Rattle.structure.proofs.Callers.{Clear, clear, some-none, shaped, none-else, Each, tracks-each}
 use Rattle.edits.specs.Edits.{editTotal}
-use Rattle.track.specs.Refusals.{contradicts, totalIn, totalTooLarge, otherDuration, chunkPastEnd, wrongEdits}
+use Rattle.track.specs.Refusals.{contradicts, totalIn, totalTooLarge, otherDuration, dataElsewhere, chunkPastEnd, wrongEdits}
 use Rattle.movie.specs.Tracks.{idsOf, repeats}
 use Rattle.movie.specs.Refusals.{sameIds, idIsZero, movieScaleIsZero, scaleIsZero, filmRefusal}
 use Rattle.movie.specs.TableRows.{tableRows, tablesRefusal}
@@ -30,6 +30,7 @@ pub record Accepted (w : Source) (scale len : ℕ) (t : List ℕ) : Type 0 where
   pub total-fits : totalIn t ≤ 4294967295
   pub edits-fit : editTotal (elstOf t) ≤ 4294967295
   pub stored : w .strict ≡ true → durationOf t ≡ totalIn t
+  pub here : dataElsewhere t ≡ false
   pub within : chunkPastEnd len t ≡ false
   pub edits : wrongEdits scale t ≡ false
 
@@ -46,7 +47,7 @@ pub record AcceptedFile (s : List ℕ) (w : Source) : Type 0 where
 module _ (w : Source) (len : ℕ) (m : List ℕ) (shape : ShapedMovie m) (e : tablesRefusal w len m ≡ 0) where
   rows-clear : Clear (λ r. r .whole m || some (r .track) (tracksOf m)) (tableRows w (movieScale m) len)
   unfolding tablesRefusal
-  rows-clear = clear _ 6 (tableRows w (movieScale m) len) (table-rows-rise w (movieScale m) len) e
+  rows-clear = clear _ 12 (tableRows w (movieScale m) len) (table-rows-rise w (movieScale m) len) e
 
   accepted-movie : AcceptedMovie w len m
   unfolding tableRows sameIds idIsZero movieScaleIsZero scaleIsZero totalTooLarge otherDuration
@@ -67,8 +68,9 @@ module _ (w : Source) (len : ℕ) (m : List ℕ) (shape : ShapedMovie m) (e : ta
               total-fits = ltb-false _ _ (or-left _ _ long);
               edits-fit = ltb-false _ _ (or-right (ltb 4294967295 (totalIn t)) _ long);
               stored = λ q. eqb-true _ _ (not-false _ (rw q at (some-none (otherDuration w) (tracksOf m) i (r .1 .1 .1 .1 .0) h)));
-              within = some-none (chunkPastEnd len) (tracksOf m) i (r .1 .1 .1 .1 .1 .0) h;
-              edits = some-none (wrongEdits (movieScale m)) (tracksOf m) i (r .1 .1 .1 .1 .1 .1 .0) h;
+              here = some-none dataElsewhere (tracksOf m) i (r .1 .1 .1 .1 .1 .0) h;
+              within = some-none (chunkPastEnd len) (tracksOf m) i (r .1 .1 .1 .1 .1 .1 .0) h;
+              edits = some-none (wrongEdits (movieScale m)) (tracksOf m) i (r .1 .1 .1 .1 .1 .1 .1 .0) h;
             };
       }
 

@@ -1,4 +1,4 @@
--- Rows 7 to 13 of the table: they follow those of the crate structure, and each track's own are those that the crate track judges.
+-- Rows 7 to 13 and 19 of the table: they follow those of the crate structure, and each track's own are those that the crate track judges.
 -- Assumes nothing.
 use Prim.Native.Nat.{ℕ, zero, suc, _<_, _^_}
 use mathlib.Core.Path.{_≡_, refl, sym, ap, _∙_}
@@ -11,12 +11,12 @@ use borrow.Author.Tests.{eq-eqb, ne-eqb}
 use Rattle.atoms.specs.Kinds.{file, moov}
 use Rattle.atoms.proofs.Lengths.{body-short}
 use Rattle.structure.specs.declared.source.Source.{Source}
-use Rattle.structure.specs.Rows.{first, numbersRise, lowest, ofWhole, orElse}
-use Rattle.structure.specs.ByTracks.{ofTrack, ofTracks, lowerOf}
+use Rattle.structure.specs.Rows.{first, rank, ranksRise, firstJudged, ofWhole, orElse}
+use Rattle.structure.specs.ByTracks.{ofTrack, ofTracks, earlierOf}
 use Rattle.structure.specs.Movie.{moovOf, movieScale, tracksOf}
 use Rattle.structure.specs.Refusals.{fileRows}
 use Rattle.structure.specs.MovieRows.{movieRows, movieRefusal, refusalOf}
-use Rattle.structure.proofs.Rows.{by-tracks, lowest-append}
+use Rattle.structure.proofs.Rows.{by-tracks, judged-append}
 use Rattle.structure.proofs.Tracks.{movie-rows-rise}
 use Rattle.structure.proofs.Callers.{shaped}
 use Rattle.track.specs.TrackRows.{trackRows, timedRows}
@@ -27,8 +27,8 @@ pub rows-are : (w : Source) (scale len : ℕ) → moovRows w scale len ≡ movie
 unfolding moovRows movieRows tableRows
 rows-are w scale len = refl
 
-pub table-rows-rise : (w : Source) (scale len : ℕ) → numbersRise 6 (tableRows w scale len) ≡ true
-unfolding numbersRise tableRows
+pub table-rows-rise : (w : Source) (scale len : ℕ) → ranksRise 12 (tableRows w scale len) ≡ true
+unfolding rank ranksRise tableRows
 table-rows-rise w scale len = refl
 
 -- a track's own number is what the crate track answers
@@ -37,17 +37,17 @@ unfolding first trackRows timedRows tableRows idIsZero scaleIsZero
 track-rows w scale len t = refl
 
 pub tables-by-tracks : (w : Source) (scale len : ℕ) (m : List ℕ) → scale ≡ movieScale m
-    → tablesRefusal w len m ≡ lowerOf (ofWhole (tableRows w scale len) m) (ofTracks (tableRows w scale len) (tracksOf m))
+    → tablesRefusal w len m ≡ earlierOf (ofWhole (tableRows w scale len) m) (ofTracks (tableRows w scale len) (tracksOf m))
 unfolding tablesRefusal
-tables-by-tracks w scale len m e = rw (← e) (by-tracks 6 (tableRows w scale len) m (tracksOf m) (table-rows-rise w scale len))
+tables-by-tracks w scale len m e = rw (← e) (by-tracks 12 (tableRows w scale len) m (tracksOf m) (table-rows-rise w scale len))
 
 -- ---- the whole
 
 pub moov-is : (w : Source) (len : ℕ) (m : List ℕ) → moovRefusal w len m ≡ orElse (movieRefusal m) (tablesRefusal w len m)
 unfolding moovRefusal movieRefusal tablesRefusal
 moov-is w len m =
-    ap (λ rs. lowest rs m (tracksOf m)) (rows-are w (movieScale m) len)
-    ∙ lowest-append 3 movieRows (tableRows w (movieScale m) len) m (tracksOf m) movie-rows-rise
+    ap (λ rs. firstJudged rs m (tracksOf m)) (rows-are w (movieScale m) len)
+    ∙ judged-append 6 movieRows (tableRows w (movieScale m) len) m (tracksOf m) movie-rows-rise
 
 else-assoc : (a b c : ℕ) → orElse a (orElse b c) ≡ orElse (orElse a b) c
 unfolding orElse

@@ -1,4 +1,4 @@
--- The refusals of a file, 1 to 13: the paper's table, row after row. Of all lists of rows this one, `moovRows` with `fileRows`, is to be
+-- The refusals of a file, 1 to 13 and 19: the paper's table, row after row, in the order of judging. Of all lists of rows this one, `moovRows` with `fileRows`, is to be
 -- believed, and `fileRefusal`, which judges by it.
 use Prim.Native.Nat.{ℕ}
 use mathlib.Core.List.{List, [], _∷_}
@@ -9,9 +9,9 @@ use Rattle.structure.specs.declared.source.Source.{Source}
 use Rattle.structure.specs.Track.{idOf, scaleOf}
 use Rattle.structure.specs.Movie.{moovOf, tracksOf, movieScale}
 use Rattle.structure.specs.Limits.{overLimits, tooMany}
-use Rattle.structure.specs.Rows.{Row, row, never, ofWhole, lowest, orElse}
+use Rattle.structure.specs.Rows.{Row, row, never, ofWhole, firstJudged, orElse}
 use Rattle.structure.specs.Refusals.{wrongVersion, wrongSize, wrongTrackSize, fileRows}
-use Rattle.track.specs.Refusals.{contradicts, totalTooLarge, otherDuration, chunkPastEnd, wrongEdits}
+use Rattle.track.specs.Refusals.{contradicts, totalTooLarge, otherDuration, dataElsewhere, chunkPastEnd, wrongEdits}
 use Rattle.movie.specs.Tracks.{idsOf, repeats}
 
 -- 7, of a movie: "a track ID .. occurs twice"; of a track: "a track ID is 0"
@@ -40,14 +40,16 @@ moovRows w scale len =
     ∷ row 9 never contradicts
     ∷ row 10 never totalTooLarge
     ∷ row 11 never (otherDuration w)
+    -- "19, data elsewhere or no such entry, judged after 11 and before 12"
+    ∷ row 19 never dataElsewhere
     ∷ row 12 never (chunkPastEnd len)
     ∷ row 13 never (wrongEdits scale)
     ∷ []
 
 -- the refusal of a movie, from the body of its moov and the length of its file; 0 where it is not refused
 unfoldable pub moovRefusal : Source → ℕ → List ℕ → ℕ
-moovRefusal w len m = lowest (moovRows w (movieScale m) len) m (tracksOf m)
+moovRefusal w len m = firstJudged (moovRows w (movieScale m) len) m (tracksOf m)
 
--- the refusal of a film, from the bytes lent and its source: the lowest number that applies; 0 where the film is not refused
+-- the refusal of a film, from the bytes lent and its source: the first in the order judged; 0 where the film is not refused
 unfoldable pub filmRefusal : List ℕ → Source → ℕ
 filmRefusal s w = orElse (ofWhole fileRows s) (moovRefusal w (length s) (moovOf s))

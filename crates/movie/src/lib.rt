@@ -1,11 +1,11 @@
-// A movie file: refusals 1 to 13 as one answer, and its tracks by ID.
+// A movie file: refusals 1 to 13 and 19 as one answer, and its tracks by ID.
 pub mod tracks;
 
 use atoms::body_of;
 use atoms::kinds;
 use atoms::size_in;
 use bigendian::u32_at;
-use structure::lower_of;
+use structure::earlier_of;
 use structure::moov::moov_body;
 use structure::moov::movie_scale;
 use structure::source::Source;
@@ -32,7 +32,7 @@ fn own_refusal(moov: &[u8], scale: u32, len: u64, source: Source) -> u32
     0
 }
 
-// The lowest of 7 to 13 that applies to a movie, from the body of its moov, the length of its file and its source; 0 where none does.
+// The first of 7 to 13 and 19, in the order of judging, that applies to a movie, from the body of its moov, the length of its file and its source; 0 where none does.
 fn tables_refusal(moov: &[u8], len: u64, source: Source) -> u32
     requires { ⌜ length (now moov) < 2 ^ 32 ⌝ }
     ensures { λ r. ⌜ r ≡ tablesRefusal source len (now (moov .entry)) ⌝ }
@@ -47,13 +47,13 @@ fn tables_refusal(moov: &[u8], len: u64, source: Source) -> u32
         }
         if u32_at(t, 4) == kinds::TRAK {
             let next = track::refusal(body_of(&t[..n]), scale, len, source);
-            found = lower_of(found, next);
+            found = earlier_of(found, next);
         }
         t = &t[n..];
     }
 }
 
-// The refusal of a film: the lowest of 1 to 13 that applies, or 0.
+// The refusal of a film: the first of 1 to 13 and 19 in the order of judging that applies, or 0.
 pub fn refusal(lent: &[u8], source: Source) -> u32
     ensures { λ r. ⌜ r ≡ filmRefusal (now (lent .entry)) source ⌝ }
 {

@@ -1,6 +1,5 @@
 -- Peaks of small tracks, each computed from the definitions.
 -- Assumes nothing.
-use Prim.Native.Nat.{ℕ}
 use mathlib.Core.Path.{_≡_, refl}
 use mathlib.Core.List.{[], _∷_}
 use Rattle.rates.specs.Rates.{roundUp, valueOf, rateOf}

@@ -1,8 +1,7 @@
 pub mod Sentences
-pub mod Bests
-pub mod Sliding
 pub mod Overs
 pub mod Passing
 pub mod Skipping
+pub mod EntrySlides
 pub mod Placing
 mod Examples

@@ -1,8 +1,8 @@
 -- A window slid on over sizes: what leaves it and what enters it, turn by turn, over listed sizes and over a common one.
 -- Assumes nothing.
-use Prim.Native.Nat.{ℕ, zero, suc, _+_, _-_, _*_, _/_, _≤_, _<_}
+use Prim.Native.Nat.{ℕ, zero, suc, _+_, _-_, _*_, _≤_, _<_}
 use mathlib.Core.Path.{_≡_, refl, sym, ap, _∙_}
-use mathlib.Core.List.{List, [], _∷_}
+use mathlib.Core.List.{List}
 use native.Mathlib.Omega.{arith}
 use native.Mathlib.Numerals.{add-one}
 use native.Mathlib.Nat.{add-mul}
@@ -14,48 +14,55 @@ use Rattle.lists.specs.Lists.{sum, before}
 use Rattle.lists.proofs.Laws.{sum-replicate, replicate-take}
 use Rattle.lists.proofs.Places.{before-suc, before-mono, before-drop}
 use Rattle.words.specs.Words.{wordsIn, sizes}
-use Rattle.words.proofs.Turns.{words-none, words-next, words-drop, words-take, length-words, sizes-listed, sizes-common}
+use Rattle.words.proofs.Turns.{words-next, words-drop, words-take, length-words, sizes-listed, sizes-common}
 use Rattle.peaks.specs.declared.Slide.{Slide}
 use Rattle.peaks.specs.Slides.{Stays, SlidOver, MaySlide, Slid}
-use Rattle.peaks.proofs.Sliding.{at-cons}
+use Rattle.windows.proofs.Sliding.{at-cons}
 
 -- ---- turn by turn over listed sizes
 
--- after some turns: the parts that are left, and the bytes
-pub record Over (tails heads : List ℕ) (bytes most : ℕ) (t h : List ℕ) (moved total : ℕ) : Type 0 where
+-- after some turns: the parts that are left, and the bytes, as what entered without what left
+pub record Over (tails heads : List ℕ) (bytes most : ℕ) (t h : List ℕ) (moved entered left : ℕ) : Type 0 where
   pub tails-left : wordsIn t ≡ drop moved (wordsIn tails)
   pub heads-left : wordsIn h ≡ drop moved (wordsIn heads)
   pub longer : length h ≤ length t
-  pub so-far : SlidOver (wordsIn tails) (wordsIn heads) bytes most (record { moved = moved; bytes = total })
+  pub held : left ≤ entered
+  pub few : entered ≤ bytes + moved * 4294967295
+  pub so-far : SlidOver (wordsIn tails) (wordsIn heads) bytes most (record { moved = moved; bytes = entered - left })
 
 module _ (tails heads : List ℕ) (bytes most : ℕ) (s : Stays (wordsIn tails) (wordsIn heads) bytes most) where
-  pub over-start : length heads ≤ length tails → Over tails heads bytes most tails heads 0 bytes
+  pub over-start : length heads ≤ length tails → Over tails heads bytes most tails heads 0 bytes 0
   over-start l = record {
     tails-left = refl;
     heads-left = refl;
     longer = l;
-    so-far = record { within = omega arith; total = refl; low = λ k g. at-zero k g; step = omega arith };
+    held = omega arith;
+    few = omega arith;
+    so-far = record { within = omega arith; total = rw none-left refl; low = λ k g. at-zero k g; step = omega arith };
   }
     where
+      none-left : bytes - 0 ≡ bytes
+      none-left = omega arith
+
       at-zero : (k : ℕ) → k ≤ 0 → bytes + before (wordsIn heads) k ≤ most + before (wordsIn tails) k
       at-zero zero g = omega (arith, s .low)
       at-zero (suc k) g = absurd (omega arith)
 
-  module _ (t h : List ℕ) (moved total : ℕ) (o : Over tails heads bytes most t h moved total) (l : 4 ≤ length h) where
+  module _ (t h : List ℕ) (moved entered left : ℕ) (o : Over tails heads bytes most t h moved entered left) (l : 4 ≤ length h) where
     head-is : (getD (wordsIn heads) moved 0 ≡ u32At h 0) × (drop (suc moved) (wordsIn heads) ≡ wordsIn (drop 4 h)) × (moved < length (wordsIn heads))
     head-is = at-cons (wordsIn heads) moved (u32At h 0) (wordsIn (drop 4 h)) (sym (o .heads-left) ∙ words-next h l)
 
     tail-is : (getD (wordsIn tails) moved 0 ≡ u32At t 0) × (drop (suc moved) (wordsIn tails) ≡ wordsIn (drop 4 t)) × (moved < length (wordsIn tails))
     tail-is = at-cons (wordsIn tails) moved (u32At t 0) (wordsIn (drop 4 t)) (sym (o .tails-left) ∙ words-next t (omega (arith, o .longer)))
 
-    pub leaves : {x : ℕ} → x ≡ u32At t 0 → x ≤ total
-    leaves e = omega (arith, o .so-far .total, s .held moved (head-is .2), before-suc (wordsIn tails) moved, tail-is .0)
+    pub leaves : {x : ℕ} → x ≡ u32At t 0 → left + x ≤ entered
+    leaves e = omega (arith, o .held, o .so-far .total, s .held moved (head-is .2), before-suc (wordsIn tails) moved, tail-is .0)
 
     pub moves : moved < 1048576
     moves = omega (arith, head-is .2, s .few)
 
-    pub over-next : {x y : ℕ} → x ≡ u32At h 0 → y ≡ u32At t 0 → x < 4294967296 → total + x - y ≤ most
-        → Over tails heads bytes most (drop 4 t) (drop 4 h) (moved + 1) (total + x - y)
+    pub over-next : {x y : ℕ} → x ≡ u32At h 0 → y ≡ u32At t 0 → x < 4294967296 → entered + x - (left + y) ≤ most
+        → Over tails heads bytes most (drop 4 t) (drop 4 h) (moved + 1) (entered + x) (left + y)
     over-next {x} {y} e f b k =
         let p = head-is in
         let q = tail-is in
@@ -66,14 +73,16 @@ module _ (tails heads : List ℕ) (bytes most : ℕ) (s : Stays (wordsIn tails) 
           tails-left = sym (q .1);
           heads-left = sym (p .1);
           longer = omega (arith, length-drop 4 t, length-drop 4 h, o .longer);
+          held = omega arith;
+          few = omega (arith, o .few);
           so-far = record {
             within = omega (arith, p .2);
-            total = omega (arith, o .so-far .total, p .0, q .0);
+            total = omega (arith, o .held, o .so-far .total, p .0, q .0);
             low = λ i g. elim (decLt i (suc moved)) [
               | yes m ↦ o .so-far .low i (omega arith)
-              | no m ↦ let w : i ≡ suc moved = omega arith in rw w (omega (arith, o .so-far .total, p .0, q .0))
+              | no m ↦ let w : i ≡ suc moved = omega arith in rw w (omega (arith, o .held, o .so-far .total, p .0, q .0))
             ];
-            step = omega (arith, o .so-far .step);
+            step = omega (arith, o .few);
           };
         })
 

@@ -1,6 +1,6 @@
 -- What the pass keeps of the best run so far, step by step, and what it has at its end.
 -- Assumes nothing.
-use Prim.Native.Nat.{ℕ, suc, _+_, _-_, _*_, _≤_, _<_}
+use Prim.Native.Nat.{ℕ, suc, _+_, _-_, _≤_, _<_}
 use mathlib.Core.Path.{_≡_, refl, sym, ap, _∙_}
 use mathlib.Core.List.{List}
 use native.Mathlib.Omega.{arith}
@@ -10,68 +10,15 @@ use lib.ListN.{length, drop}
 use borrow.Author.Tests.{lt-ltb, le-ltb}
 use Rattle.lists.specs.Lists.{sum, before}
 use Rattle.lists.proofs.Places.{before-le, before-all}
-use Rattle.rates.specs.Rates.{rateOf}
-use Rattle.rates.specs.declared.Feature.{Feature}
-use Rattle.rates.specs.declared.Feature.the-variants as features
-use Rattle.rates.proofs.Orders.{eightfold}
 use Rattle.runs.specs.Runs.{perSample}
 use Rattle.words.specs.Words.{sizes}
-use Rattle.peaks.specs.Peaks.{Timed}
-use Rattle.peaks.specs.declared.Window.{Window}
-use Rattle.peaks.specs.declared.RatedRun.{RatedRun}
-use Rattle.peaks.specs.declared.Best.{Best}
-use Rattle.peaks.specs.declared.Best.the-variants.{Run, NotComputed}
-use Rattle.peaks.specs.Windows.{Slides, Reaches, ratedAs, ratedRun, better, noRun, bestFrom, bestOf, IsRated, Raises}
+use Rattle.windows.specs.Windows.{Timed}
+use Rattle.windows.specs.declared.Window.{Window}
+use Rattle.windows.specs.declared.Best.{Best}
+use Rattle.windows.specs.Windows.{Reaches, ratedRun, better, noRun, bestFrom, bestOf, IsRated, Raises}
 use Rattle.peaks.specs.Slides.{Absorbs, Skips}
-use Rattle.peaks.proofs.Bests.{better-assoc, better-same, better-none, better-again, better-first, better-second, better-kept}
-use Rattle.peaks.proofs.Sliding.{best-none, peak-here, peak-end}
-
--- ---- a window's run with its rate
-
-uncomputed-rated : (s : ℕ) → IsRated s NotComputed
-uncomputed-rated s b e = let z : _≡_ {A = ℕ} 0 1 = cc in absurd (omega arith)
-
-module _ (s i n bytes span : ℕ) (f : Feature) (e : f ≡ rateOf (bytes * (8 * s)) span) where
-  is-rate : f ≡ rateOf (8 * bytes * s) span
-  is-rate = e ∙ ap (λ (x : ℕ). rateOf x span) (eightfold bytes s)
-
-  pub rated-some : (v : ℕ) → span < 4294967296 → f ≡ features.Value v
-      → (Run (record { rate = v; first = i + 1; count = n; bytes = bytes; span = span }) ≡ ratedRun s i n bytes span)
-      × IsRated s (Run (record { rate = v; first = i + 1; count = n; bytes = bytes; span = span }))
-  rated-some v h g =
-      let r : rateOf (8 * bytes * s) span ≡ features.Value v = sym is-rate ∙ g in (
-        ap (λ (x : Feature). ratedAs x i n bytes span) (sym r),
-        λ b q. let k : record { rate = v; first = i + 1; count = n; bytes = bytes; span = span } ≡ b = cc in rw (← k) (r, h),
-      )
-
-  pub rated-none : f ≡ features.NotComputed → (NotComputed ≡ ratedRun s i n bytes span) × IsRated s NotComputed
-  rated-none g = (ap (λ (x : Feature). ratedAs x i n bytes span) (sym g ∙ is-rate), uncomputed-rated s)
-
--- ---- the best run so far and that of a window
-
-module _ (s : ℕ) (x : Best) (w : Window) (h : IsRated s x) where
-  abbrev here : Best
-  here = ratedRun s (w .first) (w .stop - w .first) (w .bytes) (w .span)
-
-  pub raised-none : x ≡ NotComputed → Raises s x w x
-  raised-none e = record { kept = rw e; rated = h }
-
-  module _ (b : RatedRun) (e : x ≡ Run b) where
-    pub raised-kept : 0 < w .span → w .span < 4294967296 → w .bytes * b .span ≤ b .bytes * w .span → Raises s x w (Run b)
-    raised-kept p l k = record {
-      kept = rw e (sym (better-kept s b (w .first) (w .stop - w .first) (w .bytes) (w .span) (h b e .0) p l k));
-      rated = rw e at h;
-    }
-
-    pub raised-uncomputed : NotComputed ≡ here → Raises s x w NotComputed
-    raised-uncomputed q = record { kept = rw e (ap (better (Run b)) q); rated = uncomputed-rated s }
-
-    module _ (r : RatedRun) (q : Run r ≡ here) (g : IsRated s (Run r)) where
-      pub raised-higher : b .rate < r .rate → Raises s x w (Run r)
-      raised-higher l = record { kept = rw e (sym (better-second b r l) ∙ ap (better (Run b)) q); rated = g }
-
-      pub raised-lower : r .rate ≤ b .rate → Raises s x w (Run b)
-      raised-lower l = record { kept = rw e (sym (better-first b r l) ∙ ap (better (Run b)) q); rated = rw e at h }
+use Rattle.windows.proofs.Bests.{better-assoc, better-same, better-none, better-again}
+use Rattle.windows.proofs.Sliding.{peak-here, peak-end}
 
 -- the run of the window is then no higher
 pub raised-absorbs : (s : ℕ) (x : Best) (w : Window) (y : Best) → Raises s x w y → Absorbs s y w
@@ -88,10 +35,6 @@ pub record Passes (s : ℕ) (t z : List ℕ) (x : Best) (w : Window) : Type 0 wh
   pub kept : better x (bestFrom s (w .first) (drop (w .first) (perSample t)) (drop (w .first) (sizes z))) ≡ bestOf s (perSample t) (sizes z)
 
 module _ (s : ℕ) (t z : List ℕ) (k : Timed s (perSample t) (sizes z)) where
-  -- how long a window lasts fits 32 bits, and it has no more samples than there may be
-  pub span-fits : (w : Window) → Slides s t z w → w .span < 4294967296
-  span-fits w h = omega (arith, k .total-fits, h .run .times, before-le (perSample t) (w .stop))
-
   module _ (w : Window) (h : Reaches s t z 0 w) where
     whole-track : w .span < s → ratedRun s (w .first) (w .stop - w .first) (w .bytes) (w .span) ≡ bestOf s (perSample t) (sizes z)
     unfolding bestOf

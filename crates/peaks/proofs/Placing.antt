@@ -7,21 +7,21 @@ use mathlib.Core.List.{List, [], _∷_}
 use native.Mathlib.Omega.{arith}
 use native.Mathlib.Decide.{decLt}
 use lib.Dec.{ltb}
-use lib.ListN.{length, take, drop}
+use lib.ListN.{length, drop}
 use borrow.Author.Tests.{lt-ltb, le-ltb, le-leb, lt-leb, eq-eqb, ne-eqb}
 use Rattle.lists.specs.Lists.{sum}
 use Rattle.rates.specs.declared.Feature.{Feature}
 use Rattle.rates.specs.declared.Feature.the-variants as features
 use Rattle.rates.specs.Rates.{rateOf}
-use Rattle.peaks.specs.Peaks.{runLength, runRate, higher, highest, peakOf, firstAt, placed, peakIn, rateIn}
-use Rattle.peaks.specs.declared.RatedRun.{RatedRun}
-use Rattle.peaks.specs.declared.Best.{Best}
-use Rattle.peaks.specs.declared.Best.the-variants.{Run, NotComputed}
-use Rattle.peaks.specs.declared.Peak.{Peak}
+use Rattle.windows.specs.Lengths.{runLength}
+use Rattle.peaks.specs.Peaks.{runRate, higher, highest, peakOf, firstAt, placed, peakIn, rateIn}
+use Rattle.windows.specs.declared.RatedRun.{RatedRun}
+use Rattle.windows.specs.declared.Best.{Best}
+use Rattle.windows.specs.declared.Best.the-variants.{Run, NotComputed}
 use Rattle.peaks.specs.declared.Peak.the-variants.{Highest}
-use Rattle.peaks.specs.Windows.{ratedAs, ratedRun, better, noRun, bestFrom, bestOf, toPeak}
-use Rattle.peaks.proofs.Bests.{better-first, better-second}
-use Rattle.peaks.proofs.Sliding.{best-none}
+use Rattle.windows.specs.Windows.{ratedAs, better, noRun, bestFrom, bestOf}
+use Rattle.peaks.specs.Slides.{toPeak}
+use Rattle.windows.proofs.Sliding.{best-none}
 
 -- the rate of a best run
 abbrev pub bestRate : Best → Feature

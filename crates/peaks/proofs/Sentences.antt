@@ -14,7 +14,8 @@ use Rattle.rates.specs.declared.Feature.{Feature}
 use Rattle.rates.specs.declared.Feature.the-variants.{Value, NotComputed}
 use Rattle.lists.specs.Lists.{sum, before, holder}
 use Rattle.lists.proofs.Places.{before-suc, before-mono, holder-holds}
-use Rattle.peaks.specs.Peaks.{runLength, runRate, higher, highest}
+use Rattle.windows.specs.Lengths.{runLength}
+use Rattle.peaks.specs.Peaks.{runRate, higher, highest}
 
 module _ (s : ℕ) (ds : List ℕ) (p : 0 < s) (h : s ≤ sum ds) where
   -- "whose durations total at least the time scale"

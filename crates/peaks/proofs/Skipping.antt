@@ -2,12 +2,12 @@
 -- Assumes nothing.
 use Prim.Native.Nat.{ℕ, zero, suc, _+_, _-_, _*_, _≤_, _<_}
 use mathlib.Core.Path.{_≡_, refl, sym, ap, _∙_}
-use mathlib.Core.List.{List, _++_}
+use mathlib.Core.List.{List}
 use native.Mathlib.Omega.{arith}
-use native.Mathlib.Nat.{mul-le-mul-right, suc-mul, zero-mul}
-use lib.ListN.{length, drop, replicate, length-drop, length-append, length-replicate}
+use native.Mathlib.Nat.{mul-le-mul-right, suc-mul}
+use lib.ListN.{length, drop, length-drop}
 use lib.Seq.{drop-drop}
-use Rattle.lists.specs.Lists.{sum, before, expand}
+use Rattle.lists.specs.Lists.{before, expand}
 use Rattle.lists.proofs.Laws.{before-in, length-run}
 use Rattle.lists.proofs.Places.{before-mono, before-drop}
 use Rattle.rates.specs.Rates.{rateOf}
@@ -17,17 +17,17 @@ use Rattle.runs.specs.Cursors.{runAhead, readiedRun, pastRun}
 use Rattle.runs.specs.declared.cursor.RunCursor.{RunCursor}
 use Rattle.runs.proofs.Cursors.{run-past}
 use Rattle.words.specs.Words.{sizes}
-use Rattle.peaks.specs.declared.Window.{Window}
-use Rattle.peaks.specs.declared.RatedRun.{RatedRun}
+use Rattle.windows.specs.declared.Window.{Window}
+use Rattle.windows.specs.declared.RatedRun.{RatedRun}
 use Rattle.peaks.specs.declared.Slide.{Slide}
-use Rattle.peaks.specs.declared.Best.{Best}
-use Rattle.peaks.specs.declared.Best.the-variants.{Run}
-use Rattle.peaks.specs.Peaks.{Timed}
-use Rattle.peaks.specs.Windows.{Sliding, Before, Slides, ratedRun, better, bestFrom}
+use Rattle.windows.specs.declared.Best.{Best}
+use Rattle.windows.specs.declared.Best.the-variants.{Run}
+use Rattle.windows.specs.Windows.{Timed}
+use Rattle.windows.specs.Windows.{Sliding, Before, Slides, ratedRun, better, bestFrom}
 use Rattle.peaks.specs.Slides.{MaySlide, Slid, Levels, slidBy, Absorbs, Skips}
-use Rattle.peaks.proofs.Bests.{better-assoc, better-kept}
-use Rattle.peaks.proofs.Sliding.{some-run, peak-here, before-next}
-use Rattle.peaks.proofs.Passing.{span-fits}
+use Rattle.windows.proofs.Bests.{better-assoc, better-kept}
+use Rattle.windows.proofs.Sliding.{some-run, peak-here, before-next}
+use Rattle.windows.proofs.Rating.{span-fits}
 
 -- ---- a cursor in a run: the durations ahead
 

@@ -1,3 +1,3 @@
 pub mod Peaks
-pub mod Windows
 pub mod Slides
+pub mod EntrySlides

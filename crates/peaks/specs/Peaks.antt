@@ -1,23 +1,17 @@
 -- "Highest rate over a second": s is the media's time scale, ds are the durations of the samples from one on, and zs their sizes. Edits are not
 -- looked at.
-use Prim.Native.Nat.{ℕ, suc, _-_, _*_, _<_, _≤_, max}
-use mathlib.Core.Path.{_≡_}
+use Prim.Native.Nat.{ℕ, suc, _*_, max}
 use mathlib.Core.Bool.{Bool, false, cond}
 use mathlib.Core.List.{List, [], _∷_}
 use lib.ListN.{length, take, drop}
 use lib.Dec.{ltb, leb, eqb}
-use Rattle.lists.specs.Lists.{sum, holder}
+use Rattle.lists.specs.Lists.{sum}
+use Rattle.windows.specs.Lengths.{runLength}
 use Rattle.rates.specs.Rates.{rateOf}
 use Rattle.rates.specs.declared.Feature.{Feature}
 use Rattle.rates.specs.declared.Feature.the-variants.{Value, NotComputed}
 use Rattle.peaks.specs.declared.Peak.{Peak}
 use Rattle.peaks.specs.declared.Peak.the-variants as peaks
-
--- "the shortest run starting there whose durations total at least the time scale": how many samples it has, from the first of ds on; one more than
--- there are where none gets there. s is above 0. `proofs/Sentences.antt` shows that it gets there, and that no shorter one does (`run-reaches`,
--- `run-shortest`), and of `highest` that no run is higher and one has that rate (`at-most`, `attained`)
-abbrev pub runLength : ℕ → List ℕ → ℕ
-runLength s ds = suc (holder ds (s - 1))
 
 -- "8 × its sizes × scale / its durations, rounded up", of the first n samples
 abbrev pub runRate : ℕ → ℕ → List ℕ → List ℕ → Feature
@@ -64,10 +58,3 @@ peakIn s ds zs = placed s ds zs (peakOf s ds zs)
 abbrev pub rateIn : Peak → Feature
 rateIn (peaks.Highest v first count) = Value v
 rateIn peaks.NotComputed = NotComputed
-
--- what an accepted track's time scale, durations and sizes are
-pub record Timed (s : ℕ) (ds zs : List ℕ) : Type 0 where
-  pub some-scale : 0 < s
-  pub total-fits : sum ds < 4294967296
-  pub few : length ds ≤ 1048576
-  pub agree : length zs ≡ length ds

@@ -1,6 +1,6 @@
 -- The window slid on over samples of one duration at both ends: it lasts as long as before, and the runs that are passed over are no higher than
 -- the best. This need not be believed: it is between the crate's own functions.
-use Prim.Native.Nat.{ℕ, zero, suc, _+_, _-_, _*_, _≤_, _<_}
+use Prim.Native.Nat.{ℕ, suc, _+_, _-_, _*_, _≤_, _<_}
 use mathlib.Core.Path.{_≡_}
 use mathlib.Core.List.{List}
 use lib.ListN.{length, drop}
@@ -8,10 +8,13 @@ use Rattle.lists.specs.Lists.{before}
 use Rattle.runs.specs.Runs.{perSample}
 use Rattle.runs.specs.Cursors.{readiedRun, pastRun}
 use Rattle.words.specs.Words.{sizes}
-use Rattle.peaks.specs.declared.Window.{Window}
+use Rattle.windows.specs.declared.Window.{Window}
+use Rattle.windows.specs.declared.Best.the-variants as best
 use Rattle.peaks.specs.declared.Slide.{Slide}
-use Rattle.peaks.specs.declared.Best.{Best}
-use Rattle.peaks.specs.Windows.{Slides, ratedRun, better, bestFrom}
+use Rattle.peaks.specs.declared.Peak.{Peak}
+use Rattle.peaks.specs.declared.Peak.the-variants as peaks
+use Rattle.windows.specs.declared.Best.{Best}
+use Rattle.windows.specs.Windows.{Slides, ratedRun, better, bestFrom}
 
 -- sizes ts that leave a window at its tail and hs that enter it at its head: none leaves that is not in it
 pub record Stays (ts hs : List ℕ) (bytes most : ℕ) : Type 0 where
@@ -71,3 +74,9 @@ pub record Skips (s : ℕ) (t z : List ℕ) (x : Best) (w r : Window) : Type 0 w
   pub later : w .first ≤ r .first
   pub kept : better x (bestFrom s (w .first) (drop (w .first) (perSample t)) (drop (w .first) (sizes z)))
       ≡ better x (bestFrom s (r .first) (drop (r .first) (perSample t)) (drop (r .first) (sizes z)))
+
+-- ---- the best run as the answer
+
+abbrev pub toPeak : Best → Peak
+toPeak (best.Run b) = peaks.Highest (b .rate) (b .first) (b .count)
+toPeak best.NotComputed = peaks.NotComputed

@@ -2,173 +2,36 @@
 // as they stand in the file and never expanded.
 use bigendian::after;
 use bigendian::u32_at;
-use rates::Feature;
-use rates::rate;
+use bigendian::whole32;
 use runs::cursor::RunCursor;
 use runs::cursor::run_pass;
 use runs::cursor::run_ready;
-use runs::cursor::run_start;
-use words::size_of;
+use windows::Best;
+use windows::RatedRun;
+use windows::Window;
+use windows::extended;
+use windows::is_no_higher;
+use windows::next_window;
+use windows::raised;
+use windows::rated;
+use windows::start_window;
 ghost use mathlib.Core.Path.{_≡_};
 ghost use mathlib.Core.Bool.{true};
 ghost use Prim.Native.Nat.{_+_, _-_, _*_, _≤_, _<_};
+ghost use Rattle.bigendian.specs.BigEndian.{u32At};
 ghost use Rattle.runs.specs.Runs.{perSample};
 ghost use lib.ListN.{length};
 ghost use Rattle.words.specs.Words.{wordsIn, sizes};
-ghost use Rattle.peaks.specs.Peaks.{peakIn, Timed};
-ghost use Rattle.peaks.specs.Windows.{startWindow, grownBy, Slides, Reaches, ratedRun, IsRated, Raises, toPeak};
-ghost use Rattle.peaks.specs.Slides.{Stays, SlidOver, MaySlide, Slid, Levels, slidBy, Absorbs, Skips};
-
-// The samples from index `first` up to, not including, `stop`: how long they last, their bytes, and a cursor of stts at each end.
-pub struct Window {
-    pub tail: RunCursor,
-    pub head: RunCursor,
-    pub first: u32,
-    pub stop: u32,
-    pub span: u64,
-    pub bytes: u64,
-}
-
-// A run with its rate: the number of its first sample, from 1, how many it has, their bytes, and how long they last.
-pub struct RatedRun {
-    pub rate: u32,
-    pub first: u32,
-    pub count: u32,
-    pub bytes: u64,
-    pub span: u64,
-}
-
-// The best run so far, or that the rate of one cannot be computed.
-pub enum Best {
-    Run(RatedRun),
-    NotComputed,
-}
+ghost use Rattle.windows.specs.Windows.{Timed, Slides, IsRated};
+ghost use Rattle.windows.specs.declared.Best.the-variants.{Run};
+ghost use Rattle.peaks.specs.Peaks.{peakIn};
+ghost use Rattle.peaks.specs.Slides.{Stays, SlidOver, MaySlide, Slid, Levels, slidBy, Absorbs, Skips, toPeak};
+ghost use Rattle.peaks.specs.EntrySlides.{windowAt, HasEntries, MayStand};
 
 // The highest rate, the number of the first sample whose run has it, from 1, and how many samples that run has; or that it cannot be computed.
 pub enum Peak {
     Highest { rate: u32, first: u32, count: u32 },
     NotComputed,
-}
-
-// The window before the first sample.
-fn start_window(stts: &[u8]) -> Window
-    ensures { λ r. ⌜ r ≡ startWindow (now (stts .entry)) ⌝ }
-{
-    let c = run_ready(stts, run_start());
-    Window {
-        tail: c,
-        head: c,
-        first: 0,
-        stop: 0,
-        span: 0,
-        bytes: 0,
-    }
-}
-
-// One sample more at the head.
-fn grown(stts: &[u8], w: Window, size: u32) -> Window
-    requires { ⌜ (w .stop < 4294967295) × (w .span < 4294967296) × (w .bytes < 4611686018427387904) ⌝ }
-    ensures { λ r. ⌜ r ≡ grownBy (now (stts .entry)) size w ⌝ }
-{
-    let tail = w.tail;
-    let head = w.head;
-    Window {
-        tail,
-        head: run_ready(stts, run_pass(head, 1)),
-        first: w.first,
-        stop: w.stop + 1,
-        span: w.span + head.each as u64,
-        bytes: w.bytes + size as u64,
-    }
-}
-
-// Samples are taken in at the head until they last a second, while there are any.
-fn extended(stts: &[u8], stsz: &[u8], w: Window, scale: u32) -> Window
-    requires { ⌜ Slides scale (now stts) (now stsz) w × Timed scale (perSample (now stts)) (sizes (now stsz)) ⌝ }
-    ensures { λ r. ⌜ Reaches scale (now (stts .entry)) (now (stsz .entry)) (w .first) r ⌝ }
-{
-    let mut r = w;
-    while r.span < scale as u64 {
-        let head = r.head;
-        if head.count == 0 {
-            return r;
-        }
-        r = grown(stts, r, size_of(stsz, r.stop));
-    }
-    r
-}
-
-// The window of the next sample: one sample less at the tail, and as many more at the head as make up a second.
-fn next_window(stts: &[u8], stsz: &[u8], w: Window, scale: u32) -> Window
-    requires { ⌜ Slides scale (now stts) (now stsz) w × Timed scale (perSample (now stts)) (sizes (now stsz)) × (scale ≤ w .span) ⌝ }
-    ensures { λ r. ⌜ Reaches scale (now (stts .entry)) (now (stsz .entry)) (w .first + 1) r ⌝ }
-{
-    let tail = w.tail;
-    let head = w.head;
-    let first = w.first;
-    let rest = Window {
-        tail: run_ready(stts, run_pass(tail, 1)),
-        head,
-        first: first + 1,
-        stop: w.stop,
-        span: w.span - tail.each as u64,
-        bytes: w.bytes - size_of(stsz, first) as u64,
-    };
-    extended(stts, stsz, rest, scale)
-}
-
-// A window's run with its rate.
-fn rated(w: Window, scale: u32) -> Best
-    requires { ⌜ (w .first ≤ w .stop) × (w .stop ≤ 1048576) × (w .span < 4294967296) ⌝ }
-    ensures { λ r. ⌜ (r ≡ ratedRun scale (w .first) (w .stop - w .first) (w .bytes) (w .span)) × IsRated scale r ⌝ }
-{
-    let first = w.first;
-    let bytes = w.bytes;
-    let span = w.span;
-    match rate(bytes, 8 * (scale as u64), span) {
-        Feature::Value(v) => Best::Run(RatedRun {
-            rate: v,
-            first: first + 1,
-            count: w.stop - first,
-            bytes,
-            span,
-        }),
-        Feature::NotComputed => Best::NotComputed,
-    }
-}
-
-// Whether so many bytes in so long are, by cross-multiplication, no more a second than another run's. Where that is not told in 64 bits, the answer is no.
-fn is_no_higher(bytes: u64, span: u64, other: RatedRun) -> bool
-    requires { ⌜ (span < 4294967296) × (other .span < 4294967296) ⌝ }
-    ensures { λ r. ⌜ (r ≡ true → bytes * other .span ≤ other .bytes * span) ⌝ }
-{
-    if 4294967295 < bytes {
-        return false;
-    }
-    if 4294967295 < other.bytes {
-        return false;
-    }
-    bytes * other.span <= other.bytes * span
-}
-
-// The better of the best run so far and a window's. Only a run that may be higher has its rate computed.
-fn raised(best: Best, w: Window, scale: u32) -> Best
-    requires { ⌜ IsRated scale best × (w .first ≤ w .stop) × (w .stop ≤ 1048576) × (0 < w .span) × (w .span < 4294967296) ⌝ }
-    ensures { λ r. ⌜ Raises scale best w r ⌝ }
-{
-    let Best::Run(b) = best else {
-        return best;
-    };
-    if is_no_higher(w.bytes, w.span, b) {
-        return Best::Run(b);
-    }
-    let Best::Run(r) = rated(w, scale) else {
-        return Best::NotComputed;
-    };
-    if b.rate < r.rate {
-        return Best::Run(r);
-    }
-    Best::Run(b)
 }
 
 // How far a window slides, and its bytes there.
@@ -177,7 +40,8 @@ pub struct Slide {
     pub bytes: u64,
 }
 
-// Over listed sizes, those at the window's tail and those at its head: while its bytes are no more than `most`.
+// Over listed sizes, those at the window's tail and those at its head: while its bytes are no more than `most`. What entered and what left are two sums,
+// so that the compiler reads both sizes as whole words.
 fn slide_listed(tails: &[u8], heads: &[u8], bytes: u64, most: u64) -> Slide
     requires { ⌜ Stays (wordsIn (now tails)) (wordsIn (now heads)) bytes most × (length (now heads) ≤ length (now tails)) ⌝ }
     ensures { λ r. ⌜ SlidOver (wordsIn (now (tails .entry))) (wordsIn (now (heads .entry))) bytes most r ⌝ }
@@ -185,20 +49,22 @@ fn slide_listed(tails: &[u8], heads: &[u8], bytes: u64, most: u64) -> Slide
     let mut t = tails;
     let mut h = heads;
     let mut moved: u32 = 0;
-    let mut total = bytes;
+    let mut entered = bytes;
+    let mut left: u64 = 0;
     while 4 <= h.len() {
-        let next = total + u32_at(h, 0) as u64 - u32_at(t, 0) as u64;
+        let more = entered + whole32(h, 0) as u64;
+        let gone = left + whole32(t, 0) as u64;
+        let next = more - gone;
         if most < next {
-            return Slide {
-                moved,
-                bytes: total,
-            };
+            break;
         }
-        total = next;
+        entered = more;
+        left = gone;
         moved += 1;
         t = &t[4..];
         h = &h[4..];
     }
+    let total = entered - left;
     Slide {
         moved,
         bytes: total,
@@ -270,7 +136,142 @@ fn moved_by(stts: &[u8], w: Window, s: Slide) -> Window
     }
 }
 
-// The window slid on, in long runs of one duration, while it is no higher than the best run.
+// A window that slides entry by entry: how many samples it has moved, the durations of the sample at its tail and of the one at its head, how long it lasts,
+// and its bytes as what entered without what left.
+pub struct EntrySlide {
+    pub moved: u32,
+    pub out: u32,
+    pub into: u32,
+    pub span: u64,
+    pub entered: u64,
+    pub left: u64,
+}
+
+// Whether both ends of a window stand in entries of one sample, and sizes are listed.
+fn has_entries(stts: &[u8], stsz: &[u8], w: Window) -> bool
+    ensures { λ r. ⌜ (r ≡ true → HasEntries (now (stts .entry)) (now (stsz .entry)) w) ⌝ }
+{
+    let tail = w.tail;
+    let head = w.head;
+    if tail.count != 1 {
+        return false;
+    }
+    if head.count != 1 {
+        return false;
+    }
+    if head.at < tail.at {
+        return false;
+    }
+    if stts.len() < head.at {
+        return false;
+    }
+    u32_at(stsz, 12) == 0
+}
+
+// Whether a window that lasts `rest` without its last sample is the run of its first one, and no higher than the best run.
+fn is_no_higher_run(rest: u64, span: u64, bytes: u64, scale: u32, best: RatedRun) -> bool
+    requires { ⌜ (span < 4294967296) × (best .span < 4294967296) ⌝ }
+    ensures { λ r. ⌜ (r ≡ true → (rest < scale) × (scale ≤ span) × (bytes * best .span ≤ best .bytes * span)) ⌝ }
+{
+    if scale as u64 <= rest {
+        return false;
+    }
+    if span < scale as u64 {
+        return false;
+    }
+    is_no_higher(bytes, span, best)
+}
+
+// Whether two entries have one sample each.
+fn are_single(a: &[u8], b: &[u8]) -> bool
+    requires { ⌜ (8 ≤ length (now a)) × (8 ≤ length (now b)) ⌝ }
+    ensures { λ r. ⌜ (r ≡ true → (u32At (now (a .entry)) 0 ≡ 1) × (u32At (now (b .entry)) 0 ≡ 1)) ⌝ }
+{
+    if whole32(a, 0) != 1 {
+        return false;
+    }
+    whole32(b, 0) == 1
+}
+
+// The window where a slide by entries has taken it.
+fn window_at(w: Window, x: EntrySlide) -> Window
+    requires { ⌜ MayStand w x ⌝ }
+    ensures { λ r. ⌜ r ≡ windowAt w x ⌝ }
+{
+    let tail = w.tail;
+    let head = w.head;
+    let moved = x.moved;
+    let far = (moved as usize) * 8;
+    Window {
+        tail: RunCursor {
+            at: tail.at + far,
+            count: 1,
+            each: x.out,
+        },
+        head: RunCursor {
+            at: head.at + far,
+            count: 1,
+            each: x.into,
+        },
+        first: w.first + moved,
+        stop: w.stop + moved,
+        span: x.span,
+        bytes: x.entered - x.left,
+    }
+}
+
+// The window slid on entry by entry, while it keeps its number of samples and is no higher than the best run.
+fn slide_entries(stts: &[u8], stsz: &[u8], w: Window, best: RatedRun, scale: u32) -> Window
+    requires { ⌜ Slides scale (now stts) (now stsz) w × Timed scale (perSample (now stts)) (sizes (now stsz)) × (scale ≤ w .span) × IsRated scale (Run best) × Absorbs scale (Run best) w × HasEntries (now stts) (now stsz) w ⌝ }
+    ensures { λ r. ⌜ Skips scale (now (stts .entry)) (now (stsz .entry)) (Run best) w r ⌝ }
+{
+    let tail = w.tail;
+    let head = w.head;
+    let part = after(stsz, 20);
+    let mut t = after(stts, tail.at);
+    let mut h = after(stts, head.at);
+    let mut o = after(part, (w.first as usize) * 4);
+    let mut i = after(part, (w.stop as usize) * 4);
+    let mut x = EntrySlide {
+        moved: 0,
+        out: tail.each,
+        into: head.each,
+        span: w.span,
+        entered: w.bytes,
+        left: 0,
+    };
+    while 8 <= h.len() {
+        if i.len() < 4 {
+            break;
+        }
+        let rest = x.span - x.out as u64;
+        let span = rest + x.into as u64;
+        let entered = x.entered + whole32(i, 0) as u64;
+        let left = x.left + whole32(o, 0) as u64;
+        let bytes = entered - left;
+        if !is_no_higher_run(rest, span, bytes, scale, best) {
+            break;
+        }
+        if !are_single(t, h) {
+            break;
+        }
+        x = EntrySlide {
+            moved: x.moved + 1,
+            out: whole32(t, 4),
+            into: whole32(h, 4),
+            span,
+            entered,
+            left,
+        };
+        t = &t[8..];
+        h = &h[8..];
+        o = &o[4..];
+        i = &i[4..];
+    }
+    window_at(w, x)
+}
+
+// The window slid on, by entries of one sample or in long runs of one duration, while it is no higher than the best run.
 fn slid(stts: &[u8], stsz: &[u8], w: Window, best: Best, scale: u32) -> Window
     requires { ⌜ Slides scale (now stts) (now stsz) w × Timed scale (perSample (now stts)) (sizes (now stsz)) × (scale ≤ w .span) × IsRated scale best × Absorbs scale best w ⌝ }
     ensures { λ r. ⌜ Skips scale (now (stts .entry)) (now (stsz .entry)) best w r ⌝ }
@@ -278,6 +279,9 @@ fn slid(stts: &[u8], stsz: &[u8], w: Window, best: Best, scale: u32) -> Window
     let Best::Run(b) = best else {
         return w;
     };
+    if has_entries(stts, stsz, w) {
+        return slide_entries(stts, stsz, w, b, scale);
+    }
     let steps = level_steps(w, scale);
     if steps < 8 {
         return w;

@@ -81,11 +81,18 @@ pub fn sample(film: &[u8], id: u32, n: u32) {
     handed(sample_bytes(film, id, n));
 }
 
+// The number of a sample and the position of its entry.
+fn named(n: u32, entry: u32) {
+    show::number(n as u64);
+    show::text(b" entry ");
+    show::number(entry as u64);
+}
+
 // The sample at a media time.
 pub fn at(film: &[u8], id: u32, t: u32) {
     asked(b"at ", id, t);
     match sample_at_time(film, Source::whole(), id, MediaTime(t)) {
-        NumberAnswer::Number(n) => show::number(n as u64),
+        NumberAnswer::Number(n, entry) => named(n, entry),
         NumberAnswer::Refused(number) => refused(number),
     }
 }

@@ -1,29 +1,32 @@
 -- The track that is asked: where neither the file nor the ID is refused it is an accepted track of the file, and no longer than the file.
 -- Assumes nothing.
-use Prim.Native.Nat.{ℕ, suc, _≤_, _<_, _^_}
+use Prim.Native.Nat.{ℕ, suc, _+_, _*_, _≤_, _<_, _^_}
 use mathlib.Core.Path.{_≡_, refl, sym, ap, _∙_}
 use mathlib.Core.List.{List, [], _∷_, map}
 use mathlib.Core.Bool.{Bool, true, false, cond}
 use native.Mathlib.Omega.{arith}
 use native.Mathlib.Decide.{ℕ-discrete}
-use borrow.Author.Tests.{eq-eqb, ne-eqb}
+use borrow.Author.Tests.{eq-eqb, ne-eqb, not-false}
+use mathlib.Core.Logic.{inl, inr}
 use lib.ListN.{length, drop, length-drop, length-replicate}
 use lib.Dec.{eqb}
 use Rattle.lists.proofs.Booleans.{cond-zero}
 use Rattle.bigendian.specs.BigEndian.{u32At}
-use Rattle.atoms.specs.Kinds.{stsz}
+use Rattle.atoms.specs.Kinds.{stsz, stts}
 use Rattle.words.specs.Words.{listed, sizes}
 use Rattle.words.proofs.Turns.{length-words, sizes-listed, sizes-common}
 use Rattle.structure.specs.declared.source.Source.{Source}
-use Rattle.structure.specs.Track.{idOf, tableOf, samplesOf}
+use Rattle.structure.specs.Track.{idOf, scaleOf, tableOf, elstOf, samplesOf, editsOf}
 use Rattle.structure.specs.Movie.{moovOf, movieScale, tracksOf}
 use Rattle.structure.specs.Rows.{orElse}
 use Rattle.structure.proofs.Callers.{Each, track-at, none-else}
-use Rattle.structure.proofs.Shaped.{Shaped}
+use Rattle.structure.proofs.Shaped.{Shaped, MayEnter}
 use Rattle.structure.proofs.Lengths.{table-short, track-short}
-use Rattle.track.specs.Refusals.{totalIn}
+use Rattle.track.specs.Refusals.{totalIn, wrongEdits}
 use Rattle.track.proofs.Agreed.{agreed-tables}
-use Rattle.features.specs.Features.{Computable}
+use Rattle.edits.proofs.Turns.{edits-few}
+use Rattle.edits.proofs.Sentences.{ok-all}
+use Rattle.features.specs.Features.{Computable, Averaged}
 use Rattle.movie.specs.Refusals.{filmRefusal}
 use Rattle.movie.specs.Tracks.{withId, hasTrack, trackWith}
 use Rattle.movie.proofs.Accepted.{Accepted, AcceptedFile, accepted}
@@ -71,6 +74,11 @@ asked s w id e =
 
 -- ---- the same, from what the code has
 
+-- an edit list, where there is one, is as long as its entries
+entered-short : (a : List ℕ) → MayEnter 12 a → length a ≤ 16 + 12 * u32At a 12
+entered-short a (inl e) = omega (arith, ap length e)
+entered-short a (inr e) = omega arith
+
 -- as many sizes as the table counts
 pub sizes-count : (t : List ℕ) → Shaped t → length (sizes (tableOf stsz t)) ≡ samplesOf t
 sizes-count t h =
@@ -104,6 +112,25 @@ module _ (s t : List ℕ) (w : Source) (id r : ℕ) (e : r ≡ askRefusal s w id
           few = omega (arith, g .counted, a .shape .few-samples);
           agree = sizes-count t (a .shape) ∙ sym (g .counted);
         };
+      }
+
+  -- and its averages, m being the body of the moov
+  pub asked-averaged : (m : List ℕ) (movie : ℕ) → m ≡ moovOf s → movie ≡ movieScale m → Averaged movie t
+  unfolding totalIn wrongEdits
+  asked-averaged m movie b q =
+      let a = asked-track in
+      let g = agreed-tables t (a .agree) in
+      record {
+        small = record {
+          short = omega (arith, asked-short, table-short stts t);
+          few = omega (arith, g .counted, a .shape .few-samples);
+          total-fits = asked-total;
+        };
+        short = asked-short;
+        edited = rw (q, b) (record {
+          few = omega (arith, edits-few (elstOf t) (editsOf t) (entered-short (elstOf t) (a .shape .elst-size)), a .shape .few-edits);
+          right = ok-all (scaleOf t) (movieScale (moovOf s)) (totalIn t) (elstOf t) (not-false _ (a .edits));
+        });
       }
 
 -- a table of it

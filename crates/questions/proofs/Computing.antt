@@ -7,6 +7,7 @@ use Rattle.features.specs.Features.{featureOf, peakFor}
 use Rattle.rates.specs.declared.Feature.{Feature}
 use Rattle.rates.specs.declared.Feature.the-variants as features
 use Rattle.structure.specs.declared.source.Source.{Source}
+use Rattle.structure.specs.Movie.{moovOf, movieScale}
 use Rattle.track.specs.Track.{trackOf}
 use Rattle.movie.specs.Rooms.{refusedWith}
 use Rattle.movie.proofs.Answers.{gives-refused, gives-answer}
@@ -31,11 +32,11 @@ pub not-computed : (s : List ℕ) (w : Source) (id code r : ℕ) → r ≡ askRe
 unfolding featureNumbers
 not-computed s w id code r e n = gives-refused featureNumbers (refusedWith 1) Refused (λ k. refl) (featureAsked s id code) (askRefusal s w id) r (sym e) n
 
-pub computed : (s t : List ℕ) (w : Source) (id code r : ℕ) (f : Feature) (a : FeatureAnswer) → r ≡ askRefusal s w id → r ≡ 0 → t ≡ trackAsked s id
-    → f ≡ featureOf (trackOf t) code → a ≡ toValue f → Computes s w id code a
+pub computed : (s m t : List ℕ) (w : Source) (id code r movie : ℕ) (f : Feature) (a : FeatureAnswer) → r ≡ askRefusal s w id → r ≡ 0 → m ≡ moovOf s
+    → movie ≡ movieScale m → t ≡ trackAsked s id → f ≡ featureOf movie (trackOf t) code → a ≡ toValue f → Computes s w id code a
 unfolding featureNumbers
-computed s t w id code r f a e z d g h =
-    gives-answer featureNumbers (refusedWith 1) Refused (λ k. refl) (featureAsked s id code) (askRefusal s w id) a (sym e ∙ z) (h ∙ ap toValue (g ∙ rw d))
+computed s m t w id code r movie f a e z b q d g h =
+    gives-answer featureNumbers (refusedWith 1) Refused (λ k. refl) (featureAsked s id code) (askRefusal s w id) a (sym e ∙ z) (h ∙ ap toValue (g ∙ rw (d, q, b)))
 
 -- ---- where the peak is
 

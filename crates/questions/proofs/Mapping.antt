@@ -7,12 +7,13 @@ use native.Mathlib.Omega.{arith}
 use borrow.Author.Tests.{eq-eqb, ne-eqb, lt-ltb, le-ltb}
 use lib.ListN.{length}
 use Rattle.atoms.specs.Kinds.{stts}
-use Rattle.lists.specs.Lists.{sum, holder}
-use Rattle.lists.proofs.Places.{holds-below, holder-only}
-use Rattle.runs.specs.Runs.{perSample, sampleAt}
-use Rattle.runs.specs.declared.Lookup.{Lookup}
-use Rattle.runs.specs.declared.Lookup.the-variants.{At, Outside}
-use Rattle.runs.proofs.Sentences.{sample-holds, outside-known}
+use Rattle.lists.specs.Lists.{sum, expand, holder}
+use Rattle.lists.proofs.Places.{holds-below, holder-holds}
+use Rattle.runs.specs.Runs.{runsOf, perSample, entryOf, hitOf, lookedUp}
+use Rattle.runs.specs.declared.Hit.{Hit}
+use Rattle.runs.specs.declared.Looked.{Looked}
+use Rattle.runs.specs.declared.Looked.the-variants as looked
+use Rattle.runs.proofs.Entries.{looked-known, looked-outside}
 use Rattle.edits.specs.Edits.{mediaAt}
 use Rattle.edits.specs.declared.MediaTime.{MediaTime}
 use Rattle.edits.specs.declared.MovieTime.{MovieTime}
@@ -28,7 +29,7 @@ use Rattle.movie.specs.Rooms.{refusedWith}
 use Rattle.movie.proofs.Answers.{gives-refused, gives-answer}
 use Rattle.track.proofs.Agreed.{agreed-tables}
 use Rattle.questions.specs.Asked.{askRefusal, trackAsked}
-use Rattle.questions.specs.Times.{atRefusal, atNumber, numberNumbers, SampleAt, mappedIn, mappedOf, toAnswer, timeNumbers, Maps}
+use Rattle.questions.specs.Times.{atRefusal, atNumber, atEntry, atFound, numberNumbers, SampleAt, mappedIn, mappedOf, toAnswer, timeNumbers, Maps}
 use Rattle.questions.specs.declared.times.NumberAnswer.the-variants.{Number, Refused}
 use Rattle.questions.specs.declared.times.TimeAnswer.{TimeAnswer}
 use Rattle.questions.specs.declared.times.TimeAnswer.the-variants.{Shown, NothingShown, NotMapped}
@@ -69,40 +70,50 @@ module _ (s m k l : List ℕ) (w : Source) (id : ℕ) (t : MovieTime) (r movie s
 
 refused-at : (s : List ℕ) (w : Source) (id : ℕ) (t : MediaTime) (r : ℕ) → atRefusal s w id t ≡ r → (r ≡ 0 → ⊥) → SampleAt s w id t (Refused r)
 unfolding numberNumbers
-refused-at s w id t r e n = gives-refused numberNumbers (refusedWith 1) Refused (λ k. refl) (Number (atNumber s id t)) (atRefusal s w id t) r e n
+refused-at s w id t r e n = gives-refused numberNumbers (refusedWith 2) Refused (λ k. refl) (atFound s id t) (atRefusal s w id t) r e n
 
 pub no-track-at : (s : List ℕ) (w : Source) (id : ℕ) (t : MediaTime) (r : ℕ) → r ≡ askRefusal s w id → (r ≡ 0 → ⊥) → SampleAt s w id t (Refused r)
 unfolding atRefusal orElse
 no-track-at s w id t r e n = refused-at s w id t r (rw (← e, ne-eqb r 0 n)) n
 
-module _ (s k x : List ℕ) (w : Source) (id : ℕ) (t : MediaTime) (r : ℕ) (e : r ≡ askRefusal s w id) (z : r ≡ 0) (d : k ≡ trackAsked s id) (g : x ≡ tableOf stts k) (f : Lookup)
-    (h : f ≡ sampleAt (perSample x) (t .0)) where
-  same : perSample x ≡ trackOf (trackAsked s id) .durations
-  unfolding trackOf
+module _ (s k x : List ℕ) (w : Source) (id : ℕ) (t : MediaTime) (r : ℕ) (e : r ≡ askRefusal s w id) (z : r ≡ 0) (d : k ≡ trackAsked s id) (g : x ≡ tableOf stts k) (f : Looked)
+    (h : f ≡ lookedUp (runsOf x) (t .0)) where
+  same : expand (runsOf x) ≡ trackOf (trackAsked s id) .durations
+  unfolding trackOf perSample
   same = rw (g, d)
 
-  same-total : sum (perSample x) ≡ totalIn (trackAsked s id)
-  unfolding totalIn
+  same-total : sum (expand (runsOf x)) ≡ totalIn (trackAsked s id)
+  unfolding totalIn perSample
   same-total = rw (g, d)
 
-  pub outside-at : f ≡ Outside → SampleAt s w id t (Refused 15)
+  pub outside-at : f ≡ looked.Outside → SampleAt s w id t (Refused 15)
   unfolding atRefusal orElse
   outside-at q =
-      let o = outside-known (perSample x) (t .0) (sym h ∙ q) in
-      refused-at s w id t 15 (rw (← e, eq-eqb r 0 z, ← same-total, le-ltb (t .0) (sum (perSample x)) o)) (λ y. omega arith)
+      let o = looked-outside (runsOf x) (t .0) (sym h ∙ q) in
+      refused-at s w id t 15 (rw (← e, eq-eqb r 0 z, ← same-total, le-ltb (t .0) (sum (expand (runsOf x))) o)) (λ y. omega arith)
 
-  module _ (i : ℕ) (q : f ≡ At i) where
-    pub few-at : i < 1048576
+  module _ (i : Hit) (q : f ≡ looked.Hit i) where
+    known : (t .0 < sum (expand (runsOf x))) × (i ≡ hitOf (runsOf x) (t .0))
+    known = looked-known (runsOf x) (t .0) i (sym h ∙ q)
+
+    index : i .index ≡ holder (expand (runsOf x)) (t .0)
+    unfolding hitOf
+    index = ap (λ (y : Hit). y .index) (known .1)
+
+    pub few-at : i .index < 1048576
+    unfolding perSample
     few-at =
         let a = asked-track s k w id r e z d in
-        let b = holds-below (perSample x) (t .0) i (sample-holds (perSample x) (t .0) i (sym h ∙ q)) in
-        omega (arith, b .1, a .shape .few-samples, agreed-tables k (a .agree) .counted, ap (λ (l : List ℕ). length (perSample l)) g)
+        let b = holds-below (expand (runsOf x)) (t .0) _ (holder-holds (expand (runsOf x)) (t .0) (known .0)) in
+        omega (arith, b .1, index, a .shape .few-samples, agreed-tables k (a .agree) .counted, ap (λ (l : List ℕ). length (perSample l)) g)
 
-    pub found-at : (n : ℕ) → n ≡ i + 1 → SampleAt s w id t (Number n)
-    unfolding atRefusal atNumber numberNumbers orElse
+    pub found-at : (n : ℕ) → n ≡ i .index + 1 → SampleAt s w id t (Number n (i .entry))
+    unfolding atRefusal atNumber atEntry numberNumbers orElse hitOf
     found-at n y =
-        let o = sample-holds (perSample x) (t .0) i (sym h ∙ q) in
-        let b = holds-below (perSample x) (t .0) i o in
-        let c : atRefusal s w id t ≡ 0 = rw (← e, eq-eqb r 0 z, ← same-total, lt-ltb (t .0) (sum (perSample x)) (b .0)) in
-        let u : n ≡ suc (holder (perSample x) (t .0)) = omega (arith, y, holder-only (perSample x) (t .0) i o) in
-        gives-answer numberNumbers (refusedWith 1) Refused (λ k. refl) (Number (atNumber s id t)) (atRefusal s w id t) (Number n) c (ap Number (u ∙ ap (λ l. suc (holder l (t .0))) same))
+        let c : atRefusal s w id t ≡ 0 = rw (← e, eq-eqb r 0 z, ← same-total, lt-ltb (t .0) (sum (expand (runsOf x))) (known .0)) in
+        let u : n ≡ suc (holder (expand (runsOf x)) (t .0)) = omega (arith, y, index) in
+        let p : n ≡ atNumber s id t = u ∙ ap (λ l. suc (holder l (t .0))) same in
+        let o : i .entry ≡ atEntry s id t =
+        ap (λ (v : Hit). v .entry) (known .1) ∙ (λ j. entryOf (runsOf ((g ∙ ap (tableOf stts) d) j)) (holder (same j) (t .0)))
+        in
+        gives-answer numberNumbers (refusedWith 2) Refused (λ k. refl) (atFound s id t) (atRefusal s w id t) (Number n (i .entry)) c (λ j. Number (p j) (o j))

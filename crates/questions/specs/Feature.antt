@@ -7,6 +7,7 @@ use Rattle.peaks.specs.declared.Peak.the-variants as peaks
 use Rattle.rates.specs.declared.Feature.{Feature}
 use Rattle.rates.specs.declared.Feature.the-variants.{Value, NotComputed}
 use Rattle.structure.specs.declared.source.Source.{Source}
+use Rattle.structure.specs.Movie.{moovOf, movieScale}
 use Rattle.track.specs.Track.{trackOf}
 use Rattle.movie.specs.Rooms.{refusedWith}
 use Rattle.movie.specs.Answers.{given, Gives}
@@ -23,7 +24,7 @@ toValue NotComputed = answers.Refused 18
 
 -- what is answered where neither the film nor the ID is refused
 abbrev pub featureAsked : List ℕ → ℕ → ℕ → FeatureAnswer
-featureAsked s id code = toValue (featureOf (trackOf (trackAsked s id)) code)
+featureAsked s id code = toValue (featureOf (movieScale (moovOf s)) (trackOf (trackAsked s id)) code)
 
 abbrev pub featureAnswer : List ℕ → Source → ℕ → ℕ → FeatureAnswer
 featureAnswer s w id code = given (askRefusal s w id) (featureAsked s id code) answers.Refused

@@ -3,14 +3,16 @@ use Prim.Native.Nat.{ℕ, suc}
 use mathlib.Core.List.{List, [], _∷_}
 use mathlib.Core.Bool.{cond}
 use lib.Dec.{ltb}
+use Rattle.atoms.specs.Kinds.{stts}
 use Rattle.lists.specs.Lists.{holder}
+use Rattle.runs.specs.Runs.{runsOf, entryOf}
 use Rattle.edits.specs.Edits.{mediaAt}
 use Rattle.edits.specs.declared.MediaTime.{MediaTime}
 use Rattle.edits.specs.declared.MovieTime.{MovieTime}
 use Rattle.edits.specs.declared.Mapped.{Mapped}
 use Rattle.edits.specs.declared.Mapped.the-variants.{Media, Nothing, Outside}
 use Rattle.structure.specs.declared.source.Source.{Source}
-use Rattle.structure.specs.Track.{scaleOf, elstOf}
+use Rattle.structure.specs.Track.{scaleOf, tableOf, elstOf}
 use Rattle.structure.specs.Movie.{moovOf, movieScale}
 use Rattle.structure.specs.Rows.{orElse}
 use Rattle.track.specs.Track.{trackOf}
@@ -33,17 +35,24 @@ atRefusal s w id t = orElse (askRefusal s w id) (cond (ltb (t .0) (totalIn (trac
 unfoldable pub atNumber : List ℕ → ℕ → MediaTime → ℕ
 atNumber s id t = suc (holder (trackOf (trackAsked s id) .durations) (t .0))
 
-abbrev pub atAnswer : List ℕ → Source → ℕ → MediaTime → NumberAnswer
-atAnswer s w id t = given (atRefusal s w id t) (Number (atNumber s id t)) Refused
+-- document 02: "how many stts entries it took in: the position, from 1, of the entry that holds the answered sample"
+unfoldable pub atEntry : List ℕ → ℕ → MediaTime → ℕ
+atEntry s id t = entryOf (runsOf (tableOf stts (trackAsked s id))) (holder (trackOf (trackAsked s id) .durations) (t .0))
 
--- document 01's number and value for each case of the answer
+abbrev pub atFound : List ℕ → ℕ → MediaTime → NumberAnswer
+atFound s id t = Number (atNumber s id t) (atEntry s id t)
+
+abbrev pub atAnswer : List ℕ → Source → ℕ → MediaTime → NumberAnswer
+atAnswer s w id t = given (atRefusal s w id t) (atFound s id t) Refused
+
+-- the papers' number and values for each case of the answer
 unfoldable pub numberNumbers : NumberAnswer → List ℕ
-numberNumbers (Number n) = 0 ∷ n ∷ []
-numberNumbers (Refused r) = refusedWith 1 r
+numberNumbers (Number n k) = 0 ∷ n ∷ k ∷ []
+numberNumbers (Refused r) = refusedWith 2 r
 
 -- the promise of the question: the answer r
 abbrev pub SampleAt : List ℕ → Source → ℕ → MediaTime → NumberAnswer → Type 0
-SampleAt s w id t r = Gives numberNumbers (refusedWith 1) Refused (atRefusal s w id t) (Number (atNumber s id t)) r
+SampleAt s w id t r = Gives numberNumbers (refusedWith 2) Refused (atRefusal s w id t) (atFound s id t) r
 
 -- ---- "Movie time t to media time"
 

@@ -5,6 +5,8 @@ use features::feature_of;
 use features::peak_for;
 use peaks::Peak;
 use rates::Feature;
+use structure::moov::moov_body;
+use structure::moov::movie_scale;
 use structure::source::Source;
 ghost use mathlib.Core.Path.{_≡_};
 ghost use Rattle.questions.specs.Feature.{toValue, Computes, toRun, Locates};
@@ -32,7 +34,8 @@ pub fn feature_by_code(lent: &[u8], source: Source, id: u32, code: u32) -> Featu
     if refused != 0 {
         return FeatureAnswer::Refused(refused);
     }
-    to_value(feature_of(track_asked(lent, id), code))
+    let movie = movie_scale(moov_body(lent));
+    to_value(feature_of(track_asked(lent, id), movie, code))
 }
 
 // The answer of `peak_by_code`: the number of the first sample of the run with the highest rate, from 1, and how many samples that run has; or the number

@@ -6,7 +6,8 @@ use edits::Mapped;
 use edits::MediaTime;
 use edits::MovieTime;
 use edits::media_at;
-use runs::Lookup;
+use runs::Looked;
+use runs::look_up;
 use structure::moov::moov_body;
 use structure::moov::movie_scale;
 use structure::source::Source;
@@ -17,9 +18,9 @@ use track::media_total;
 ghost use mathlib.Core.Path.{_≡_};
 ghost use Rattle.questions.specs.Times.{SampleAt, toAnswer, Maps};
 
-// The answer of `sample_at_time`: the sample's number, from 1; or the number of a refusal.
+// The answer of `sample_at_time`: the sample's number and the position of its entry in stts, both from 1; or the number of a refusal.
 pub enum NumberAnswer {
-    Number(u32),
+    Number(u32, u32),
     Refused(u32),
 }
 
@@ -33,9 +34,9 @@ pub fn sample_at_time(lent: &[u8], source: Source, id: u32, t: MediaTime) -> Num
     }
     let trak = track_asked(lent, id);
     let time = t.0;
-    match runs::sample_at(table(trak, kinds::STTS), time) {
-        Lookup::At(index) => NumberAnswer::Number((index + 1) as u32),
-        Lookup::Outside => NumberAnswer::Refused(15),
+    match look_up(table(trak, kinds::STTS), time) {
+        Looked::Hit(hit) => NumberAnswer::Number((hit.index + 1) as u32, hit.entry),
+        Looked::Outside => NumberAnswer::Refused(15),
     }
 }
 

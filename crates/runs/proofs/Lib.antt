@@ -1,4 +1,5 @@
 pub mod Cursors
+pub mod Entries
 pub mod Leasts
 pub mod Sentences
 pub mod Sums

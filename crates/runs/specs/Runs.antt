@@ -1,5 +1,5 @@
 -- Tables of runs: stts ("sample count, duration") and ctts ("sample count, signed offset").
-use Prim.Native.Nat.{ℕ, min}
+use Prim.Native.Nat.{ℕ, suc, min}
 use mathlib.Core.Bool.{cond}
 use mathlib.Core.List.{List, [], _∷_, map}
 use lib.ListN.{getD}
@@ -10,6 +10,9 @@ use Rattle.lists.specs.Lists.{sum, before, Run, expand, holder}
 use Rattle.lists.specs.Entries.{rowsOf, entries}
 use Rattle.runs.specs.declared.Lookup.{Lookup}
 use Rattle.runs.specs.declared.Lookup.the-variants.{At, Outside}
+use Rattle.runs.specs.declared.Hit.{Hit}
+use Rattle.runs.specs.declared.Looked.{Looked}
+use Rattle.runs.specs.declared.Looked.the-variants as looked
 use Rattle.runs.specs.declared.Timing.{Timing}
 
 -- an entry: how many samples, and the number that each of them has
@@ -36,6 +39,19 @@ compositionOffset s i = signed32 (getD (perSample s) i 0)
 -- total, and only one (`sample-holds` and `sample-only` of `proofs/Sentences.antt`)
 unfoldable pub sampleAt : List ℕ → ℕ → Lookup
 sampleAt ds t = cond (ltb t (sum ds)) (At (holder ds t)) Outside
+
+-- "the position, from 1, of the entry that holds the answered sample": of the sample with index i
+unfoldable pub entryOf : List Run → ℕ → ℕ
+entryOf rs i = suc (holder (map (λ r. r .count) rs) i)
+
+-- what a lookup by time finds: the sample that holds t, its entry, its decode time and its duration
+unfoldable pub hitOf : List Run → ℕ → Hit
+hitOf rs t =
+    let i = holder (expand rs) t in
+    record { index = i; entry = entryOf rs i; start = before (expand rs) i; duration = getD (expand rs) i 0 }
+
+unfoldable pub lookedUp : List Run → ℕ → Looked
+lookedUp rs t = cond (ltb t (sum (expand rs))) (looked.Hit (hitOf rs t)) looked.Outside
 
 -- the decode time ("sum of durations before it") and the duration of the sample with index i, from 0
 unfoldable pub timingOf : List ℕ → ℕ → Timing

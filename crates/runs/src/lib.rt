@@ -6,12 +6,12 @@ use bigendian::i32_at;
 use bigendian::u32_at;
 use lists::Total;
 ghost use mathlib.Core.Path.{_≡_};
-ghost use Prim.Native.Nat.{_<_, _≤_, _^_, _/_};
+ghost use Prim.Native.Nat.{_<_, _^_};
 ghost use lib.ListN.{length, replicate};
 ghost use lib.Signed.{mag};
 ghost use Rattle.lists.specs.Lists.{sum};
 ghost use Rattle.lists.specs.Totals.{totalOf};
-ghost use Rattle.runs.specs.Runs.{runsOf, perSample, compositionOffset, sampleAt, timingOf, lesserOf, leastOf};
+ghost use Rattle.runs.specs.Runs.{runsOf, perSample, compositionOffset, sampleAt, lookedUp, timingOf, lesserOf, leastOf};
 ghost use Rattle.runs.specs.Computed.{counting};
 
 // Whether no entry counts 0 samples and all of them total `samples`.
@@ -60,37 +60,60 @@ pub enum Lookup {
     Outside,
 }
 
-// A quotient, rounded down; 0 where the divisor is 0.
-fn quotient(n: u64, d: u64) -> u64
-    ensures { λ r. ⌜ (r ≡ n / d) × (r ≤ n) ⌝ }
-{
-    if d == 0 {
-        return 0;
-    }
-    n / d
+// What a lookup by time finds: the sample's index, the position of its entry from 1, its decode time and its duration.
+pub struct Hit {
+    pub index: u64,
+    pub entry: u32,
+    pub start: u64,
+    pub duration: u32,
 }
 
-// The sample whose media times hold t.
-pub fn sample_at(stts: &[u8], t: u32) -> Lookup
+pub enum Looked {
+    Hit(Hit),
+    Outside,
+}
+
+// The sample whose media times hold t, with its entry and its times.
+pub fn look_up(stts: &[u8], t: u32) -> Looked
     requires { ⌜ length (now stts) < 2 ^ 32 ⌝ }
-    ensures { λ r. ⌜ r ≡ sampleAt (perSample (now (stts .entry))) t ⌝ }
+    ensures { λ r. ⌜ r ≡ lookedUp (runsOf (now (stts .entry))) t ⌝ }
 {
     let part = after(stts, 16);
     let mut s = part;
+    let mut entries: u32 = 0;
     let mut passed: u64 = 0;
     let mut rest = t as u64;
     while 8 <= s.len() {
         let count = u32_at(s, 0) as u64;
-        let each = u32_at(s, 4) as u64;
+        let duration = u32_at(s, 4);
+        let each = duration as u64;
         let span = count * each;
         if rest < span {
-            return Lookup::At(passed + quotient(rest, each));
+            return Looked::Hit(Hit {
+                index: passed + rest / each,
+                entry: entries + 1,
+                start: t as u64 - rest % each,
+                duration,
+            });
         }
         rest -= span;
         passed += count;
+        entries += 1;
         s = &s[8..];
     }
-    Lookup::Outside
+    Looked::Outside
+}
+
+// The same, by its index alone.
+pub fn sample_at(stts: &[u8], t: u32) -> Lookup
+    requires { ⌜ length (now stts) < 2 ^ 32 ⌝ }
+    ensures { λ r. ⌜ r ≡ sampleAt (perSample (now (stts .entry))) t ⌝ }
+{
+    let r = look_up(stts, t);
+    match r {
+        Looked::Hit(hit) => Lookup::At(hit.index),
+        Looked::Outside => Lookup::Outside,
+    }
 }
 
 // A sample's decode time and duration.

@@ -12,7 +12,7 @@ use native.Mathlib.Omega.{arith}
 use Rattle.bigendian.specs.BigEndian.{beAt, u32At}
 use Rattle.lists.proofs.Booleans.{or-left, or-right, and-left, and-right}
 use Rattle.atoms.specs.Pieces.{piecesAfter}
-use Rattle.atoms.specs.Kinds.{file, moov, trak, edts, mdia, minf, stbl, mvhd, tkhd, mdhd, hdlr, elst, stts, ctts, stsc, stsz, stco, stss, stsd, vide, container}
+use Rattle.atoms.specs.Kinds.{file, moov, trak, edts, mdia, minf, dinf, stbl, mvhd, tkhd, mdhd, hdlr, dref, elst, stts, ctts, stsc, stsz, stco, stss, stsd, vide, container}
 use Rattle.atoms.specs.Atoms.{headerOf, bodyOf, bodyIn, atoms, ofKind, childIn, countIn}
 use Rattle.atoms.specs.Tree.{everywhere}
 use Rattle.atoms.proofs.Into.{all-kind, everywhere-here, everywhere-into}
@@ -20,13 +20,14 @@ use Rattle.leaves.specs.declared.Form.the-variants.{Entries, Sizes}
 use Rattle.leaves.specs.declared.LeafRule.the-variants.{Size}
 use Rattle.leaves.specs.Present.{one, atMostOne, tables, present}
 use Rattle.leaves.specs.Leaves.{formOf, holdsEntries, sizeOk, leafOk, atomOk, leavesOk, sizedEntries}
-use Rattle.structure.specs.Rows.{Row, some, first, orElse, numbersRise}
+use Rattle.structure.specs.Rows.{Row, some, first, orElse, rank, ranksRise}
 use Rattle.structure.specs.Profile.{profileOk}
-use Rattle.structure.specs.Track.{mdiaOf, minfOf, stblOf, tableOf, elstOf, subtypeOf, samplesOf, chunksOf, editsOf, descriptionsOf, profileOf}
+use Rattle.structure.specs.Track.{mdiaOf, minfOf, stblOf, tableOf, elstOf, subtypeOf, samplesOf, chunksOf, editsOf, descriptionsOf, drefOf, referencesOf, profileOf}
 use Rattle.structure.specs.Movie.{moovOf, tracksOf, trackAt, movieProfile}
 use Rattle.structure.specs.Limits.{overLimits, tooMany}
 use Rattle.structure.specs.Refusals.{fileRows, wrongSize, shortVideoDescription, wrongTrackSize}
 use Rattle.structure.specs.MovieRows.{movieRows, movieRefusal, refusalOf}
+use Rattle.structure.proofs.Rows.{rank-pos}
 use Rattle.structure.proofs.Tracks.{file-rows-rise, movie-rows-rise}
 use Rattle.structure.proofs.Shaped.{Entered, MayEnter, Shaped, ShapedMovie, ShapedFile}
 
@@ -43,12 +44,12 @@ clear-step f r rs true q k z g = absurd (omega arith)
 clear-step f r rs false q k z g = (q, g z)
 
 -- no number is given: no row holds
-pub clear : (f : Row → Bool) (n : ℕ) (rs : List Row) → numbersRise n rs ≡ true → first f rs ≡ 0 → Clear f rs
-unfolding first numbersRise
+pub clear : (f : Row → Bool) (n : ℕ) (rs : List Row) → ranksRise n rs ≡ true → first f rs ≡ 0 → Clear f rs
+unfolding first ranksRise
 clear f n [] h e = tt
 clear f n (r ∷ rs) h e =
-    let k = ltb-true n (r .number) (and-left _ _ h) in
-    clear-step f r rs (f r) refl (omega arith) e (λ z. clear f (r .number) rs (and-right (ltb n (r .number)) _ h) z)
+    let k = ltb-true n (rank (r .number)) (and-left _ _ h) in
+    clear-step f r rs (f r) refl (rank-pos (r .number) n k) e (λ z. clear f (rank (r .number)) rs (and-right (ltb n (rank (r .number))) _ h) z)
 
 -- a condition that holds of no track
 pub some-none : (f : List ℕ → Bool) (ts : List (List ℕ)) (i : ℕ) → some f ts ≡ false → i < length ts → f (getD ts i []) ≡ false
@@ -149,14 +150,33 @@ module _ (t : List ℕ) (P : everywhere present 4 trak t ≡ true) (Z : everywhe
   unfolding container minfOf
   into-minf check h = everywhere-into check 2 mdia minf 0 (mdiaOf t) (into-mdia check h) refl (there mdia minf (mdiaOf t) one-minf)
 
-  one-stbl : one minf stbl (minfOf t) ≡ true
+  minf-has : (one minf stbl (minfOf t) && one minf dinf (minfOf t)) ≡ true
   unfolding present
-  one-stbl = everywhere-here present 1 minf (minfOf t) (into-minf present P)
+  minf-has = everywhere-here present 1 minf (minfOf t) (into-minf present P)
+
+  one-stbl : one minf stbl (minfOf t) ≡ true
+  one-stbl = and-left _ _ minf-has
+
+  one-dinf : one minf dinf (minfOf t) ≡ true
+  one-dinf = and-right (one minf stbl (minfOf t)) _ minf-has
+
+  -- a check of the body of the one container of kind k in minf
+  in-minf : (k : ℕ) → container minf k ≡ true → one minf k (minfOf t) ≡ true → (check : ℕ → List ℕ → Bool) → everywhere check 4 trak t ≡ true
+      → check k (bodyIn minf k 0 (minfOf t)) ≡ true
+  in-minf k e g check h =
+      everywhere-here check 0 k _ (everywhere-into check 1 minf k 0 (minfOf t) (into-minf check h) e (there minf k (minfOf t) g))
 
   in-stbl : (check : ℕ → List ℕ → Bool) → everywhere check 4 trak t ≡ true → check stbl (stblOf t) ≡ true
   unfolding container stblOf
-  in-stbl check h =
-      everywhere-here check 0 stbl (stblOf t) (everywhere-into check 1 minf stbl 0 (minfOf t) (into-minf check h) refl (there minf stbl (minfOf t) one-stbl))
+  in-stbl = in-minf stbl refl one-stbl
+
+  one-dref : one dinf dref (bodyIn minf dinf 0 (minfOf t)) ≡ true
+  unfolding container present
+  one-dref = in-minf dinf refl one-dinf present P
+
+  dref-sized : sizedEntries 12 (drefOf t) ≡ true
+  unfolding container formOf sizeOk drefOf
+  dref-sized = leaf dinf dref 0 _ (in-minf dinf refl one-dinf (leavesOk Size) Z) (there dinf dref _ one-dref)
 
   stbl-has : tables (stblOf t) ≡ true
   unfolding present
@@ -206,7 +226,8 @@ module _ (t : List ℕ) (P : everywhere present 4 trak t ≡ true) (Z : everywhe
       let in-trak = everywhere-here (leavesOk Size) 3 trak t Z in
       let in-mdia = everywhere-here (leavesOk Size) 2 mdia (mdiaOf t) (into-mdia (leavesOk Size) Z) in
       let z = sizes-whole (tableOf stsz t) (sized stsz one-stsz) in
-      let l₄ = or-left _ _ L in
+      let l₅ = or-left _ _ L in
+      let l₄ = or-left _ _ l₅ in
       let l₃ = or-left _ _ l₄ in
       let l₂ = or-left _ _ l₃ in
       record {
@@ -219,6 +240,9 @@ module _ (t : List ℕ) (P : everywhere present 4 trak t ≡ true) (Z : everywhe
         hdlr-size = leb-true _ _ (leaf mdia hdlr 0 (mdiaOf t) in-mdia (there mdia hdlr (mdiaOf t) one-hdlr));
         minf-once = once mdia minf (mdiaOf t) one-minf;
         stbl-once = once minf stbl (minfOf t) one-stbl;
+        dinf-once = once minf dinf (minfOf t) one-dinf;
+        dref-once = once dinf dref _ one-dref;
+        dref-size = dref-sized;
         stsd-once = once stbl stsd s one-stsd;
         stsd-size = sized stsd one-stsd;
         stsd-pictures = λ q. not-false _ (rw (eq-eqb (subtypeOf t) vide q) at (or-left (eqb (subtypeOf t) vide && not (sizedEntries 36 (tableOf stsd t))) _ N));
@@ -243,7 +267,8 @@ module _ (t : List ℕ) (P : everywhere present 4 trak t ≡ true) (Z : everywhe
         few-chunks = ltb-false _ _ (or-right (ltb 1048576 (samplesOf t)) _ l₂);
         few-edits = ltb-false _ _ (or-right (ltb 1048576 (samplesOf t) || ltb 1048576 (chunksOf t)) _ l₃);
         few-descriptions = ltb-false _ _ (or-right (ltb 1048576 (samplesOf t) || ltb 1048576 (chunksOf t) || ltb 256 (editsOf t)) _ l₄);
-        few-records = ltb-false _ _ (or-right (ltb 1048576 (samplesOf t) || ltb 1048576 (chunksOf t) || ltb 256 (editsOf t) || ltb 64 (descriptionsOf t)) _ L);
+        few-records = ltb-false _ _ (or-right (ltb 1048576 (samplesOf t) || ltb 1048576 (chunksOf t) || ltb 256 (editsOf t) || ltb 64 (descriptionsOf t)) _ l₅);
+        few-references = ltb-false _ _ (or-right (ltb 1048576 (samplesOf t) || ltb 1048576 (chunksOf t) || ltb 256 (editsOf t) || ltb 64 (descriptionsOf t) || ltb 64 (u32At (profileOf t) 12)) _ L);
       }
 
 -- ---- from a movie, and from a file
@@ -251,7 +276,7 @@ module _ (t : List ℕ) (P : everywhere present 4 trak t ≡ true) (Z : everywhe
 module _ (m : List ℕ) (P : everywhere present 5 moov m ≡ true) (e : movieRefusal m ≡ 0) where
   rows-clear : Clear (λ r. r .whole m || some (r .track) (tracksOf m)) movieRows
   unfolding movieRefusal
-  rows-clear = clear _ 3 movieRows movie-rows-rise e
+  rows-clear = clear _ 6 movieRows movie-rows-rise e
 
   sizes-hold : everywhere (leavesOk Size) 5 moov m ≡ true
   unfolding movieRows wrongSize

@@ -5,14 +5,14 @@ use mathlib.Core.List.{List, [], _∷_, _++_, map}
 use mathlib.Core.Path.{_≡_, refl}
 use lib.ListN.{length, replicate}
 use Rattle.bigendian.specs.BigEndian.{beAt}
-use Rattle.atoms.specs.Kinds.{container, moov, trak, edts, mdia, minf, stbl, mvhd, tkhd, mdhd, hdlr, elst, stts, stsc, stsz, stco, stss, stsd, prfl, vide}
+use Rattle.atoms.specs.Kinds.{container, moov, trak, edts, mdia, minf, dinf, stbl, mvhd, tkhd, mdhd, hdlr, dref, elst, stts, stsc, stsz, stco, stss, stsd, prfl, vide}
 use Rattle.atoms.specs.Pieces.{piecesAfter, total, filledBy, fitting}
 use Rattle.atoms.specs.Atoms.{headerOf, bodyOf, sizeInside, sizeTop, sizeIn, ofKind}
 use Rattle.atoms.specs.Tree.{all, everywhere}
 use Rattle.leaves.specs.Present.{one, atMostOne, tables, present}
 use Rattle.leaves.specs.Leaves.{formOf, skipped, versionOk, holdsEntries, sizeEntry, filledWith, sizedEntries, sizeOk, leafOk}
 use Rattle.structure.specs.Profile.{firstBefore, ofVersion0, profileIn, profileOk}
-use Rattle.structure.specs.Track.{mdiaOf, minfOf, stblOf, tableOf, elstOf, subtypeOf, profileOf}
+use Rattle.structure.specs.Track.{mdiaOf, minfOf, stblOf, tableOf, elstOf, drefOf, subtypeOf, profileOf}
 use Rattle.structure.specs.Movie.{moovOf, movieProfile}
 use Rattle.structure.specs.Limits.{overLimits, tooMany}
 use Rattle.structure.specs.Rows.{some, first, orElse}
@@ -79,8 +79,22 @@ abbrev inStbl : List ℕ → List ℕ → List ℕ → List ℕ
 inStbl d z more =
     joined (d ∷ atom stts (words (0 ∷ 1 ∷ 4 ∷ 30 ∷ [])) ∷ atom stsc (words (0 ∷ 1 ∷ 1 ∷ 4 ∷ 1 ∷ [])) ∷ z ∷ atom stco (words (0 ∷ 1 ∷ 1000 ∷ [])) ∷ more ∷ [])
 
+-- a data reference of n bytes, and a dinf whose dref counts c references
+abbrev reference : ℕ → List ℕ
+reference n = word n ++ replicate (n - 4) 1
+
+abbrev references : ℕ → List ℕ → List ℕ
+references c r = atom dinf (atom dref (words (0 ∷ c ∷ []) ++ r))
+
+abbrev one12 : List ℕ
+one12 = references 1 (reference 12)
+
+-- the media with that handler, dinf and body of stbl
+abbrev mediaWith : List ℕ → List ℕ → List ℕ → List ℕ
+mediaWith h r s = atom mdia (joined (atom mdhd (replicate 24 0) ∷ h ∷ atom minf (r ++ atom stbl s) ∷ []))
+
 abbrev media : List ℕ → List ℕ → List ℕ
-media h s = atom mdia (joined (atom mdhd (replicate 24 0) ∷ h ∷ atom minf (atom stbl s) ∷ []))
+media h s = mediaWith h one12 s
 
 abbrev head92 : List ℕ
 head92 = atom tkhd (replicate 84 0)
@@ -94,6 +108,10 @@ track d z more = trackOf [] (media (handler 32 vide) (inStbl d z more)) []
 
 abbrev plain : List ℕ
 plain = media (handler 32 vide) (inStbl good same [])
+
+-- a track with that dinf
+abbrev referring : List ℕ → List ℕ
+referring r = trackOf [] (mediaWith (handler 32 vide) r (inStbl good same [])) []
 
 -- a prfl of n records
 abbrev profile : ℕ → List ℕ
@@ -143,6 +161,18 @@ cases =
     ∷ (film (trackOf [] (media (handler 32 soun) (inStbl (descriptions 1 (description 15)) same [])) []), 5)
     ∷ (film (track (descriptions 2 (description 36)) same []), 5)
     ∷ (film (track (descriptions 1 (description 36 ++ description 36)) same []), 5)
+    -- dinf: none; two; without dref; a dref in minf is skipped; version 1; an entry of 11 bytes; underfull and overfull; 65 references
+    ∷ (film (referring []), 3)
+    ∷ (film (referring (one12 ++ one12)), 3)
+    ∷ (film (referring (atom dinf [])), 3)
+    ∷ (film (referring (atom dref (1 ∷ []) ++ one12)), 0)
+    ∷ (film (referring (atom dinf (atom dref (1 ∷ [])))), 4)
+    ∷ (film (referring (references 0 [])), 0)
+    ∷ (film (referring (references 1 (reference 11))), 5)
+    ∷ (film (referring (references 2 (reference 12 ++ reference 30))), 0)
+    ∷ (film (referring (references 2 (reference 12))), 5)
+    ∷ (film (referring (references 1 (reference 12 ++ reference 12))), 5)
+    ∷ (film (referring (references 65 (joined (replicate 65 (reference 12))))), 6)
     -- a profile: an empty body; after mvhd; of another version, also before a broken one; too short; 64 and 65 records
     ∷ (atom moov (atom prfl [] ++ head), 5)
     ∷ (film (atom prfl []), 0)
@@ -159,5 +189,5 @@ cases =
     ∷ []
 
 results : map (λ e. refusalOf (e .0)) cases ≡ map (λ e. e .1) cases
-unfolding beAt container piecesAfter total filledBy fitting headerOf bodyOf sizeInside sizeTop sizeIn ofKind all everywhere one atMostOne tables present formOf skipped versionOk holdsEntries sizeEntry filledWith sizedEntries sizeOk leafOk firstBefore ofVersion0 profileIn profileOk mdiaOf minfOf stblOf tableOf elstOf subtypeOf profileOf moovOf movieProfile overLimits tooMany some first orElse wrongVersion wrongSize shortVideoDescription wrongTrackSize fileRows movieRows movieRefusal refusalOf
+unfolding beAt container piecesAfter total filledBy fitting headerOf bodyOf sizeInside sizeTop sizeIn ofKind all everywhere one atMostOne tables present formOf skipped versionOk holdsEntries sizeEntry filledWith sizedEntries sizeOk leafOk firstBefore ofVersion0 profileIn profileOk mdiaOf minfOf stblOf tableOf elstOf drefOf subtypeOf profileOf moovOf movieProfile overLimits tooMany some first orElse wrongVersion wrongSize shortVideoDescription wrongTrackSize fileRows movieRows movieRefusal refusalOf
 results = refl

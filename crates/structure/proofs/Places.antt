@@ -11,10 +11,10 @@ use Rattle.atoms.specs.Kinds.{moov, trak, prfl}
 use Rattle.atoms.specs.Atoms.{bodyOf, sizeIn, atoms}
 use Rattle.atoms.proofs.Laws.{atoms-none, atoms-next, kinds-none, kinds-here, kinds-next}
 use Rattle.structure.specs.Rows.{Row}
-use Rattle.structure.specs.ByTracks.{lowerOf, ofTrack, ofTracks}
+use Rattle.structure.specs.ByTracks.{earlierOf, ofTrack, ofTracks}
 use Rattle.structure.specs.Profile.{firstBefore}
 use Rattle.structure.specs.Movie.{tracksOf}
-use Rattle.structure.proofs.Rows.{lower-none, lower-assoc}
+use Rattle.structure.proofs.Rows.{earlier-none, earlier-assoc}
 
 -- ---- the profile
 
@@ -47,18 +47,18 @@ module _ (s : List ℕ) (z : ℕ) (e : z ≡ sizeIn moov s) where
   pub tracks-next : 8 ≤ z → (u32At s 4 ≡ trak → ⊥) → tracksOf s ≡ tracksOf (drop z s)
   tracks-next h f = rw (kinds-next moov s z e trak h f)
 
--- ---- the lowest of their refusals with the one found so far, for any table of rows
+-- ---- the earliest of their refusals with the one found so far, for any table of rows
 
 module _ (rs : List Row) (found : ℕ) (s : List ℕ) (z : ℕ) (e : z ≡ sizeIn moov s) where
-  pub found-end : z < 8 → lowerOf found (ofTracks rs (tracksOf s)) ≡ found
+  pub found-end : z < 8 → earlierOf found (ofTracks rs (tracksOf s)) ≡ found
   unfolding ofTracks
-  found-end h = rw (tracks-none s z e h) (lower-none found)
+  found-end h = rw (tracks-none s z e h) (earlier-none found)
 
-  pub found-here : (b : List ℕ) (next new : ℕ) → 8 ≤ z → u32At s 4 ≡ trak → b ≡ bodyOf (take z s) → next ≡ ofTrack rs b → new ≡ lowerOf found next
-      → lowerOf new (ofTracks rs (tracksOf (drop z s))) ≡ lowerOf found (ofTracks rs (tracksOf s))
+  pub found-here : (b : List ℕ) (next new : ℕ) → 8 ≤ z → u32At s 4 ≡ trak → b ≡ bodyOf (take z s) → next ≡ ofTrack rs b → new ≡ earlierOf found next
+      → earlierOf new (ofTracks rs (tracksOf (drop z s))) ≡ earlierOf found (ofTracks rs (tracksOf s))
   unfolding ofTracks
-  found-here b next new h f g d q = rw (tracks-here s z e h f, ← g, ← d, q) (lower-assoc found next _)
+  found-here b next new h f g d q = rw (tracks-here s z e h f, ← g, ← d, q) (earlier-assoc found next _)
 
   pub found-next : (new : ℕ) → 8 ≤ z → (u32At s 4 ≡ trak → ⊥) → new ≡ found
-      → lowerOf new (ofTracks rs (tracksOf (drop z s))) ≡ lowerOf found (ofTracks rs (tracksOf s))
+      → earlierOf new (ofTracks rs (tracksOf (drop z s))) ≡ earlierOf found (ofTracks rs (tracksOf s))
   found-next new h f q = rw (tracks-next s z e h f, q)

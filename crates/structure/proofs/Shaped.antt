@@ -8,11 +8,11 @@ use mathlib.Core.List.{List, []}
 use mathlib.Core.Bool.{true}
 use lib.ListN.{length}
 use Rattle.bigendian.specs.BigEndian.{u32At}
-use Rattle.atoms.specs.Kinds.{file, moov, trak, edts, mdia, minf, stbl, mvhd, tkhd, mdhd, hdlr, elst, stts, ctts, stsc, stsz, stco, stss, stsd, vide}
+use Rattle.atoms.specs.Kinds.{file, moov, trak, edts, mdia, minf, dinf, stbl, mvhd, tkhd, mdhd, hdlr, dref, elst, stts, ctts, stsc, stsz, stco, stss, stsd, vide}
 use Rattle.atoms.specs.Atoms.{childIn, bodyIn, countIn, filled}
 use Rattle.atoms.specs.Tree.{everywhere}
 use Rattle.leaves.specs.Leaves.{sizedEntries}
-use Rattle.structure.specs.Track.{mdiaOf, minfOf, stblOf, tableOf, elstOf, subtypeOf, samplesOf, chunksOf, editsOf, descriptionsOf, profileOf}
+use Rattle.structure.specs.Track.{mdiaOf, minfOf, stblOf, tableOf, elstOf, subtypeOf, samplesOf, chunksOf, editsOf, descriptionsOf, drefOf, referencesOf, profileOf}
 use Rattle.structure.specs.Movie.{moovOf, tracksOf, trackAt, movieProfile}
 
 -- a table is 16 bytes and as many entries of width w as it counts
@@ -34,6 +34,9 @@ pub record Shaped (t : List ℕ) : Type 0 where
   pub hdlr-size : 32 ≤ length (childIn mdia hdlr 0 (mdiaOf t))
   pub minf-once : countIn mdia minf (mdiaOf t) ≡ 1
   pub stbl-once : countIn minf stbl (minfOf t) ≡ 1
+  pub dinf-once : countIn minf dinf (minfOf t) ≡ 1
+  pub dref-once : countIn dinf dref (bodyIn minf dinf 0 (minfOf t)) ≡ 1
+  pub dref-size : sizedEntries 12 (drefOf t) ≡ true
   pub stsd-once : countIn stbl stsd (stblOf t) ≡ 1
   pub stsd-size : sizedEntries 16 (tableOf stsd t) ≡ true
   pub stsd-pictures : subtypeOf t ≡ vide → sizedEntries 36 (tableOf stsd t) ≡ true
@@ -59,6 +62,7 @@ pub record Shaped (t : List ℕ) : Type 0 where
   pub few-edits : editsOf t ≤ 256
   pub few-descriptions : descriptionsOf t ≤ 64
   pub few-records : u32At (profileOf t) 12 ≤ 64
+  pub few-references : referencesOf t ≤ 64
 
 -- a movie, from the body m of its moov: `tracks` finds each by its index
 pub record ShapedMovie (m : List ℕ) : Type 0 where

@@ -4,7 +4,7 @@ use Prim.Native.Nat.{ℕ}
 use mathlib.Core.List.{List, [], _∷_}
 use Rattle.structure.specs.Movie.{moovOf, tracksOf}
 use Rattle.structure.specs.Limits.{overLimits, tooMany}
-use Rattle.structure.specs.Rows.{Row, row, never, ofWhole, lowest, orElse}
+use Rattle.structure.specs.Rows.{Row, row, never, ofWhole, firstJudged, orElse}
 use Rattle.structure.specs.Refusals.{wrongVersion, wrongSize, wrongTrackSize, fileRows}
 
 -- number, condition on the body of the moov, condition on a track
@@ -17,8 +17,8 @@ movieRows =
 
 -- the refusal of a movie, from the body of its moov; 0 where it is not refused
 unfoldable pub movieRefusal : List ℕ → ℕ
-movieRefusal m = lowest movieRows m (tracksOf m)
+movieRefusal m = firstJudged movieRows m (tracksOf m)
 
--- the refusal of a file: the lowest number that applies; 0 where the file is not refused
+-- the refusal of a file: the first of 1 to 6 that applies; 0 where the file is not refused
 unfoldable pub refusalOf : List ℕ → ℕ
 refusalOf s = orElse (ofWhole fileRows s) (movieRefusal (moovOf s))

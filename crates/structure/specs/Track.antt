@@ -2,7 +2,7 @@
 use Prim.Native.Nat.{ℕ}
 use mathlib.Core.List.{List}
 use Rattle.bigendian.specs.BigEndian.{u32At}
-use Rattle.atoms.specs.Kinds.{trak, edts, mdia, minf, stbl, tkhd, mdhd, hdlr, stsd, stsz, stco, elst}
+use Rattle.atoms.specs.Kinds.{trak, edts, mdia, minf, dinf, stbl, tkhd, mdhd, hdlr, dref, stsd, stsz, stco, elst}
 use Rattle.atoms.specs.Atoms.{childIn, bodyIn}
 use Rattle.structure.specs.Profile.{profileIn}
 
@@ -23,6 +23,10 @@ tableOf k t = childIn stbl k 0 (stblOf t)
 unfoldable pub elstOf : List ℕ → List ℕ
 elstOf t = childIn edts elst 0 (bodyIn trak edts 0 t)
 
+-- its data references, as a dref; empty where it is absent. "one 'dinf' container in minf, one read leaf 'dref' in it"
+unfoldable pub drefOf : List ℕ → List ℕ
+drefOf t = childIn dinf dref 0 (bodyIn minf dinf 0 (minfOf t))
+
 -- "track ID 20"
 unfoldable pub idOf : List ℕ → ℕ
 idOf t = u32At (childIn trak tkhd 0 t) 20
@@ -38,7 +42,7 @@ durationOf t = u32At (childIn mdia mdhd 0 (mdiaOf t)) 24
 unfoldable pub subtypeOf : List ℕ → ℕ
 subtypeOf t = u32At (childIn mdia hdlr 0 (mdiaOf t)) 16
 
--- the numbers of samples, chunks, edits and descriptions that the tables state; none where a table is absent
+-- the numbers of samples, chunks, edits, descriptions and data references that the tables state; none where a table is absent
 abbrev pub samplesOf : List ℕ → ℕ
 samplesOf t = u32At (tableOf stsz t) 16
 
@@ -50,6 +54,10 @@ editsOf t = u32At (elstOf t) 12
 
 abbrev pub descriptionsOf : List ℕ → ℕ
 descriptionsOf t = u32At (tableOf stsd t) 12
+
+-- "count at 12"
+abbrev pub referencesOf : List ℕ → ℕ
+referencesOf t = u32At (drefOf t) 12
 
 -- its profile; empty where it has none
 unfoldable pub profileOf : List ℕ → List ℕ

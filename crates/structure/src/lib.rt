@@ -16,6 +16,7 @@ use moov::moov_body;
 use moov::movie_profile;
 use moov::track_count;
 use profile::profile_ok;
+use trak::data_references;
 use trak::edit_list;
 use trak::subtype;
 use trak::table;
@@ -23,8 +24,8 @@ use trak::track_profile;
 ghost use mathlib.Core.Path.{_≡_};
 ghost use mathlib.Core.Bool.{_||_};
 ghost use Rattle.structure.specs.Limits.{overLimits, tooMany};
-ghost use Rattle.structure.specs.Rows.{ofWhole};
-ghost use Rattle.structure.specs.ByTracks.{lowerOf, ofTrack};
+ghost use Rattle.structure.specs.Rows.{ofWhole, rank};
+ghost use Rattle.structure.specs.ByTracks.{earlierOf, ofTrack};
 ghost use Rattle.structure.specs.Refusals.{wrongVersion, wrongSize, shortVideoDescription, wrongTrackSize, fileRows};
 ghost use Rattle.structure.specs.MovieRows.{movieRows, movieRefusal, refusalOf};
 
@@ -43,9 +44,16 @@ fn either(a: bool, b: bool) -> bool
     a || b
 }
 
-// The lower of two refusals, 0 being none.
-pub fn lower_of(a: u32, b: u32) -> u32
-    ensures { λ r. ⌜ r ≡ lowerOf a b ⌝ }
+// The place of a refusal in the order of judging.
+fn rank_of(n: u32) -> u64
+    ensures { λ r. ⌜ r ≡ rank n ⌝ }
+{
+    if n == 19 { 23 } else { n as u64 + n as u64 }
+}
+
+// The one of two refusals that is judged earlier, 0 being none.
+pub fn earlier_of(a: u32, b: u32) -> u32
+    ensures { λ r. ⌜ r ≡ earlierOf a b ⌝ }
 {
     if a == 0 {
         return b;
@@ -53,7 +61,7 @@ pub fn lower_of(a: u32, b: u32) -> u32
     if b == 0 {
         return a;
     }
-    if a < b { a } else { b }
+    if rank_of(a) <= rank_of(b) { a } else { b }
 }
 
 // Whether a track of pictures has a description below 36 bytes.
@@ -82,10 +90,12 @@ fn is_over_limits(trak: &[u8]) -> bool
     let edits = u32_at(edit_list(trak), 12);
     let descriptions = u32_at(table(trak, kinds::STSD), 12);
     let records = u32_at(track_profile(trak), 12);
+    let references = u32_at(data_references(trak), 12);
     let a = either(1048576 < samples, 1048576 < chunks);
     let b = either(a, 256 < edits);
     let c = either(b, 64 < descriptions);
-    either(c, 64 < records)
+    let d = either(c, 64 < records);
+    either(d, 64 < references)
 }
 
 fn is_wrong_version(moov: &[u8]) -> bool
@@ -160,7 +170,7 @@ fn track_refusal(trak: &[u8]) -> u32
     0
 }
 
-// The refusal of a movie, from the body of its moov: the lowest of its own and of each track's; 0 where there is none.
+// The refusal of a movie, from the body of its moov: the earliest of its own and of each track's; 0 where there is none.
 fn movie_refusal(moov: &[u8]) -> u32
     ensures { λ r. ⌜ r ≡ movieRefusal (now (moov .entry)) ⌝ }
 {
@@ -173,13 +183,13 @@ fn movie_refusal(moov: &[u8]) -> u32
         }
         if u32_at(t, 4) == kinds::TRAK {
             let next = track_refusal(body_of(&t[..n]));
-            found = lower_of(found, next);
+            found = earlier_of(found, next);
         }
         t = &t[n..];
     }
 }
 
-// The refusal of a file: the lowest of 1 to 6 that applies, or 0.
+// The refusal of a file: the first of 1 to 6 that applies, or 0.
 pub fn refusal(file: &[u8]) -> u32
     ensures { λ r. ⌜ r ≡ refusalOf (now (file .entry)) ⌝ }
 {

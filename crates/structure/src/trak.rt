@@ -6,7 +6,7 @@ use atoms::child_body;
 use atoms::kinds;
 use bigendian::u32_at;
 ghost use mathlib.Core.Path.{_≡_};
-ghost use Rattle.structure.specs.Track.{mdiaOf, stblOf, tableOf, elstOf, idOf, scaleOf, durationOf, subtypeOf, profileOf};
+ghost use Rattle.structure.specs.Track.{mdiaOf, minfOf, stblOf, drefOf, tableOf, elstOf, idOf, scaleOf, durationOf, subtypeOf, profileOf};
 
 fn mdia_body<'a>(trak: &'a [u8]) -> &'a [u8]
     ensures { λ r. ⌜ now r ≡ mdiaOf (now (trak .entry)) ⌝ }
@@ -14,12 +14,17 @@ fn mdia_body<'a>(trak: &'a [u8]) -> &'a [u8]
     child_body(trak, kinds::TRAK, kinds::MDIA, 0)
 }
 
+fn minf_body<'a>(trak: &'a [u8]) -> &'a [u8]
+    ensures { λ r. ⌜ now r ≡ minfOf (now (trak .entry)) ⌝ }
+{
+    child_body(mdia_body(trak), kinds::MDIA, kinds::MINF, 0)
+}
+
 // The body of the stbl, in which the sample tables stand.
 fn stbl_body<'a>(trak: &'a [u8]) -> &'a [u8]
     ensures { λ r. ⌜ now r ≡ stblOf (now (trak .entry)) ⌝ }
 {
-    let minf = child_body(mdia_body(trak), kinds::MDIA, kinds::MINF, 0);
-    child_body(minf, kinds::MINF, kinds::STBL, 0)
+    child_body(minf_body(trak), kinds::MINF, kinds::STBL, 0)
 }
 
 // The sample table of that kind, its header included; empty where it is absent.
@@ -35,6 +40,14 @@ pub fn edit_list<'a>(trak: &'a [u8]) -> &'a [u8]
 {
     let edts = child_body(trak, kinds::TRAK, kinds::EDTS, 0);
     child(edts, kinds::EDTS, kinds::ELST, 0)
+}
+
+// The data references, as a dref, its header included; empty where it is absent.
+pub fn data_references<'a>(trak: &'a [u8]) -> &'a [u8]
+    ensures { λ r. ⌜ now r ≡ drefOf (now (trak .entry)) ⌝ }
+{
+    let dinf = child_body(minf_body(trak), kinds::MINF, kinds::DINF, 0);
+    child(dinf, kinds::DINF, kinds::DREF, 0)
 }
 
 pub fn track_id(trak: &[u8]) -> u32

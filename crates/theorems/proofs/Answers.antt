@@ -22,7 +22,7 @@ use Rattle.track.specs.Track.{trackOf}
 use Rattle.track.specs.Refusals.{totalIn}
 use Rattle.questions.specs.Asked.{askRefusal, trackAsked}
 use Rattle.questions.specs.Samples.{sampleOf, sampleRefusal, sampleAnswer}
-use Rattle.questions.specs.Times.{atRefusal, atNumber, atAnswer}
+use Rattle.questions.specs.Times.{atRefusal, atNumber, atEntry, atAnswer}
 use Rattle.stretch.specs.Stretches.{bytesIn, stretchPairs, spanRefusal, stretchRefusal, stretchAnswer}
 use Rattle.questions.specs.declared.samples.Sample.{Sample}
 use Rattle.questions.specs.declared.samples.SampleAnswer.the-variants.{Found, Refused}
@@ -76,7 +76,7 @@ module _ (s : List ℕ) (source : Source) (id : ℕ) (e : askRefusal s source id
 
   -- ---- times
 
-  pub at-is : (t : MediaTime) → t .0 < sum (tables s id .durations) → atAnswer s source id t ≡ number.Number (suc (holder (tables s id .durations) (t .0)))
+  pub at-is : (t : MediaTime) → t .0 < sum (tables s id .durations) → atAnswer s source id t ≡ number.Number (suc (holder (tables s id .durations) (t .0))) (atEntry s id t)
   unfolding atRefusal atNumber orElse totalIn trackOf
   at-is t h = rw (e, lt-ltb (t .0) (sum (tables s id .durations)) h)
 
@@ -84,8 +84,8 @@ module _ (s : List ℕ) (source : Source) (id : ℕ) (e : askRefusal s source id
   unfolding atRefusal orElse totalIn trackOf
   at-outside t h = rw (e, le-ltb (t .0) (sum (tables s id .durations)) h)
 
-  pub at-known : (t : MediaTime) (n : ℕ) → atAnswer s source id t ≡ number.Number n → (t .0 < sum (tables s id .durations)) × (n ≡ suc (holder (tables s id .durations) (t .0)))
-  at-known t n q = elim (decLt (t .0) (sum (tables s id .durations))) [
+  pub at-known : (t : MediaTime) (n k : ℕ) → atAnswer s source id t ≡ number.Number n k → (t .0 < sum (tables s id .durations)) × (n ≡ suc (holder (tables s id .durations) (t .0)))
+  at-known t n k q = elim (decLt (t .0) (sum (tables s id .durations))) [
     | yes l ↦ let r = at-is t l in (l, cc)
     | no l ↦ let r = at-outside t (omega arith) in let z : _≡_ {A = ℕ} 0 1 = cc in absurd (omega arith)
   ]

@@ -8,7 +8,7 @@ use native.Mathlib.Omega.{arith}
 use lib.ListN.{length, getD}
 use Rattle.lists.specs.Lists.{sum, before, holder, Holds}
 use Rattle.lists.proofs.Places as places
-use Rattle.runs.specs.Runs.{perSample}
+use Rattle.runs.specs.Runs.{runsOf, perSample, entryOf}
 use Rattle.words.specs.Words.{sizes, chunkOffsets}
 use Rattle.chunks.specs.Chunks.{perChunk, offsetOf}
 use Rattle.chunks.specs.Computed.{dealsAgree}
@@ -23,7 +23,7 @@ use Rattle.track.proofs.Agreed.{agreed-tables}
 use Rattle.questions.specs.Asked.{askRefusal, trackAsked}
 use Rattle.questions.proofs.Asking.{asked}
 use Rattle.questions.specs.Samples.{sampleOf, sampleAnswer}
-use Rattle.questions.specs.Times.{atAnswer}
+use Rattle.questions.specs.Times.{atEntry, atAnswer}
 use Rattle.pairs.proofs.Counting.{touched-length}
 use Rattle.stretch.specs.Stretches.{firstIn, pastIn, pairsIn, bytesIn, stretchPairs}
 use Rattle.questions.specs.declared.samples.Sample.{Sample}
@@ -92,14 +92,14 @@ record Run (s : List ℕ) (id : ℕ) (a b : MediaTime) (first last : ℕ) : Type
   few : i + n ≤ samplesOf (trackAsked s id)
 
 module _ (s : List ℕ) (source : Source) (id : ℕ) (e : askRefusal s source id ≡ 0) (l : Listed s id) where
-  run-of : (a b z : MediaTime) (first last : ℕ) → a .0 < b .0 → b .0 ≤ sum (tables s id .durations) → z .0 ≡ b .0 - 1
-      → atAnswer s source id a ≡ number.Number first → atAnswer s source id z ≡ number.Number last → Run s id a b first last
-  run-of a b z first last o w d p q =
+  run-of : (a b z : MediaTime) (first last i j : ℕ) → a .0 < b .0 → b .0 ≤ sum (tables s id .durations) → z .0 ≡ b .0 - 1
+      → atAnswer s source id a ≡ number.Number first i → atAnswer s source id z ≡ number.Number last j → Run s id a b first last
+  run-of a b z first last i₁ j₁ o w d p q =
       let ds = tables s id .durations in
       let i = holder ds (a .0) in
       let j = holder ds (b .0 - 1) in
-      let f = at-known s source id e a first p in
-      let g = at-known s source id e z last q in
+      let f = at-known s source id e a first i₁ p in
+      let g = at-known s source id e z last j₁ q in
       let k : last ≡ suc j = g .1 ∙ rw d in
       let m : i ≤ j = places.holder-mono ds (a .0) (b .0 - 1) (omega arith) in
       let t : i + (suc j - i) ≡ suc j = omega arith in
@@ -232,10 +232,14 @@ module _ (s t : List ℕ) (source : Source) (e : askRefusal s source (idOf t) �
             let i = holder ds (time .0) in
             let k = places.holder-holds ds (time .0) (omega (arith, total)) in
             let low : i < samplesOf (trackAsked s id) = omega (arith, places.holds-below ds (time .0) i k .1, l .timed) in
-            let f = found-is s source id e (suc i) i refl low in (
+            let f = found-is s source id e (suc i) i refl low in
+            let c = entry-counts t shape (suc i) i refl (omega (arith, low, l .timed, ap length durations-are)) in
+            let g : atEntry s id time ≡ suc (c .0) = ap (λ u. entryOf (runsOf (tableOf stts u)) i) itself ∙ c .3 in (
               suc i,
+              c .0,
               sampleOf (tables s id) i,
-              at-is s source id e time (omega (arith, total)),
+              at-is s source id e time (omega (arith, total)) ∙ ap (number.Number (suc i)) g,
+              c .1,
               f,
               has-of s id i (time .0) k,
               λ m y q w.
@@ -296,10 +300,10 @@ module _ (s t : List ℕ) (source : Source) (e : askRefusal s source (idOf t) �
           λ room h. short-is s source id e a b room o (omega (arith, total)) (omega (arith, flat-length (stretchPairs s id a b))),
         );
         refused = λ a b n room. no-stretch s source id e a b (λ w. n (w .0, omega (arith, w .1, total))) room;
-        pairs = λ a b z room k total′ first last x y g d p q f h.
+        pairs = λ a b z room k total′ first last i j x y g d p q f h.
             let r = pairs-known s source id a b room k total′ g in
-            let v = at-known s source id e a first p in
-            let w = at-known s source id e z last q in
+            let v = at-known s source id e a first i p in
+            let w = at-known s source id e z last j q in
             let t : holder ds (z .0) ≡ holder ds (b .0 - 1) = ap (holder ds) d in
             let u₁ = found-known s source id e first x f in
             let u₂ = found-known s source id e last y h in
@@ -314,9 +318,9 @@ module _ (s t : List ℕ) (source : Source) (e : askRefusal s source (idOf t) �
               chunk-is s id last y u₂,
               ap (holder ps) i₂,
             );
-        bytes = λ a b z room k total first last g d p q.
+        bytes = λ a b z room k total first last i j g d p q.
             let r = pairs-known s source id a b room k total g in
-            r .total ∙ sizes-fit s source id e l a b first last (run-of s source id e l a b z first last (r .span .order) (r .span .within) d p q);
+            r .total ∙ sizes-fit s source id e l a b first last (run-of s source id e l a b z first last i j (r .span .order) (r .span .within) d p q);
         cut = λ a m b pos n x f d o w room₁ room₂ room k₁ k₂ k bytes₁ bytes₂ bytes p q r.
             let u = found-known s source id e n x f in
             let all : (i : ℕ) → i < length ds → before ds i ≡ before ds (u .index) → 0 < getD ds i 0 = λ i h q′.

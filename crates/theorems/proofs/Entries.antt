@@ -19,7 +19,7 @@ use Rattle.lists.proofs.Laws.{length-run, sum-run, getD-in, getD-past}
 use Rattle.lists.proofs.Places.{before-suc, before-all, holder-holds, holds-below}
 use Rattle.lists.proofs.Rows.{rows-next, length-rows}
 use Rattle.lists.proofs.Cuts.{rows-drop}
-use Rattle.runs.specs.Runs.{runOf, runsOf, perSample}
+use Rattle.runs.specs.Runs.{runOf, runsOf, perSample, entryOf}
 use Rattle.words.specs.Words.{sizes, chunkOffsets}
 use Rattle.words.proofs.Turns.{offsets-in, words-at, sizes-listed, sizes-common}
 use Rattle.chunks.specs.Chunks.{Deal, dealOf, deals, firstOf, dealt, perChunk}
@@ -151,8 +151,8 @@ module _ (t : List ℕ) (h : Shaped t) where
 
   -- each is that of the entry which counts it
   pub entry-counts : (n i : ℕ) → n ≡ suc i → i < length (perSample (tableOf stts t))
-      → (k : ℕ) × Counts t k n × (getD (perSample (tableOf stts t)) i 0 ≡ sampleDuration t k)
-  unfolding perSample runs
+      → (k : ℕ) × Counts t k n × (getD (perSample (tableOf stts t)) i 0 ≡ sampleDuration t k) × (entryOf (runsOf (tableOf stts t)) i ≡ suc k)
+  unfolding perSample runs counts entryOf
   entry-counts n i q l =
       let k = holder (counts runs) i in
       let w = holder-holds (counts runs) i (omega (arith, run-length runs)) in
@@ -164,6 +164,7 @@ module _ (t : List ℕ) (h : Shaped t) where
           upto = omega (arith, counted-is (suc k) (omega arith), before-suc (counts runs) k, w .to);
         },
         run-at runs i k w ∙ duration-at k g,
+        refl,
       )
 
 -- ---- stsz and stco

@@ -94,9 +94,11 @@ pub record OfTrack (s t : List ℕ) (w : Source) : Type 0 where
   -- each has the duration of the stts entry that counts it, and its size in stsz
   pub lasts : (n : ℕ) (x : Sample) → sampleAnswer s w (idOf t) n ≡ Found x → (k : ℕ) × Counts t k n × (x .duration ≡ sampleDuration t k)
   pub sized : (n : ℕ) (x : Sample) → sampleAnswer s w (idOf t) n ≡ Found x → x .size ≡ sampleSize t n
-  -- "each media time below the total belongs to exactly one sample, and asked for it the reader names it"
+  -- "each media time below the total belongs to exactly one sample, and asked for it the reader names it", with "the position, from 1, of the entry
+  -- that holds the answered sample, which is never above the number of stts entries"
   pub named : (time : MediaTime) → time .0 < mediaTotal t
-      → (n : ℕ) × (x : Sample) × (atAnswer s w (idOf t) time ≡ number.Number n) × (sampleAnswer s w (idOf t) n ≡ Found x) × HasTime x (time .0)
+      → (n : ℕ) × (k : ℕ) × (x : Sample) × (atAnswer s w (idOf t) time ≡ number.Number n (suc k)) × Counts t k n
+      × (sampleAnswer s w (idOf t) n ≡ Found x) × HasTime x (time .0)
       × ((m : ℕ) (y : Sample) → sampleAnswer s w (idOf t) m ≡ Found y → HasTime y (time .0) → m ≡ n)
   -- any other belongs to none, and is refused
   pub outside : (time : MediaTime) → mediaTotal t ≤ time .0
@@ -123,12 +125,12 @@ pub record OfTrack (s t : List ℕ) (w : Source) : Type 0 where
   pub refused : (a b : MediaTime) → ((a .0 < b .0) × (b .0 ≤ mediaTotal t) → ⊥) → (room : List ℕ)
       → stretchAnswer s w (idOf t) a b room ≡ stretch.Refused 15
   -- "One pair (offset, length) for each chunk touched": from the chunk of the sample at a to that of the sample at b - 1
-  pub pairs : (a b z : MediaTime) (room : List ℕ) (k total first last : ℕ) (x y : Sample) → stretchAnswer s w (idOf t) a b room ≡ stretch.Pairs k total
-      → z .0 ≡ b .0 - 1 → atAnswer s w (idOf t) a ≡ number.Number first → atAnswer s w (idOf t) z ≡ number.Number last
+  pub pairs : (a b z : MediaTime) (room : List ℕ) (k total first last i j : ℕ) (x y : Sample) → stretchAnswer s w (idOf t) a b room ≡ stretch.Pairs k total
+      → z .0 ≡ b .0 - 1 → atAnswer s w (idOf t) a ≡ number.Number first i → atAnswer s w (idOf t) z ≡ number.Number last j
       → sampleAnswer s w (idOf t) first ≡ Found x → sampleAnswer s w (idOf t) last ≡ Found y → k ≡ suc (y .chunk) - x .chunk
   -- "The bytes of a stretch are its answered total: the sizes of all samples included, added", those "from the one at a to the one at b-1"
-  pub bytes : (a b z : MediaTime) (room : List ℕ) (k total first last : ℕ) → stretchAnswer s w (idOf t) a b room ≡ stretch.Pairs k total
-      → z .0 ≡ b .0 - 1 → atAnswer s w (idOf t) a ≡ number.Number first → atAnswer s w (idOf t) z ≡ number.Number last
+  pub bytes : (a b z : MediaTime) (room : List ℕ) (k total first last i j : ℕ) → stretchAnswer s w (idOf t) a b room ≡ stretch.Pairs k total
+      → z .0 ≡ b .0 - 1 → atAnswer s w (idOf t) a ≡ number.Number first i → atAnswer s w (idOf t) z ≡ number.Number last j
       → total ≡ added s w (idOf t) sizeIn first last
   -- "a stretch cut at a sample's start gives bytes that add up": the cut m is the start of a sample, strictly inside, and each of the three has
   -- room. A sample of zero duration that stands at m would be in the whole and in neither part, so that there may be none there

@@ -1,5 +1,6 @@
--- The order of the refusals of a film as a claim: "The answer is the lowest number that applies". Each condition is defined of every file, so that
--- it need not be "judged on files that pass all lower ones" to have a meaning.
+-- The order of the refusals of a film as a claim: "The answer is the lowest number that applies", and of 19 "judged after 11 and before
+-- 12"; so it is the first in the order judged. Each condition is defined of every film, so that it need not be "judged on files that
+-- pass all lower ones" to have a meaning.
 use Prim.Native.Nat.{ℕ, _≤_, _<_}
 use mathlib.Core.Path.{_≡_}
 use mathlib.Core.Logic.{_⊎_}
@@ -8,7 +9,7 @@ use mathlib.Core.List.{List, [], _∷_, _++_, map}
 use lib.ListN.{length}
 use Rattle.structure.specs.declared.source.Source.{Source}
 use Rattle.structure.specs.Source.{strictly}
-use Rattle.structure.specs.Rows.{Row, some}
+use Rattle.structure.specs.Rows.{Row, some, rank, ranksRise}
 use Rattle.structure.specs.Movie.{moovOf, movieScale, tracksOf}
 use Rattle.structure.specs.Refusals.{fileRows}
 use Rattle.movie.specs.Refusals.{moovRows, filmRefusal}
@@ -18,21 +19,25 @@ abbrev pub OneHolds : (Row → Bool) → List Row → ℕ → Type 0
 OneHolds f [] n = ⊥
 OneHolds f (r ∷ rs) n = ((f r ≡ true) × (r .number ≡ n)) ⊎ OneHolds f rs n
 
--- the number n applies to the film s, by its source: by a row that is judged on the file, or by one that is judged on its movie and each of its
--- tracks
+-- the rows that are judged on the movie of the film s
+abbrev pub rowsOfMovie : List ℕ → Source → List Row
+rowsOfMovie s w = moovRows w (movieScale (moovOf s)) (length s)
+
+-- the number n applies to the film s: by a row that is judged on the file, or by one that is judged on its movie and each of its tracks
 abbrev pub Applies : List ℕ → Source → ℕ → Type 0
 Applies s w n =
     OneHolds (λ r. r .whole s) fileRows n
-    ⊎ OneHolds (λ r. r .whole (moovOf s) || some (r .track) (tracksOf (moovOf s))) (moovRows w (movieScale (moovOf s)) (length s)) n
+    ⊎ OneHolds (λ r. r .whole (moovOf s) || some (r .track) (tracksOf (moovOf s))) (rowsOfMovie s w) n
 
-pub record LowestApplies (s : List ℕ) (w : Source) : Type 0 where
-  -- the rows are those of the numbers 1 to 13
-  pub numbers : map (λ r. r .number) (fileRows ++ moovRows w (movieScale (moovOf s)) (length s))
-      ≡ 1 ∷ 2 ∷ 3 ∷ 4 ∷ 5 ∷ 6 ∷ 7 ∷ 8 ∷ 9 ∷ 10 ∷ 11 ∷ 12 ∷ 13 ∷ []
+pub record FirstApplies (s : List ℕ) (w : Source) : Type 0 where
+  -- the rows are those of these numbers, and stand in the order of judging
+  pub numbers : map (λ r. r .number) (fileRows ++ rowsOfMovie s w)
+      ≡ 1 ∷ 2 ∷ 3 ∷ 4 ∷ 5 ∷ 6 ∷ 7 ∷ 8 ∷ 9 ∷ 10 ∷ 11 ∷ 19 ∷ 12 ∷ 13 ∷ []
+  pub order : ranksRise 0 (fileRows ++ rowsOfMovie s w) ≡ true
   -- a number that is given applies
   pub applies : (filmRefusal s w ≡ 0 → ⊥) → Applies s w (filmRefusal s w)
-  -- where one applies a number is given, and none that applies is lower
-  pub lowest : (n : ℕ) → Applies s w n → (0 < filmRefusal s w) × (filmRefusal s w ≤ n)
+  -- where one applies a number is given, and none that applies is judged earlier
+  pub earliest : (n : ℕ) → Applies s w n → (0 < filmRefusal s w) × (rank (filmRefusal s w) ≤ rank n)
 
 -- "11 only where strict reading is asked for, in its old place"
 pub record StrictReading (s : List ℕ) (w : Source) : Type 0 where

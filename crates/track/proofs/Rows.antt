@@ -13,16 +13,17 @@ use Rattle.lists.specs.Totals.{totalOf}
 use Rattle.lists.proofs.Totals.{total-known, over-known}
 use Rattle.structure.specs.Rows.{first}
 use Rattle.structure.specs.ByTracks.{ofTrack}
-use Rattle.atoms.specs.Kinds.{stts, stsc, stsz, stco}
+use Rattle.atoms.specs.Kinds.{stts, stsc, stsz, stco, stsd}
 use Rattle.bigendian.specs.BigEndian.{u32At}
 use Rattle.lists.specs.Lists.{sum}
 use Rattle.runs.specs.Runs.{perSample}
 use Rattle.words.specs.Words.{sizes, chunkOffsets}
 use Rattle.chunks.specs.Chunks.{perChunk, endWithin}
 use Rattle.structure.specs.declared.source.Source.{Source}
-use Rattle.structure.specs.Track.{idOf, scaleOf, durationOf, tableOf, elstOf}
+use Rattle.structure.specs.Track.{idOf, scaleOf, durationOf, tableOf, elstOf, drefOf}
 use Rattle.edits.specs.Edits.{editTotal, editsOk}
-use Rattle.track.specs.Refusals.{contradicts, totalIn, totalTooLarge, otherDuration, chunkPastEnd, wrongEdits}
+use Rattle.references.specs.References.{allInThisFile}
+use Rattle.track.specs.Refusals.{contradicts, totalIn, totalTooLarge, otherDuration, dataElsewhere, chunkPastEnd, wrongEdits}
 use Rattle.track.specs.TrackRows.{timedRows, trackRows}
 
 -- ---- totals
@@ -47,7 +48,7 @@ module _ (x : ℕ) (r : Total) (is : r ≡ totalOf x) where
   pub over-other : (k : ℕ) → k < 4294967296 → r ≡ Over → false ≡ eqb x k
   over-other k h q = let o = over-known x (sym is ∙ q) in sym (ne-eqb x k (λ z. omega arith))
 
--- ---- rows 10 to 13
+-- ---- rows 10 to 13 and 19
 
 module _ (w : Source) (movie len : ℕ) (t : List ℕ) (total : ℕ) (is : total ≡ totalIn t) (fits : total < 4294967296) where
   short : ltb 4294967295 (totalIn t) ≡ false
@@ -63,17 +64,22 @@ module _ (w : Source) (movie len : ℕ) (t : List ℕ) (total : ℕ) (is : total
     timed-11 b = rw (short, a, b)
 
     module _ (b : otherDuration w t ≡ false) where
-      pub timed-12 : chunkPastEnd len t ≡ true → ofTrack (timedRows w movie len) t ≡ 12
+      pub timed-19 : dataElsewhere t ≡ true → ofTrack (timedRows w movie len) t ≡ 19
       unfolding timedRows first totalTooLarge
-      timed-12 c = rw (short, a, b, c)
+      timed-19 c = rw (short, a, b, c)
 
-      pub timed-13 : chunkPastEnd len t ≡ false → wrongEdits movie t ≡ true → ofTrack (timedRows w movie len) t ≡ 13
-      unfolding timedRows first totalTooLarge
-      timed-13 c d = rw (short, a, b, c, d)
+      module _ (c : dataElsewhere t ≡ false) where
+        pub timed-12 : chunkPastEnd len t ≡ true → ofTrack (timedRows w movie len) t ≡ 12
+        unfolding timedRows first totalTooLarge
+        timed-12 d = rw (short, a, b, c, d)
 
-      pub timed-0 : chunkPastEnd len t ≡ false → wrongEdits movie t ≡ false → ofTrack (timedRows w movie len) t ≡ 0
-      unfolding timedRows first totalTooLarge
-      timed-0 c d = rw (short, a, b, c, d)
+        pub timed-13 : chunkPastEnd len t ≡ false → wrongEdits movie t ≡ true → ofTrack (timedRows w movie len) t ≡ 13
+        unfolding timedRows first totalTooLarge
+        timed-13 d e = rw (short, a, b, c, d, e)
+
+        pub timed-0 : chunkPastEnd len t ≡ false → wrongEdits movie t ≡ false → ofTrack (timedRows w movie len) t ≡ 0
+        unfolding timedRows first totalTooLarge
+        timed-0 d e = rw (short, a, b, c, d, e)
 
 -- ---- rows 7 to 9, and 10 where the durations alone are too long
 
@@ -105,6 +111,10 @@ timed-over w movie len t a = rw a
 pub other-by : (w : Source) (t : List ℕ) (stored total : ℕ) → stored ≡ durationOf t → total ≡ totalIn t → (w .strict && not (eqb stored total)) ≡ otherDuration w t
 unfolding otherDuration
 other-by w t stored total es et = rw (es, et)
+
+pub elsewhere-by : (t d s : List ℕ) (r : Bool) → d ≡ drefOf t → s ≡ tableOf stsd t → r ≡ allInThisFile d s → not r ≡ dataElsewhere t
+unfolding dataElsewhere
+elsewhere-by t d s r ed es e = rw (e, ed, es)
 
 pub chunk-past-end-by : (len : ℕ) (t x z o : List ℕ) (r : Bool) → x ≡ tableOf stsc t → z ≡ tableOf stsz t → o ≡ tableOf stco t
     → r ≡ endWithin len (perChunk x (u32At o 12)) (chunkOffsets o) (sizes z) → not r ≡ chunkPastEnd len t

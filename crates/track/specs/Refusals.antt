@@ -1,17 +1,18 @@
--- The refusals of a track, 7 to 13, each a condition on the body t of its trak with the paper's words beside it.
+-- The refusals of a track, 7 to 13 and 19, each a condition on the body t of its trak with the paper's words beside it.
 use Prim.Native.Nat.{ℕ}
 use mathlib.Core.List.{List, [], _∷_}
 use mathlib.Core.Bool.{Bool, false, not, _&&_, _||_}
 use lib.ListN.{length}
 use lib.Dec.{ltb, eqb}
-use Rattle.atoms.specs.Kinds.{stts, ctts, stsc, stsz, stco, stss}
+use Rattle.atoms.specs.Kinds.{stts, ctts, stsc, stsz, stco, stss, stsd}
 use Rattle.structure.specs.declared.source.Source.{Source}
-use Rattle.structure.specs.Track.{scaleOf, durationOf, tableOf, elstOf, samplesOf, chunksOf, descriptionsOf}
+use Rattle.structure.specs.Track.{scaleOf, durationOf, tableOf, elstOf, drefOf, samplesOf, chunksOf, descriptionsOf}
 use Rattle.lists.specs.Lists.{sum, Run}
 use Rattle.runs.specs.Runs.{runsOf, perSample}
 use Rattle.words.specs.Words.{sizes, chunkOffsets, syncsAgree}
 use Rattle.chunks.specs.Chunks.{perChunk, dealsContradict, endWithin}
 use Rattle.edits.specs.Edits.{editTotal, editsOk}
+use Rattle.references.specs.References.{allInThisFile}
 
 abbrev pub anyEmpty : List Run → Bool
 anyEmpty [] = false
@@ -48,6 +49,10 @@ totalTooLarge t = ltb 4294967295 (totalIn t) || ltb 4294967295 (editTotal (elstO
 -- 11: "the mdhd duration is not the total of the sample durations", "only where strict reading is asked for"
 unfoldable pub otherDuration : Source → List ℕ → Bool
 otherDuration w t = w .strict && not (eqb (durationOf t) (totalIn t))
+
+-- 19: "data elsewhere or no such entry", "judged after 11 and before 12"
+unfoldable pub dataElsewhere : List ℕ → Bool
+dataElsewhere t = not (allInThisFile (drefOf t) (tableOf stsd t))
 
 -- 12: "a chunk's offset plus the sizes of its samples passes the file's end"
 unfoldable pub chunkPastEnd : ℕ → List ℕ → Bool

@@ -6,7 +6,8 @@ use lib.IntN.{ℤ}
 use lib.Dec.{eqb}
 use Rattle.atoms.specs.Kinds.{stts, ctts, stsc, stsz, stco, stss, stsd, vide}
 use Rattle.descriptions.specs.Descriptions.{descriptions}
-use Rattle.structure.specs.Track.{idOf, subtypeOf, scaleOf, durationOf, tableOf, elstOf, profileOf, samplesOf, chunksOf}
+use Rattle.references.specs.References.{references}
+use Rattle.structure.specs.Track.{idOf, subtypeOf, scaleOf, durationOf, tableOf, elstOf, drefOf, profileOf, samplesOf, chunksOf}
 use Rattle.lists.specs.Lists.{upTo}
 use Rattle.runs.specs.Runs.{perSample, compositionOffset}
 use Rattle.words.specs.Words.{sizes, chunkOffsets, isSync}
@@ -31,6 +32,8 @@ pub record Track : Type 0 where
   pub chunkOffsets : List ℕ
   -- the sample descriptions, each as its own bytes
   pub descriptions : List (List ℕ)
+  -- its data references, each as its own bytes: "A track's record shall also hold its data references"
+  pub references : List (List ℕ)
   -- the edit list, empty where it is absent, and its entries
   pub editTable : List ℕ
   pub edits : List Edit
@@ -55,6 +58,7 @@ trackOf t =
       descriptionIds = descriptionIds (tableOf stsc t) (chunksOf t);
       chunkOffsets = chunkOffsets (tableOf stco t);
       descriptions = descriptions (leastSize (subtypeOf t)) (tableOf stsd t);
+      references = references (drefOf t);
       editTable = elstOf t;
       edits = edits (elstOf t);
       profile = profileOf t;

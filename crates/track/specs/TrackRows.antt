@@ -1,4 +1,4 @@
--- The rows 7 to 13, as far as they are a track's own. These need not be believed: they are between the crates' own functions, and
+-- The rows 7 to 13 and 19, as far as they are a track's own. These need not be believed: they are between the crates' own functions, and
 -- `movie/proofs/Tables.antt` shows that they come to those of the table, `moovRows` of the crate movie.
 use Prim.Native.Nat.{ℕ}
 use mathlib.Core.List.{List, [], _∷_}
@@ -6,7 +6,7 @@ use lib.Dec.{eqb}
 use Rattle.structure.specs.declared.source.Source.{Source}
 use Rattle.structure.specs.Track.{idOf, scaleOf}
 use Rattle.structure.specs.Rows.{Row, row, never}
-use Rattle.track.specs.Refusals.{contradicts, totalTooLarge, otherDuration, chunkPastEnd, wrongEdits}
+use Rattle.track.specs.Refusals.{contradicts, totalTooLarge, otherDuration, dataElsewhere, chunkPastEnd, wrongEdits}
 
 -- the rows from 10 on, and from 7 on, by that source, for a movie of that time scale in a file of that length. What 7 and 8 say of the movie is the
 -- movie's to add: an ID that occurs twice, and the movie's own scale
@@ -14,6 +14,7 @@ unfoldable pub timedRows : Source → ℕ → ℕ → List Row
 timedRows w movie len =
     row 10 never totalTooLarge
     ∷ row 11 never (otherDuration w)
+    ∷ row 19 never dataElsewhere
     ∷ row 12 never (chunkPastEnd len)
     ∷ row 13 never (wrongEdits movie)
     ∷ []

@@ -1,4 +1,4 @@
-// The refusals of a track, 7 to 13, from the body of its trak.
+// The refusals of a track, 7 to 13 and 19, from the body of its trak.
 use atoms::kinds;
 use bigendian::u32_at;
 use chunk_ends::chunks_end_within;
@@ -8,9 +8,11 @@ use edits::edits_ok;
 use edits::edits_total;
 use leaves::present::both;
 use lists::Total;
+use references::all_in_this_file;
 use runs::counts;
 use runs::total_duration;
 use structure::source::Source;
+use structure::trak::data_references;
 use structure::trak::edit_list;
 use structure::trak::media_scale;
 use structure::trak::stored_duration;
@@ -28,7 +30,7 @@ ghost use Rattle.chunks.specs.Chunks.{perChunk};
 ghost use Rattle.runs.specs.Runs.{runsOf};
 ghost use Rattle.runs.specs.Computed.{counting};
 ghost use Rattle.edits.specs.Edits.{editTotal};
-ghost use Rattle.track.specs.Refusals.{contradicts, totalIn, otherDuration};
+ghost use Rattle.track.specs.Refusals.{contradicts, totalIn, otherDuration, dataElsewhere};
 ghost use Rattle.track.specs.TrackRows.{timedRows, trackRows};
 
 // The total of a track's sample durations.
@@ -96,7 +98,15 @@ fn has_other_duration(trak: &[u8], total: u32, source: Source) -> bool
     both(source.strict, stored != total)
 }
 
-// 10 to 13, of a track whose durations total `total`.
+// Whether a description's samples are in another file, or nowhere.
+fn has_data_elsewhere(trak: &[u8]) -> bool
+    ensures { λ r. ⌜ r ≡ dataElsewhere (now (trak .entry)) ⌝ }
+{
+    let dref = data_references(trak);
+    !all_in_this_file(dref, table(trak, kinds::STSD))
+}
+
+// 10 to 13 and 19, in the order of judging, of a track whose durations total `total`.
 fn timed_refusal(trak: &[u8], movie: u32, len: u64, source: Source, total: u32) -> u32
     requires { ⌜ (total ≡ totalIn (now trak)) × (length (now trak) < 2 ^ 32) ⌝ }
     ensures { λ r. ⌜ r ≡ ofTrack (timedRows source movie len) (now (trak .entry)) ⌝ }
@@ -107,6 +117,9 @@ fn timed_refusal(trak: &[u8], movie: u32, len: u64, source: Source, total: u32) 
     }
     if has_other_duration(trak, total, source) {
         return 11;
+    }
+    if has_data_elsewhere(trak) {
+        return 19;
     }
     let stsz = table(trak, kinds::STSZ);
     if !chunks_end_within(
@@ -123,7 +136,7 @@ fn timed_refusal(trak: &[u8], movie: u32, len: u64, source: Source, total: u32) 
     0
 }
 
-// The lowest of 7 to 13 that applies to a track, in a movie of that time scale and a file of that length, by that source; 0 where none does.
+// The first of 7 to 13 and 19 that applies to a track, in a movie of that time scale and a file of that length, by that source; 0 where none does.
 pub fn refusal(trak: &[u8], movie: u32, len: u64, source: Source) -> u32
     requires { ⌜ length (now trak) < 2 ^ 32 ⌝ }
     ensures { λ r. ⌜ r ≡ ofTrack (trackRows source movie len) (now (trak .entry)) ⌝ }

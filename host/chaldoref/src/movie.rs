@@ -36,8 +36,9 @@ pub fn strict_refusal(file: &[u8]) -> Option<Refusal> {
 /// A movie file that the reader has accepted.
 ///
 /// It borrows the file's bytes and keeps the track list beside them. See the [crate](crate) for what a question costs.
-/// Each question gets the library's own answer, also for an ID that no track has ([`Refusal::NoTrack`]). Of refusals 1
-/// to 13 only [`Refusal::StoredDuration`] comes after [`Movie::open`], and only of a slip that is written.
+/// Each question gets the library's own answer, also for an ID that no track has ([`Refusal::NoTrack`]). Of the film's
+/// refusals, 1 to 13 and 19, only [`Refusal::StoredDuration`] comes after [`Movie::open`], and only of a slip that is
+/// written.
 #[derive(Clone)]
 pub struct Movie<'a> {
     file: &'a [u8],
@@ -50,7 +51,8 @@ impl<'a> Movie<'a> {
     ///
     /// # Errors
     ///
-    /// The lowest of refusals 1 to 13 that applies, if one does; 11, [`Refusal::StoredDuration`], is not among them.
+    /// The first of refusals 1 to 13 and 19, in the order in which they are judged, that applies, if one does; 11,
+    /// [`Refusal::StoredDuration`], is not among them.
     pub fn open(file: &'a [u8]) -> Result<Movie<'a>, Refusal> {
         let mut tracks = [Track::default(); MAX_TRACKS];
         let [count] = ffi::track_list(file, &mut tracks)?;

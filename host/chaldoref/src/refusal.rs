@@ -1,17 +1,17 @@
-//! The refusals of document 01.
+//! The refusals of documents 01 and 02.
 use std::error::Error;
 use std::fmt;
 
-/// Why a question is not answered: one of the refusals of document 01, whose words [`Display`](fmt::Display) gives.
+/// Why a question is not answered: one of the refusals of documents 01 and 02, whose words [`Display`](fmt::Display) gives.
 ///
-/// Of a file the lowest number that applies is given; then comes 14, then 15 or 18, then 16. In reading a slip 17 comes
+/// Of a file the lowest number that applies is given, but that 19 is judged after 11 and before 12; then comes 14, then 15 or 18, then 16. In reading a slip 17 comes
 /// before 16.
 ///
 /// ```
 /// use chaldoref::Refusal;
 ///
 /// assert_eq!((Refusal::try_from(15), u32::from(Refusal::Outside)), (Ok(Refusal::Outside), 15));
-/// assert_eq!(Refusal::try_from(19).unwrap_err().to_string(), "no refusal has the number 19");
+/// assert_eq!(Refusal::try_from(20).unwrap_err().to_string(), "no refusal has the number 20");
 /// ```
 #[non_exhaustive]
 #[derive(Clone, Copy, Debug, PartialEq, Eq, PartialOrd, Ord, Hash)]
@@ -26,7 +26,7 @@ pub enum Refusal {
     LeafVersion = 4,
     /// 5: an atom that is read, or a profile, hasn't its size.
     LeafSize = 5,
-    /// 6: there are too many tracks, samples, chunks, edits, descriptions or profile records.
+    /// 6: there are too many tracks, samples, chunks, edits, descriptions, data references or profile records.
     OverLimit = 6,
     /// 7: a track ID is 0 or occurs twice.
     TrackIds = 7,
@@ -53,6 +53,8 @@ pub enum Refusal {
     MalformedSlip = 17,
     /// 18: the feature cannot be computed.
     NotComputed = 18,
+    /// 19: a sample description names data in another file, or no such data reference.
+    DataElsewhere = 19,
 }
 
 impl Refusal {
@@ -76,9 +78,10 @@ impl Refusal {
         Refusal::NoRoom,
         Refusal::MalformedSlip,
         Refusal::NotComputed,
+        Refusal::DataElsewhere,
     ];
 
-    /// The refusal's number in document 01, from 1.
+    /// The refusal's number in documents 01 and 02, from 1.
     #[must_use]
     pub const fn number(self) -> u32 {
         self as u32
@@ -90,7 +93,7 @@ impl Refusal {
         Refusal::ALL.iter().copied().find(|refusal| refusal.number() == number)
     }
 
-    /// When document 01 gives this refusal, in its own words.
+    /// When the documents give this refusal, in their words.
     const fn words(self) -> &'static str {
         match self {
             Refusal::FileTooLong => "the file is longer than 2,147,483,647 bytes",
@@ -101,8 +104,8 @@ impl Refusal {
             Refusal::LeafVersion => "a read leaf has a body whose first byte is not 0",
             Refusal::LeafSize => "a read leaf or profile hasn't its size",
             Refusal::OverLimit => {
-                "over 16 tracks, or in one track over 1,048,576 samples or chunks, 256 edits or 64 descriptions; \
-                 in one profile over 64 records"
+                "over 16 tracks, or in one track over 1,048,576 samples or chunks, 256 edits, 64 descriptions or \
+                 64 references; in one profile over 64 records"
             }
             Refusal::TrackIds => "a track ID is 0 or occurs twice",
             Refusal::TimeScale => "a movie or media time scale is 0",
@@ -116,6 +119,7 @@ impl Refusal {
             Refusal::NoRoom => "the lent room is shorter than the answer",
             Refusal::MalformedSlip => "a slip is malformed",
             Refusal::NotComputed => "the feature cannot be computed",
+            Refusal::DataElsewhere => "a description names data elsewhere, or no such data reference",
         }
     }
 }

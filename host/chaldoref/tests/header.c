@@ -20,7 +20,7 @@ struct film {
 static void print_words(void)
 {
     uint32_t number;
-    for (number = 0; number <= CHALDOREF_NOT_COMPUTED + 1; number++)
+    for (number = 0; number <= CHALDOREF_DATA_ELSEWHERE + 1; number++)
         printf("refusal %" PRIu32 ": %s\n", number, chaldoref_refusal_text(number));
     printf("refusal %" PRIu32 ": %s\n", UINT32_MAX, chaldoref_refusal_text(UINT32_MAX));
     printf("version %s: %d.%d.%d\n", chaldoref_version(), CHALDOREF_VERSION_MAJOR, CHALDOREF_VERSION_MINOR,

@@ -26,7 +26,7 @@ fn words() -> String {
     for refusal in Refusal::ALL {
         writeln!(lines, "refusal {}: {refusal}", refusal.number()).unwrap();
     }
-    for number in [19, u32::MAX] {
+    for number in [20, u32::MAX] {
         writeln!(lines, "refusal {number}: no refusal has this number").unwrap();
     }
     let version = env!("CARGO_PKG_VERSION");

@@ -2,7 +2,7 @@
 mod common;
 
 use common::{program, refuses, run, run_on, words, Folder, Ran, HOSES, W};
-use reference::film::{w, w_movie, w_track, Movie, Track};
+use reference::film::{picture, referring, w, w_movie, w_track, Movie, Track};
 use reference::made::spoiled;
 use std::fs::File;
 use std::process::Stdio;
@@ -100,7 +100,7 @@ fn only_a_slip_is_refused_for_a_stored_duration() {
 fn a_refused_film_is_explained() {
     let second = Track { id: 2, stts: vec![(5, 24)], ..w_track() };
     let film = Movie { tracks: vec![w_track(), second], ..w_movie() }.file_of(4096).bytes();
-    let words = "track 2 (ID 2), stts at byte 728: counts 5 samples, stsz 4";
+    let words = "track 2 (ID 2), stts at byte 800: counts 5 samples, stsz 4";
     let expected = Ran {
         out: format!("{{\"format\":1,\"file\":\"-\",\"refused\":9,\"reason\":\"sample tables contradict each other\",\
              \"explanation\":\"{words}\"}}\n"),
@@ -113,6 +113,26 @@ fn a_refused_film_is_explained() {
     // Whatever is asked of the film.
     assert_eq!(run_on(&film, &["sample", "-", "9", "9", "--json"]), expected);
     assert_eq!(run_on(&film, &["slip", "-", "1", "0", "1"]), Ran { out: String::new(), ..expected });
+}
+
+#[test]
+fn a_film_kept_in_another_file_is_told_by_track_and_reference() {
+    let elsewhere = reference::film::reference(b"alis", 0, b"pictures.mov");
+    let references = vec![reference::film::this_file(), elsewhere];
+    let descriptions = vec![referring(picture(320, 240), 2)];
+    let second = Track { id: 2, references, descriptions, ..w_track() };
+    let film = Movie { tracks: vec![w_track(), second], ..w_movie() }.file_of(4096).bytes();
+    let said = run_on(&film, &["tracks", "-"]);
+    assert_eq!(
+        (said.out.as_str(), said.status, said.err.as_str()),
+        (
+            "",
+            1,
+            "chaldoref: standard input: refused 19: a description names data elsewhere, or no such data reference\n\
+             chaldoref: not proved: track 2 (ID 2), stsd at byte 772: description 1 names data reference 2, of type alis, \
+             which is another file\n"
+        )
+    );
 }
 
 #[test]
@@ -144,7 +164,7 @@ fn hints() {
     assert_eq!(
         said(4),
         "chaldoref: standard input: refused 4: a read leaf has a body whose first byte is not 0\n\
-         chaldoref: not proved: track 1 (ID 1), stsd at byte 304: has version 1, and must have 0\n\
+         chaldoref: not proved: track 1 (ID 1), stsd at byte 340: has version 1, and must have 0\n\
          chaldoref: hint: atoms are read in version 0 alone; ffmpeg writes a ctts of version 1 with \
          -movflags negative_cts_offsets\n"
     );

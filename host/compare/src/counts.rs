@@ -3,8 +3,8 @@ use crate::faults::FAULTS;
 use crate::question::KINDS;
 use std::fmt::Write;
 
-/// Refusals are numbered from 1 to 18; 0 is an answer.
-const NUMBERS: usize = 19;
+/// Refusals are numbered from 1 to 19; 0 is an answer.
+const NUMBERS: usize = 20;
 
 #[derive(Default)]
 pub struct Counts {
@@ -22,7 +22,7 @@ pub struct Counts {
 
 /// Whether a file can be refused with that number by default; 0 is accepted.
 fn is_of_film(number: usize) -> bool {
-    number <= 13 && number != 11
+    number <= 13 && number != 11 || number == 19
 }
 
 /// Whether a question reads or writes a slip.
@@ -45,7 +45,7 @@ fn can_meet(number: usize, kind: &str) -> bool {
 }
 
 /// What films that are refused 11 only strictly are refused by default: nothing, or for what is judged after it.
-const AFTER_11: [usize; 3] = [0, 12, 13];
+const AFTER_11: [usize; 4] = [0, 19, 12, 13];
 
 impl Counts {
     /// A film, by the numbers with which it is refused by default and strictly.
@@ -103,8 +103,10 @@ impl Counts {
 
     /// How many films are refused 11 strictly, by what they are refused by default.
     pub fn strict_line(&self) -> String {
-        let [accepted, past_end, edits] = AFTER_11.map(|number| self.strict[number]);
-        format!("refused 11 strictly, by default accepted {accepted}, refused 12 {past_end}, refused 13 {edits}")
+        let [accepted, elsewhere, past_end, edits] = AFTER_11.map(|number| self.strict[number]);
+        format!(
+            "refused 11 strictly, by default accepted {accepted}, refused 19 {elsewhere}, refused 12 {past_end}, refused 13 {edits}"
+        )
     }
 
     /// How many slips were read, and how many of them were malformed where.
@@ -126,7 +128,7 @@ impl Counts {
                 }
             }
         }
-        let never = (0..=13).filter(|number| is_of_film(*number) && self.films[*number] == 0);
+        let never = (0..NUMBERS).filter(|number| is_of_film(*number) && self.films[*number] == 0);
         all.extend(never.map(|number| format!("no film was refused {number}")));
         let never = AFTER_11.iter().filter(|number| self.strict[**number] == 0);
         all.extend(never.map(|number| format!("no film was refused 11 strictly and {number} by default")));
@@ -145,15 +147,18 @@ mod tests {
     /// Everything that can be met, once.
     fn full() -> Counts {
         let mut counts = Counts::default();
-        for number in 0..19 {
+        for number in 0..NUMBERS {
             for (kind, name) in KINDS.iter().enumerate() {
                 if can_meet(number, name) {
                     counts.question(kind, number.try_into().unwrap());
                 }
             }
         }
-        (0..=13).filter(|number| *number != 11).for_each(|number| counts.film(number, number));
-        [0, 12, 13].into_iter().for_each(|number| counts.film(number, 11));
+        (0..NUMBERS).filter(|number| is_of_film(*number)).for_each(|number| {
+            let number = number.try_into().unwrap();
+            counts.film(number, number);
+        });
+        AFTER_11.into_iter().for_each(|number| counts.film(number.try_into().unwrap(), 11));
         (0..KINDS.len()).for_each(|kind| counts.strict(kind, 0));
         (0..FAULTS.len()).for_each(|kind| counts.slip(Some(kind)));
         counts

@@ -119,7 +119,10 @@ impl Question {
                 let sample = movie.sample(id, n)?;
                 only(&[sample.offset, sample.size])
             }
-            Question::SampleAt { id, t } => only(&[movie.sample_at(id, u64::from(t))?]),
+            Question::SampleAt { id, t } => {
+                let (n, entry) = movie.sample_at(id, u64::from(t))?;
+                only(&[n, entry])
+            }
             Question::MediaTime { id, t } => match movie.media_time(id, u64::from(t))? {
                 Some(media_time) => only(&[1, media_time]),
                 None => only(&[0, 0]),

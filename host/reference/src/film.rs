@@ -155,6 +155,8 @@ pub struct Track {
     pub scale: u32,
     pub duration: u32,
     pub descriptions: Vec<Vec<u8>>,
+    /// The entries of dref.
+    pub references: Vec<Vec<u8>>,
     pub stts: Vec<(u32, u32)>,
     pub ctts: Option<Vec<(u32, i32)>>,
     pub stsc: Vec<(u32, u32, u32)>,
@@ -270,12 +272,21 @@ pub fn stss(samples: &[u32]) -> Node {
     table("stss", samples.len(), samples)
 }
 
-/// A description that says that it has so many bytes and has so many.
+/// A description that says that it has so many bytes and has so many. Its samples are where the first data reference says.
 pub fn description(format: &[u8; 4], size: usize) -> Vec<u8> {
     let mut bytes = u32::try_from(size).unwrap().to_be_bytes().to_vec();
     bytes.extend(format);
     bytes.resize(size, 0);
+    if size >= 16 {
+        bytes[15] = 1;
+    }
     bytes
+}
+
+/// A description with that reference index.
+pub fn referring(mut description: Vec<u8>, index: u16) -> Vec<u8> {
+    description[14..16].copy_from_slice(&index.to_be_bytes());
+    description
 }
 
 /// A description of 36 bytes with a width and a height.
@@ -292,13 +303,33 @@ pub fn stsd(descriptions: &[Vec<u8>]) -> Node {
     node
 }
 
+/// A data reference with these flags, and what follows them.
+pub fn reference(kind: &[u8; 4], flags: u32, rest: &[u8]) -> Vec<u8> {
+    Node { kind: *kind, ..atom("alis", &[&flags.to_be_bytes(), rest].concat()) }.bytes()
+}
+
+/// The data reference that means this file.
+pub fn this_file() -> Vec<u8> {
+    reference(b"alis", 1, &[])
+}
+
+pub fn dref(references: &[Vec<u8>]) -> Node {
+    let mut node = table("dref", references.len(), &[]);
+    node.body.extend(references.concat());
+    node
+}
+
+pub fn dinf(references: &[Vec<u8>]) -> Node {
+    container("dinf", vec![dref(references)])
+}
+
 impl Track {
     pub fn trak(&self) -> Node {
         let mut stbl = vec![stsd(&self.descriptions), stts(&self.stts)];
         stbl.extend(self.ctts.iter().map(|entries| ctts(entries)));
         stbl.extend(self.stss.iter().map(|samples| stss(samples)));
         stbl.extend([stsc(&self.stsc), stsz(&self.stsz), stco(&self.stco)]);
-        let minf = container("minf", vec![container("stbl", stbl)]);
+        let minf = container("minf", vec![dinf(&self.references), container("stbl", stbl)]);
         let mdia = container("mdia", vec![mdhd(self.scale, self.duration), hdlr(&self.subtype), minf]);
         let mut trak = Vec::new();
         trak.extend(self.profile.iter().map(|records| prfl(records)));
@@ -340,6 +371,7 @@ pub fn w_track() -> Track {
         scale: 600,
         duration: 120,
         descriptions: vec![picture(320, 240)],
+        references: vec![this_file()],
         stts: vec![(3, 24), (1, 48)],
         ctts: None,
         stsc: vec![(1, 3, 1), (2, 1, 1)],

@@ -73,6 +73,7 @@ fn trak(hose: usize, body: usize) -> Node {
         scale: SCALE,
         duration: count * EACH,
         descriptions: vec![described(320, 240)],
+        references: vec![this_file()],
         stts: vec![(count, EACH)],
         ctts: None,
         stsc: vec![(1, samples, 1)],
@@ -88,12 +89,8 @@ fn trak(hose: usize, body: usize) -> Node {
     set(&mut trak, "tkhd", &[(8, 0xf), (28, count * EACH), (48, ONE), (64, ONE), (80, LAST)]);
     set(&mut trak, "tkhd", &sizes);
     trak.at("mdia hdlr").body.extend(NAME);
-    // What players ask for and no rule of document 01 looks at: the media's own header, and where its bytes are, which is this file.
-    let minf = trak.at("mdia minf");
-    minf.children.insert(0, atom("vmhd", &[0, 0, 0, 1, 0, 0, 0, 0, 0, 0, 0, 0]));
-    let mut dref = table("dref", 1, &[]);
-    dref.children.push(atom("alis", &[0, 0, 0, 1]));
-    minf.children.insert(1, container("dinf", vec![dref]));
+    // What players ask for and no rule looks at: the media's own header.
+    trak.at("mdia minf").children.insert(0, atom("vmhd", &[0, 0, 0, 1, 0, 0, 0, 0, 0, 0, 0, 0]));
     trak
 }
 

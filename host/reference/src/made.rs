@@ -72,7 +72,8 @@ pub fn moov_last() -> Node {
     file(vec![atom("mdat", &body), atom("free", &[7; 5]), moov, atom("skip", &[])])
 }
 
-/// A film of that track spoiled in one place, for each of refusals 2 to 13 but 11, which is not the default: the number, a name and the film.
+/// A film of that track spoiled in one place, for each of refusals 2 to 13 and 19 in the order in which they are judged, but for 11, which is not the
+/// default: the number, a name and the film.
 pub fn spoiled(track: &Track, film_of: impl Fn(Track) -> Node) -> Vec<(u32, &'static str, Node)> {
     let bare = |change: &dyn Fn(&mut Track)| {
         let mut track = track.clone();
@@ -95,6 +96,7 @@ pub fn spoiled(track: &Track, film_of: impl Fn(Track) -> Node) -> Vec<(u32, &'st
         (8, "movie-scale-0", broken(&|film| film.set("moov mvhd", 20, 0))),
         (9, "stts-of-5-samples", bare(&|track| track.stts = vec![(5, 24)])),
         (10, "total-2-32", bare(&|track| track.stts = vec![(4, 1 << 30)])),
+        (19, "reference-to-another-file", bare(&|track| track.references = vec![reference(b"alis", 0, &[7; 4])])),
         (12, "second-chunk-past-the-end", bare(&|track| track.stco[1] = 4027)),
         (13, "w-edits-60-empty-and-60-from-61", bare(&|track| track.edits = edits(&[(60, -1), (60, 61)]))),
     ]

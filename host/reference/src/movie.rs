@@ -1,5 +1,5 @@
 //! The movie, from document 01: the atom tree, the refusals of a file, the sample tables, the questions and the features; from document 02 the
-//! highest rate over a second, and strict reading.
+//! highest rate over a second, strict reading, the entries looked at and the averages with edits.
 //!
 //! Nothing here is quick or clever. The tree is built whole, each refusal is a function of its own, and the tables
 //! are written out sample by sample before a question is asked. Sums are taken in 64 and 128 bits, where nothing wraps.

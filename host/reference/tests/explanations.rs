@@ -61,11 +61,11 @@ fn number_2() {
     changed(|film| film.tail = vec![0; 7], 2, "the file has 7 bytes left at byte 4096, and an atom has at least 8");
     changed(|film| film.at("moov").size = Size::Says(7), 2, "moov@ says 7 bytes, and must say at least 8");
     changed(|film| film.at("mdat").size = Size::WideSays(15), 2, "mdat@ says 15 bytes, and must say at least 16");
-    changed(|film| film.at(STBL).tail = vec![0], 2, "stbl@ has 1 byte left at byte 488, and an atom has at least 8");
+    changed(|film| film.at(STBL).tail = vec![0], 2, "stbl@ has 1 byte left at byte 524, and an atom has at least 8");
     changed(
         |film| film.at("moov").tail = vec![0; 8],
         2,
-        "0x00000000 at byte 488 says 0 bytes, and must say at least 8",
+        "0x00000000 at byte 524 says 0 bytes, and must say at least 8",
     );
     let wide = [0, 0, 0, 1, b'f', b'r', b'e', b'e', 0, 0, 0, 0, 0, 0, 0];
     let words = "free@ has a 64-bit size and so at least 16 bytes, the file ends after 15";
@@ -121,6 +121,9 @@ fn number_3() {
         "track 1 (ID 1): hdlr occurs 2 times in mdia@, and may occur once",
     );
     changed(|film| film.remove(STBL), 3, "track 1 (ID 1): stbl is absent from minf@");
+    let dinf = "moov trak mdia minf dinf";
+    changed(|film| film.remove(dinf), 3, "track 1 (ID 1): dinf is absent from minf@");
+    changed(|film| film.remove(&format!("{dinf} dref")), 3, "track 1 (ID 1): dref is absent from dinf@");
     let wide = |film: &mut Node| film.at(&format!("{STBL} stco")).kind = *b"co64";
     changed(wide, 3, "track 1 (ID 1): stco is absent from stbl@; co64@ is there, and is not read");
     let stss = |film: &mut Node| (0..3).for_each(|_| film.push(STBL, stss(&[])));
@@ -173,12 +176,25 @@ fn number_5_of_descriptions() {
 }
 
 #[test]
+fn number_5_of_references() {
+    let said = |change: &dyn Fn(&mut Node), words: &str| {
+        let dref = "moov trak mdia minf dinf dref";
+        changed(|film| change(film.at(dref)), 5, &format!("track 1 (ID 1), dref@: {words}"));
+    };
+    said(&|dref| dref.set("", 12, 2), "states 2 references, and has 0 bytes left for reference 2");
+    said(&|dref| dref.set("", 16, 11), "reference 1 says 11 bytes, and must say at least 12");
+    said(&|dref| dref.set("", 16, 13), "reference 1 says 13 bytes, the dref ends after 12");
+    said(&|dref| dref.body.extend([0; 5]), "has 33 bytes, and its 1 references end after 28");
+}
+
+#[test]
 fn number_6() {
     let over = |change: fn(&mut Track), words| track(change, 6, words);
     over(|track| track.stsz = Sizes::Common(1, 1_048_577), "stsz@: states 1048577 samples, and 1048576 are the most");
     over(|track| track.stco = vec![0; 1_048_577], "stco@: states 1048577 chunks, and 1048576 are the most");
     over(|track| track.edits = Some(vec![(1, -1, 65536); 257]), "elst@: states 257 edits, and 256 are the most");
     over(|track| track.descriptions = vec![picture(1, 1); 65], "stsd@: states 65 descriptions, and 64 are the most");
+    over(|track| track.references = vec![this_file(); 65], "dref@: states 65 data references, and 64 are the most");
     over(|track| track.profile = Some(vec![[0; 4]; 66]), "prfl@: states 66 records, and 64 are the most");
     let movie = Movie { profile: Some(vec![[0; 4]; 65]), ..w_movie() };
     says(&movie.file_of(4096).bytes(), 6, "prfl@: states 65 records, and 64 are the most");
@@ -279,6 +295,23 @@ fn number_13() {
     edits(&[(60, -1, 65536), (60, 61, 65536)], words);
 }
 
+#[test]
+fn number_19() {
+    let names = |index: u16, flags: u32, kind: &[u8; 4], words: &str| {
+        let elsewhere = |track: &mut Track| {
+            track.descriptions = vec![picture(1, 1), referring(picture(1, 1), index)];
+            track.references = vec![this_file(), reference(kind, flags, &[])];
+        };
+        second(elsewhere, 19, &format!("stsd@: description 2 names data reference {words}"));
+    };
+    names(0, 1, b"alis", "0, and references count from 1");
+    names(3, 1, b"alis", "3, dref has 2 references");
+    names(2, 0, b"alis", "2, of type alis, which is another file");
+    names(2, 2, b"url\0", "2, of type 0x75726C00, which is another file");
+    let words = "stsd@: description 1 names data reference 1, dref has 0 references";
+    second(|track| track.references = vec![], 19, words);
+}
+
 /// The atoms that the words name with a place.
 fn named(words: &str) -> Vec<(&str, usize)> {
     let all: Vec<&str> = words.split(' ').collect();
@@ -313,7 +346,7 @@ fn atoms_are_where_the_words_say() {
         assert!(!words.contains(char::is_control));
         met.insert(number);
     }
-    assert_eq!(met, (2..=13).collect());
+    assert_eq!(met, (2..=13).chain([19]).collect());
 }
 
 #[test]

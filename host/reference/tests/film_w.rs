@@ -22,10 +22,10 @@ fn w_has_4096_bytes_and_is_accepted() {
 #[test]
 fn times() {
     let film = w().bytes();
-    for (t, n) in [(0, 1), (23, 1), (24, 2), (72, 4), (119, 4)] {
-        assert_eq!(sample_at(&film, 1, t), (0, n), "time {t}");
+    for (t, n, entry) in [(0, 1, 1), (23, 1, 1), (24, 2, 1), (71, 3, 1), (72, 4, 2), (119, 4, 2)] {
+        assert_eq!(sample_at(&film, 1, t), (0, (n, entry)), "time {t}");
     }
-    assert_eq!(sample_at(&film, 1, 120), (15, 0));
+    assert_eq!(sample_at(&film, 1, 120), (15, (0, 0)));
 }
 
 #[test]
@@ -93,6 +93,8 @@ fn edits() {
     assert_eq!(media_time(&film, 1, 60), MediaTime::At(24));
     assert_eq!(media_time(&film, 1, 119), MediaTime::At(83));
     assert_eq!(media_time(&film, 1, 120), MediaTime::Refused(15));
+    // Document 02: "W with the edits (60,-1),(60,24) covers samples 2 to 4: 120 bytes over 96 units, so avvb is 6000."
+    assert_eq!(feature(&film, 1, code(b"avvb")), (0, 6000));
     assert_eq!(refusal(&edited(61)), 13);
     assert_eq!(refusal(&edited(60)), 0);
 }
@@ -144,7 +146,7 @@ fn misreadings() {
     // "A zero-duration sample returned for the time at which it stands."
     let still = Track { stts: vec![(1, 0), (1, 60), (1, 0), (1, 60)], ..w_track() };
     let film = with_track(still).bytes();
-    assert_eq!([0, 59, 60, 119].map(|t| sample_at(&film, 1, t).1), [2, 2, 4, 4]);
+    assert_eq!([0, 59, 60, 119].map(|t| sample_at(&film, 1, t).1), [(2, 2), (2, 2), (4, 4), (4, 4)]);
     // "Media time -1 read as 4,294,967,295."
     let empty = Track { edits: Some(vec![(1, -1, 65536)]), ..w_track() };
     assert_eq!(media_time(&with_track(empty).bytes(), 1, 0), MediaTime::NothingShown);

@@ -31,7 +31,8 @@ fn the_proofs_have_film_w() {
             known.insert(name, bytes);
         }
     }
-    assert_eq!(known.len(), 16);
-    assert_eq!(known["bytes"], w().bytes());
-    assert_eq!(known["bytes"], FILE);
+    assert_eq!(known.len(), 18);
+    // Thousands of bytes are not shown.
+    assert!(known["bytes"] == w().bytes());
+    assert!(known["bytes"] == FILE);
 }

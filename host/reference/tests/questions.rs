@@ -23,8 +23,8 @@ fn file_refusals_come_first_and_14_before_the_rest() {
     assert_eq!(sample(&refused, 2, 0), (12, Sample::default()));
     assert_eq!(sample(&film, 2, 0), (14, Sample::default()));
     assert_eq!(sample(&film, 0, 1), (14, Sample::default()));
-    assert_eq!(sample_at(&refused, 2, 0), (12, 0));
-    assert_eq!(sample_at(&film, 2, 500), (14, 0));
+    assert_eq!(sample_at(&refused, 2, 0), (12, (0, 0)));
+    assert_eq!(sample_at(&film, 2, 500), (14, (0, 0)));
     assert_eq!(media_time(&refused, 2, 500), MediaTime::Refused(12));
     assert_eq!(media_time(&film, 2, 500), MediaTime::Refused(14));
     assert_eq!(stretch(&film, 2, 5, 5, &mut []), (14, (0, 0)));
@@ -60,8 +60,8 @@ fn another_stored_duration_stops_only_the_slip_writer() {
     let mut room = [9; 9];
     assert_eq!(track_list(&film, &mut room), (0, 1));
     assert_eq!(room, [1, code(b"vide"), 600, 120, 4, 2, 0, 121, 9]);
-    assert_eq!(sample_at(&film, 1, 119), (0, 4));
-    assert_eq!(sample_at(&film, 1, 120), (15, 0));
+    assert_eq!(sample_at(&film, 1, 119), (0, (4, 2)));
+    assert_eq!(sample_at(&film, 1, 120), (15, (0, 0)));
     assert_eq!(stretch(&film, 1, 24, 73, &mut room), (0, (2, 120)));
     for (id, a, b, length) in [(1, 24, 73, 13), (2, 24, 73, 13), (1, 5, 5, 13), (1, 24, 73, 0)] {
         assert_eq!(write_slip(&film, id, a, b, &mut vec![9; length]), (11, 0));
@@ -69,6 +69,20 @@ fn another_stored_duration_stops_only_the_slip_writer() {
     let both = with(|track| (track.duration, track.stco[1]) = (121, 9999));
     assert_eq!(sample(&both, 1, 1), (12, Sample::default()));
     assert_eq!(write_slip(&both, 1, 24, 73, &mut [9; 13]), (11, 0));
+}
+
+#[test]
+fn entries_looked_at() {
+    // Entries of no duration, and of one sample, before the answer and after it.
+    let film = with(|track| track.stts = vec![(1, 0), (1, 0), (1, 120), (1, 0)]);
+    for t in [0, 119] {
+        assert_eq!(sample_at(&film, 1, t), (0, (3, 3)));
+    }
+    assert_eq!(sample_at(&film, 1, 120), (15, (0, 0)));
+    let film = with(|track| track.stts = vec![(3, 0), (1, 120)]);
+    assert_eq!(sample_at(&film, 1, 0), (0, (4, 2)));
+    let film = with(|track| track.stts = vec![(4, 30)]);
+    assert_eq!(sample_at(&film, 1, 119), (0, (4, 1)));
 }
 
 #[test]
@@ -159,6 +173,28 @@ fn the_first_profile_alone_counts() {
     film.push("moov trak", prfl(&[[0, 4, 5, 6]]));
     assert_eq!(stored_profile(&film.bytes(), 0, &mut []), (0, 0));
     assert_eq!(stored_profile(&film.bytes(), 1, &mut []), (0, 0));
+}
+
+#[test]
+fn averages_with_edits() {
+    let avvb = |list: &[(u32, i32)]| {
+        let edits = list.iter().map(|(duration, media_time)| (*duration, *media_time, 65536)).collect();
+        feature(&with(|track| track.edits = Some(Vec::clone(&edits))), 1, code(b"avvb"))
+    };
+    assert_eq!(avvb(&[(120, 0)]), (0, 8800));
+    // A place is enough to cover its sample, and it is covered again by each entry: 100 bytes over 24 units, then 100, 100 and 70 over 24, 24 and 48.
+    assert_eq!(avvb(&[(1, 23)]), (0, 20_000));
+    assert_eq!(avvb(&[(1, 23), (5, -1), (1, 0), (1, 72)]), (0, 13_500));
+    // The sample of no bytes alone, and nothing at all.
+    assert_eq!(avvb(&[(24, 48)]), (0, 0));
+    assert_eq!(avvb(&[(60, -1), (1, -1)]), (18, 0));
+    // The last place is a unit before the next sample, and then in it.
+    assert_eq!(avvb(&[(24, 0)]), (0, 20_000));
+    assert_eq!(avvb(&[(25, 0)]), (0, 15_000));
+    // Movie time counts twice as fast as media time: its unit 48 is media time 24.
+    let film =
+        Movie { scale: 1200, tracks: vec![Track { edits: Some(vec![(49, 0, 65536)]), ..w_track() }], ..w_movie() };
+    assert_eq!(feature(&film.file_of(4096).bytes(), 1, code(b"avvb")), (0, 15_000));
 }
 
 #[test]

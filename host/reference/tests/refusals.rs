@@ -5,6 +5,8 @@ use reference::movie::refusals::{refused_1, refused_6};
 use reference::movie::{refusal, strict_refusal};
 
 const STBL: &str = "moov trak mdia minf stbl";
+const DINF: &str = "moov trak mdia minf dinf";
+const DREF: &str = "moov trak mdia minf dinf dref";
 
 /// The number with which a film is refused where strict reading is asked for. Only 11 is another by default.
 fn refused(film: &[u8]) -> u32 {
@@ -50,9 +52,15 @@ fn number_2() {
 
 #[test]
 fn number_3() {
-    for path in
-        ["moov mvhd", "moov trak tkhd", "moov trak mdia", "moov trak mdia minf", "moov trak mdia minf stbl stsz"]
-    {
+    for path in [
+        "moov mvhd",
+        "moov trak tkhd",
+        "moov trak mdia",
+        "moov trak mdia minf",
+        "moov trak mdia minf stbl stsz",
+        DINF,
+        DREF,
+    ] {
         assert_eq!(changed(|film| film.remove(path)), 3);
         assert_eq!(changed(|film| film.double(path)), 3);
     }
@@ -60,7 +68,8 @@ fn number_3() {
     assert_eq!(changed(|film| film.insert_after("moov trak tkhd", container("edts", vec![]))), 3);
     assert_eq!(changed(|film| film.replace("moov", container("moov", vec![atom("cmov", &[1; 5])]))), 3);
     assert_eq!(changed(|film| film.remove("moov trak")), 0);
-    // A second moov that is broken is refused 2.
+    // A second moov that is broken is refused 2, as a dinf that is.
+    assert_eq!(changed(|film| film.at(DINF).tail = vec![0; 3]), 2);
     assert_eq!(changed(|film| film.push("", container("moov", vec![raw(&[0; 3])]))), 2);
 }
 
@@ -69,6 +78,7 @@ fn number_4() {
     assert_eq!(changed(|film| film.at("moov mvhd").body[0] = 1), 4);
     assert_eq!(changed(|film| film.at("moov trak mdia hdlr").body = vec![1]), 4);
     assert_eq!(changed(|film| film.at("moov trak mdia hdlr").body[1] = 1), 0);
+    assert_eq!(changed(|film| film.at(DREF).body[0] = 1), 4);
 }
 
 #[test]
@@ -93,7 +103,35 @@ fn number_5() {
 }
 
 #[test]
+fn number_5_of_references() {
+    let sized = |sizes: &[usize]| {
+        let entry = |size: &usize| {
+            let mut bytes = this_file();
+            bytes.resize(*size, 9);
+            bytes[..4].copy_from_slice(&u32::try_from(*size).unwrap().to_be_bytes());
+            bytes
+        };
+        track(|track| track.references = sizes.iter().map(entry).collect())
+    };
+    assert_eq!(sized(&[12]), 0);
+    assert_eq!(sized(&[13, 40]), 0);
+    assert_eq!(sized(&[11]), 5);
+    assert_eq!(sized(&[12, 11]), 5);
+    assert_eq!(sized(&[8, 12]), 5);
+    for length in [0, 7, 8, 19, 21] {
+        assert_eq!(changed(|film| film.resize(DREF, length)), 5);
+    }
+    for count in [0, 2, u32::MAX] {
+        assert_eq!(changed(|film| film.set(DREF, 12, count)), 5);
+    }
+    // Bytes after the last entry, as many as an entry has.
+    assert_eq!(changed(|film| film.at(DREF).body.extend(this_file())), 5);
+}
+
+#[test]
 fn number_6() {
+    assert_eq!(track(|track| track.references = vec![this_file(); 65]), 6);
+    assert_eq!(track(|track| track.references = vec![this_file(); 64]), 0);
     assert_eq!(track(|track| track.stsz = Sizes::Common(1, 1_048_577)), 6);
     assert_eq!(track(|track| track.descriptions = vec![picture(1, 1); 65]), 6);
     assert_eq!(track(|track| track.descriptions = vec![picture(1, 1); 64]), 0);
@@ -114,6 +152,7 @@ fn number_6() {
             elst: None,
             mdhd: leaf(mdhd(1, 1)),
             hdlr: leaf(hdlr(b"vide")),
+            dref: leaf(dref(&[])),
             stsd: leaf(stsd(&[])),
             stts: leaf(stts(&[])),
             ctts: None,
@@ -242,6 +281,36 @@ fn number_13() {
 }
 
 #[test]
+fn number_19() {
+    let names = |index: u16, flags: &[u32]| {
+        track(|track| {
+            track.descriptions = vec![referring(picture(1, 1), index)];
+            track.references = flags.iter().map(|flags| reference(b"url ", *flags, &[5; 3])).collect();
+        })
+    };
+    assert_eq!(names(1, &[1]), 0);
+    assert_eq!(names(0, &[1]), 19);
+    assert_eq!(names(2, &[1]), 19);
+    assert_eq!(names(2, &[0, 1]), 0);
+    assert_eq!(names(1, &[0, 1]), 19);
+    assert_eq!(names(257, &[1]), 19);
+    assert_eq!(names(1, &[]), 19);
+    // Only the lowest bit of the flags counts; the entry's version does not.
+    assert_eq!(names(1, &[0x00ff_fffe]), 19);
+    assert_eq!(names(1, &[0xff00_0001]), 0);
+    assert_eq!(names(1, &[0x0100_0100]), 19);
+    // A description that no chunk uses; none at all.
+    assert_eq!(track(|track| track.descriptions.push(referring(picture(1, 1), 2))), 19);
+    assert_eq!(
+        track(|track| {
+            empty(track);
+            (track.descriptions, track.references) = (vec![], vec![]);
+        }),
+        0
+    );
+}
+
+#[test]
 fn lower_numbers_come_first() {
     // 9 in the last track, 8 in the first; 10 in the first, 9 in the last.
     let two = |first: fn(&mut Track), last: fn(&mut Track)| {
@@ -256,13 +325,17 @@ fn lower_numbers_come_first() {
     assert_eq!(two(|track| track.stts = vec![(4, 1 << 30)], |track| track.stts = vec![]), 9);
     assert_eq!(two(|track| track.stco = vec![9999, 0], |track| track.duration = 7), 11);
     assert_eq!(two(|track| track.edits = Some(vec![]), |track| track.stco = vec![9999, 0]), 12);
+    // 19 comes after 11 and before 12.
+    assert_eq!(two(|track| track.stco = vec![9999, 0], |track| track.references = vec![]), 19);
+    assert_eq!(two(|track| track.edits = Some(vec![]), |track| track.references = vec![]), 19);
+    assert_eq!(two(|track| track.references = vec![], |track| track.duration = 7), 11);
 }
 
 #[test]
 fn damaged_films_have_an_answer() {
     // Bytes and numbers of W's moov changed at random, most often to values that matter: no film stops the reference.
     let whole = w().bytes();
-    let mut seen = [0; 14];
+    let mut seen = [0; 20];
     let mut state: u64 = 1;
     let mut random = |below: usize| {
         state = state.wrapping_mul(6_364_136_223_846_793_005).wrapping_add(1_442_695_040_888_963_407);
@@ -282,7 +355,7 @@ fn damaged_films_have_an_answer() {
         seen[usize::try_from(refused(&film)).unwrap()] += 1;
     }
     // W has few entries and no edits, so that 6 and 13 have films of their own above.
-    for number in [0, 2, 3, 4, 5, 7, 8, 9, 10, 11, 12] {
+    for number in [0, 2, 3, 4, 5, 7, 8, 9, 10, 11, 12, 19] {
         assert!(seen[number] > 0, "{number} in {seen:?}");
     }
 }

@@ -12,8 +12,11 @@ sample-at-time-requires c κs = search needs
 enum-known-n : tie.Need-enum-known-n
 enum-known-n c = search needs
 
-cast-t13 : tie.Need-cast-t13
-cast-t13 c = search needs
+cast-t14 : tie.Need-cast-t14
+cast-t14 c = search needs
+
+cast-t15 : tie.Need-cast-t15
+cast-t15 c = search needs
 
 slice-aggregate-hand : tie.Need-slice-aggregate-hand
 slice-aggregate-hand c = search needs
@@ -56,7 +59,8 @@ hand-sample-at-spec =
     (tie.spec
     sample-at-time-requires
     enum-known-n
-    cast-t13
+    cast-t14
+    cast-t15
     slice-aggregate-hand
     hand-requires
     enum-known-r

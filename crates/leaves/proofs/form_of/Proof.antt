@@ -36,6 +36,9 @@ in-parent-requires-9 c κs = tt
 in-parent-requires-10 : tie.Need-in-parent-requires-10
 in-parent-requires-10 c κs = tt
 
+in-parent-requires-11 : tie.Need-in-parent-requires-11
+in-parent-requires-11 c κs = tt
+
 returns : tie.Need-returns
 unfolding formOf
 returns c = rw (c .before .match .keys1) (c .in-parent .ensures)
@@ -78,9 +81,14 @@ returns-10 c = rw (c .before .match .keys10) (c .in-parent10 .ensures)
 
 returns-11 : tie.Need-returns-11
 unfolding formOf
-returns-11 c =
+returns-11 c = rw (c .before .match .keys11) (c .in-parent11 .ensures)
+
+returns-12 : tie.Need-returns-12
+unfolding formOf
+returns-12 c =
     let r = c .match .rest in
-    simp (ne-eqb _ _ (r .0 .0 .0 .0 .0 .0 .0 .0 .0 .1), ne-eqb _ _ (r .0 .0 .0 .0 .0 .0 .0 .0 .1), ne-eqb _ _ (r .0 .0 .0 .0 .0 .0 .0 .1), ne-eqb _ _ (r .0 .0 .0 .0 .0 .0 .1), ne-eqb _ _ (r .0 .0 .0 .0 .0 .1), ne-eqb _ _ (λ e. r .0 .0 .0 .0 .1 (inl e)), ne-eqb _ _ (λ e. r .0 .0 .0 .0 .1 (inr e)), ne-eqb _ _ (r .0 .0 .0 .1), ne-eqb _ _ (r .0 .0 .1), ne-eqb _ _ (λ e. r .0 .1 (inl e)), ne-eqb _ _ (λ e. r .0 .1 (inr e)), ne-eqb _ _ (r .1))
+    let q = r .0 in
+    simp (ne-eqb _ _ (q .0 .0 .0 .0 .0 .0 .0 .0 .0 .1), ne-eqb _ _ (q .0 .0 .0 .0 .0 .0 .0 .0 .1), ne-eqb _ _ (q .0 .0 .0 .0 .0 .0 .0 .1), ne-eqb _ _ (q .0 .0 .0 .0 .0 .0 .1), ne-eqb _ _ (q .0 .0 .0 .0 .0 .1), ne-eqb _ _ (λ e. q .0 .0 .0 .0 .1 (inl e)), ne-eqb _ _ (λ e. q .0 .0 .0 .0 .1 (inr e)), ne-eqb _ _ (q .0 .0 .0 .1), ne-eqb _ _ (q .0 .0 .1), ne-eqb _ _ (λ e. q .0 .1 (inl e)), ne-eqb _ _ (λ e. q .0 .1 (inr e)), ne-eqb _ _ (q .1), ne-eqb _ _ (r .1))
 
 pub form-of-spec : {M : Type 1} → statement M
 form-of-spec =
@@ -96,6 +104,7 @@ form-of-spec =
     in-parent-requires-8
     in-parent-requires-9
     in-parent-requires-10
+    in-parent-requires-11
     returns
     returns-2
     returns-3
@@ -106,4 +115,5 @@ form-of-spec =
     returns-8
     returns-9
     returns-10
-    returns-11)
+    returns-11
+    returns-12)

@@ -1,4 +1,4 @@
--- `movie::tables_refusal` meets its contract; the loop's invariant: the lower of what was found and of the rest's tracks is the refusal.
+-- `movie::tables_refusal` meets its contract; the loop's invariant: the earlier of what was found and of the rest's tracks is the refusal.
 -- Assumes nothing.
 use borrow.Author.Needs.{needs}
 use native.Mathlib.Omega.{arith}
@@ -9,7 +9,7 @@ use denote.Ref.{now}
 use lib.ListN.{length, length-drop}
 use lib.Seq.{length-take-le}
 use Rattle.bigendian.proofs.Parts.{rest}
-use Rattle.structure.specs.ByTracks.{lowerOf, ofTracks}
+use Rattle.structure.specs.ByTracks.{earlierOf, ofTracks}
 use Rattle.structure.specs.Movie.{tracksOf}
 use Rattle.structure.proofs.Places.{found-end, found-here, found-next}
 use Rattle.movie.specs.TableRows.{tableRows, tablesRefusal}
@@ -19,7 +19,7 @@ use Rattle.movie.proofs.tables_refusal.Statement.{statement}
 use Rattle.movie.proofs.tables_refusal.Tie as tie
 
 abbrev Inv-loop : tie.InvT-loop
-Inv-loop moov len source scale t₀ found₀ t found = (length t < 2 ^ 32) × (lowerOf found (ofTracks (tableRows source scale len) (tracksOf t)) ≡ tablesRefusal source len moov)
+Inv-loop moov len source scale t₀ found₀ t found = (length t < 2 ^ 32) × (earlierOf found (ofTracks (tableRows source scale len) (tracksOf t)) ≡ tablesRefusal source len moov)
 
 abbrev μ-loop : tie.MeasureT-loop
 μ-loop moov len source scale t₀ found₀ t found = length t
@@ -36,7 +36,7 @@ loop-holds c =
     let m = now (a .args .moov) in
     let scale = c .before .movie-scale .result in (
       a .pre,
-      ap (λ x. lowerOf x (ofTracks (tableRows (a .args .source) scale (a .args .len)) (tracksOf m))) (c .own-refusal .ensures)
+      ap (λ x. earlierOf x (ofTracks (tableRows (a .args .source) scale (a .args .len)) (tracksOf m))) (c .own-refusal .ensures)
           ∙ sym (tables-by-tracks (a .args .source) scale (a .args .len) m (c .before .movie-scale .ensures)),
     )
 
@@ -62,8 +62,8 @@ refusal-requires c κs =
     let l = c .before .before .before .before .before .before .loop in
     omega (arith, l .inv .0, body-within (now (l .t)) (c .before .before .before .before .before .size-in .result) _ (c .body-of .ensures))
 
-lower-of-requires : tie.Need-lower-of-requires Inv-loop μ-loop
-lower-of-requires c κs = search needs
+earlier-of-requires : tie.Need-earlier-of-requires Inv-loop μ-loop
+earlier-of-requires c κs = search needs
 
 sub-t : tie.Need-sub-t Inv-loop μ-loop
 sub-t c = search needs
@@ -112,7 +112,7 @@ tables-refusal-spec =
     slice-aggregate-body-of
     body-of-requires
     refusal-requires
-    lower-of-requires
+    earlier-of-requires
     sub-t
     part-t-start
     part-t-end

@@ -6,9 +6,10 @@ use mathlib.Core.Path.{_≡_, refl, ap, sym, _∙_}
 use native.Mathlib.Omega.{arith}
 use lib.ListN.{length}
 use Rattle.runs.specs.Runs.{perSample}
-use Rattle.peaks.specs.Windows.{toPeak}
-use Rattle.peaks.proofs.Sliding.{slides-start, some-run}
-use Rattle.peaks.proofs.Passing.{Passes, raised-absorbs, span-fits, pass-start, pass-next, pass-end}
+use Rattle.peaks.specs.Slides.{toPeak}
+use Rattle.windows.proofs.Sliding.{slides-start, some-run}
+use Rattle.windows.proofs.Rating.{span-fits}
+use Rattle.peaks.proofs.Passing.{Passes, raised-absorbs, pass-start, pass-next, pass-end}
 use Rattle.peaks.proofs.Placing.{best-placed}
 use Rattle.peaks.proofs.peak_of.Statement.{statement}
 use Rattle.peaks.proofs.peak_of.Tie as tie

@@ -11,49 +11,56 @@ use Rattle.peaks.proofs.slide_listed.Statement.{statement}
 use Rattle.peaks.proofs.slide_listed.Tie as tie
 
 abbrev Inv-loop : tie.InvT-loop
-Inv-loop tails heads bytes most t₀ h₀ moved₀ total₀ t h moved total = Over tails heads bytes most t h moved total
+Inv-loop tails heads bytes most t₀ h₀ moved₀ entered₀ left₀ t h moved entered left = Over tails heads bytes most t h moved entered left
 
 abbrev μ-loop : tie.MeasureT-loop
-μ-loop tails heads bytes most t₀ h₀ moved₀ total₀ t h moved total = length h
+μ-loop tails heads bytes most t₀ h₀ moved₀ entered₀ left₀ t h moved entered left = length h
 
 loop-holds : tie.Need-loop-holds Inv-loop μ-loop
 loop-holds c = let s = c .before .before in over-start _ _ _ _ (s .pre .0) (s .pre .1)
 
-u32-at-requires : tie.Need-u32-at-requires Inv-loop μ-loop
-u32-at-requires c κs = search needs
+whole32-requires : tie.Need-whole32-requires Inv-loop μ-loop
+whole32-requires c κs = search needs
 
-cast-next : tie.Need-cast-next Inv-loop μ-loop
-cast-next c = search needs
+cast-more : tie.Need-cast-more Inv-loop μ-loop
+cast-more c = search needs
 
-add-next : tie.Need-add-next Inv-loop μ-loop
-add-next c =
+add-more : tie.Need-add-more Inv-loop μ-loop
+add-more c =
     let t = c .before in
     let l = t .before in
     let s = l .before .before .before .pre .0 in
-    let m = moves _ _ _ _ s _ _ _ _ (l .loop .inv) (t .loop-test .taken) in
-    record { fits = omega (arith, l .loop .inv .so-far .step, s .fits, c .u32-at .ok) }
+    let m = moves _ _ _ _ s _ _ _ _ _ (l .loop .inv) (t .loop-test .taken) in
+    record { fits = omega (arith, l .loop .inv .few, s .fits, c .whole32 .ok) }
 
-u32-at-requires-2 : tie.Need-u32-at-requires-2 Inv-loop μ-loop
-u32-at-requires-2 c κs = search needs
+whole32-requires-2 : tie.Need-whole32-requires-2 Inv-loop μ-loop
+whole32-requires-2 c κs = search needs
 
-cast-next-2 : tie.Need-cast-next-2 Inv-loop μ-loop
-cast-next-2 c = search needs
+cast-gone : tie.Need-cast-gone Inv-loop μ-loop
+cast-gone c = search needs
+
+add-gone : tie.Need-add-gone Inv-loop μ-loop
+add-gone c =
+    let t = c .before .before in
+    let l = t .before in
+    let s = l .before .before .before .pre .0 in
+    let i = l .loop .inv in
+    let m = moves _ _ _ _ s _ _ _ _ _ i (t .loop-test .taken) in
+    let k = leaves _ _ _ _ s _ _ _ _ _ i (t .loop-test .taken) (c .whole322 .ensures) in
+    record { fits = omega (arith, i .few, s .fits) }
 
 sub-next : tie.Need-sub-next Inv-loop μ-loop
 sub-next c =
     let t = c .before .before in
     let l = t .before in
-    let k = leaves _ _ _ _ (l .before .before .before .pre .0) _ _ _ _ (l .loop .inv) (t .loop-test .taken) (c .u32-at2 .ensures) in
+    let k = leaves _ _ _ _ (l .before .before .before .pre .0) _ _ _ _ _ (l .loop .inv) (t .loop-test .taken) (c .whole322 .ensures) in
     omega arith
-
-returns : tie.Need-returns Inv-loop μ-loop
-returns c = c .before .before .before .before .loop .inv .so-far
 
 add-moved : tie.Need-add-moved Inv-loop μ-loop
 add-moved c =
     let t = c .before .before .before in
     let l = t .before in
-    let m = moves _ _ _ _ (l .before .before .before .pre .0) _ _ _ _ (l .loop .inv) (t .loop-test .taken) in
+    let m = moves _ _ _ _ (l .before .before .before .pre .0) _ _ _ _ _ (l .loop .inv) (t .loop-test .taken) in
     record { fits = omega arith }
 
 sub-t : tie.Need-sub-t Inv-loop μ-loop
@@ -88,10 +95,13 @@ loop-again c =
     let t = x .before in
     let l = t .before in
     rw (part-rest 4 (now (l .loop .h)), part-rest 4 (now (l .loop .t)))
-    (over-next _ _ _ _ (l .before .before .before .pre .0) _ _ _ _ (l .loop .inv) (t .loop-test .taken) (x .u32-at .ensures) (y .u32-at2 .ensures) (omega (arith, x .u32-at .ok)) (e .if1 .left))
+    (over-next _ _ _ _ (l .before .before .before .pre .0) _ _ _ _ _ (l .loop .inv) (t .loop-test .taken) (x .whole32 .ensures) (y .whole322 .ensures) (omega (arith, x .whole32 .ok)) (e .if1 .left))
 
-returns-2 : tie.Need-returns-2 Inv-loop μ-loop
-returns-2 c = c .before .loop .inv .so-far
+sub-total : tie.Need-sub-total Inv-loop μ-loop
+sub-total c = c .before .loop .inv .held
+
+returns : tie.Need-returns Inv-loop μ-loop
+returns c = c .before .loop .inv .so-far
 
 pub slide-listed-spec : {M : Type 1} → statement M
 slide-listed-spec =
@@ -100,13 +110,13 @@ slide-listed-spec =
     Inv-loop
     μ-loop
     loop-holds
-    u32-at-requires
-    cast-next
-    add-next
-    u32-at-requires-2
-    cast-next-2
+    whole32-requires
+    cast-more
+    add-more
+    whole32-requires-2
+    cast-gone
+    add-gone
     sub-next
-    returns
     add-moved
     sub-t
     part-t-start
@@ -116,4 +126,5 @@ slide-listed-spec =
     part-h-end
     loop-less
     loop-again
-    returns-2)
+    sub-total
+    returns)

@@ -2,7 +2,7 @@
 -- Assumes nothing.
 use borrow.Author.Needs.{needs}
 use mathlib.Core.Path.{sym, ap}
-use Rattle.peaks.specs.Windows.{toPeak}
+use Rattle.peaks.specs.Slides.{toPeak}
 use Rattle.peaks.proofs.to_peak.Statement.{statement}
 use Rattle.peaks.proofs.to_peak.Tie as tie
 

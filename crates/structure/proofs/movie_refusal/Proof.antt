@@ -1,4 +1,4 @@
--- `structure::movie_refusal` meets its contract; the loop's invariant: the lower of what was found and of the rest's tracks is the refusal.
+-- `structure::movie_refusal` meets its contract; the loop's invariant: the earlier of what was found and of the rest's tracks is the refusal.
 -- Assumes nothing.
 use borrow.Author.Needs.{needs}
 use native.Mathlib.Omega.{arith}
@@ -8,7 +8,7 @@ use denote.Ref.{now}
 use lib.ListN.{length, length-drop}
 use lib.Seq.{length-take-le}
 use Rattle.bigendian.proofs.Parts.{rest}
-use Rattle.structure.specs.ByTracks.{lowerOf, ofTracks}
+use Rattle.structure.specs.ByTracks.{earlierOf, ofTracks}
 use Rattle.structure.specs.Movie.{tracksOf}
 use Rattle.structure.specs.MovieRows.{movieRows, movieRefusal}
 use Rattle.structure.proofs.Tracks.{movie-by-tracks}
@@ -17,7 +17,7 @@ use Rattle.structure.proofs.movie_refusal.Statement.{statement}
 use Rattle.structure.proofs.movie_refusal.Tie as tie
 
 abbrev Inv-loop : tie.InvT-loop
-Inv-loop moov t₀ found₀ t found = lowerOf found (ofTracks movieRows (tracksOf t)) ≡ movieRefusal moov
+Inv-loop moov t₀ found₀ t found = earlierOf found (ofTracks movieRows (tracksOf t)) ≡ movieRefusal moov
 
 abbrev μ-loop : tie.MeasureT-loop
 μ-loop moov t₀ found₀ t found = length t
@@ -28,7 +28,7 @@ own-refusal-requires c κs = tt
 loop-holds : tie.Need-loop-holds Inv-loop μ-loop
 loop-holds c =
     let m = now (c .before .before .args .moov) in
-    ap (λ x. lowerOf x (ofTracks movieRows (tracksOf m))) (c .own-refusal .ensures) ∙ sym (movie-by-tracks m)
+    ap (λ x. earlierOf x (ofTracks movieRows (tracksOf m))) (c .own-refusal .ensures) ∙ sym (movie-by-tracks m)
 
 size-in-requires : tie.Need-size-in-requires Inv-loop μ-loop
 size-in-requires c κs = tt
@@ -50,8 +50,8 @@ body-of-requires c κs = tt
 track-refusal-requires : tie.Need-track-refusal-requires Inv-loop μ-loop
 track-refusal-requires c κs = tt
 
-lower-of-requires : tie.Need-lower-of-requires Inv-loop μ-loop
-lower-of-requires c κs = tt
+earlier-of-requires : tie.Need-earlier-of-requires Inv-loop μ-loop
+earlier-of-requires c κs = tt
 
 sub-t : tie.Need-sub-t Inv-loop μ-loop
 sub-t c = search needs
@@ -95,7 +95,7 @@ movie-refusal-spec =
     slice-aggregate-body-of
     body-of-requires
     track-refusal-requires
-    lower-of-requires
+    earlier-of-requires
     sub-t
     part-t-start
     part-t-end

@@ -14,7 +14,7 @@ use lib.ListN.{length}
 use Rattle.atoms.specs.Kinds.{stsz}
 use Rattle.structure.proofs.Lengths.{table-short}
 use Rattle.edits.specs.Edits.{editTotal}
-use Rattle.track.proofs.Rows.{timed-10, timed-11, timed-12, timed-13, timed-0, chunk-past-end-by, wrong-by}
+use Rattle.track.proofs.Rows.{timed-10, timed-11, timed-19, timed-12, timed-13, timed-0, chunk-past-end-by, wrong-by}
 use Rattle.track.proofs.timed_refusal.Statement.{statement}
 use Rattle.track.proofs.timed_refusal.Tie as tie
 
@@ -23,12 +23,12 @@ over : (c : tie.After-is-over) → ltb 4294967295 (editTotal (elstOf (now (c .be
 over c = sym (c .is-over .ensures ∙ ap (λ (l : List ℕ). ltb 4294967295 (editTotal l)) (c .before .edit-list .ensures))
 
 -- whether a chunk passes the file's end
-ends : (c : tie.After-chunks-end-within) → chunkPastEnd (c .before .before .before .before .before .before .before .before .before .before .args .len) (now (c .before .before .before .before .before .before .before .before .before .before .args .trak)) ≡ not (c .chunks-end-within .result)
+ends : (c : tie.After-chunks-end-within) → chunkPastEnd (c .before .before .before .before .before .before .before .before .before .before .before .before .args .len) (now (c .before .before .before .before .before .before .before .before .before .before .before .before .args .trak)) ≡ not (c .chunks-end-within .result)
 ends c = sym (chunk-past-end-by _ _ _ _ _ _ (c .before .before .table2 .ensures) (c .before .before .before .table .ensures) (c .before .table3 .ensures) (c .chunks-end-within .ensures))
 
 -- whether the edit list is wrong
-shows : (c : tie.After-edits-ok) → wrongEdits (c .before .before .before .before .before .before .before .before .before .before .before .before .before .args .movie) (now (c .before .before .before .before .before .before .before .before .before .before .before .before .before .args .trak)) ≡ not (c .edits-ok .result)
-shows c = sym (wrong-by _ _ _ _ _ _ (c .before .before .before .before .before .before .before .before .before .before .before .edit-list .ensures) (c .before .media-scale .ensures) (c .before .before .before .before .before .before .before .before .before .before .before .before .before .pre .0) (c .edits-ok .ensures))
+shows : (c : tie.After-edits-ok) → wrongEdits (c .before .before .before .before .before .before .before .before .before .before .before .before .before .before .before .args .movie) (now (c .before .before .before .before .before .before .before .before .before .before .before .before .before .before .before .args .trak)) ≡ not (c .edits-ok .result)
+shows c = sym (wrong-by _ _ _ _ _ _ (c .before .before .before .before .before .before .before .before .before .before .before .before .before .edit-list .ensures) (c .before .media-scale .ensures) (c .before .before .before .before .before .before .before .before .before .before .before .before .before .before .before .pre .0) (c .edits-ok .ensures))
 
 edit-list-requires : tie.Need-edit-list-requires
 edit-list-requires c κs = search needs
@@ -49,6 +49,15 @@ returns-2 c =
     let s = c .before .before .before .before .before .before in
     sym (timed-11 _ _ _ _ _ (s .pre .0) (s .fits .total .fits) (over (c .before .before .before) ∙ c .before .before .if1 .left) (sym (c .before .has-other-duration .ensures) ∙ c .if2 .taken))
 
+has-data-elsewhere-requires : tie.Need-has-data-elsewhere-requires
+has-data-elsewhere-requires c κs = search needs
+
+returns-3 : tie.Need-returns-3
+returns-3 c =
+    let d = c .before .before in
+    let s = d .before .before .before .before .before .before in
+    sym (timed-19 _ _ _ _ _ (s .pre .0) (s .fits .total .fits) (over (d .before .before .before) ∙ d .before .before .if1 .left) (sym (d .before .has-other-duration .ensures) ∙ d .if2 .left) (sym (c .before .has-data-elsewhere .ensures) ∙ c .if3 .taken))
+
 table-requires : tie.Need-table-requires
 table-requires c κs = search needs
 
@@ -60,15 +69,16 @@ table-requires-3 c κs = search needs
 
 chunks-end-within-requires : tie.Need-chunks-end-within-requires
 chunks-end-within-requires c κs =
-    let s = c .before .before .before .before .before .before .before .before .before in
+    let s = c .before .before .before .before .before .before .before .before .before .before .before in
     omega (arith, ap length (c .before .before .table .ensures), table-short stsz (now (s .args .trak)), s .pre)
 
-returns-3 : tie.Need-returns-3
-returns-3 c =
+returns-4 : tie.Need-returns-4
+returns-4 c =
     let e = c .before in
-    let d = e .before .before .before .before in
+    let h = e .before .before .before .before in
+    let d = h .before .before in
     let s = d .before .before .before .before .before .before in
-    sym (timed-12 _ _ _ _ _ (s .pre .0) (s .fits .total .fits) (over (d .before .before .before) ∙ d .before .before .if1 .left) (sym (d .before .has-other-duration .ensures) ∙ d .if2 .left) (ends e ∙ c .if3 .taken))
+    sym (timed-12 _ _ _ _ _ (s .pre .0) (s .fits .total .fits) (over (d .before .before .before) ∙ d .before .before .if1 .left) (sym (d .before .has-other-duration .ensures) ∙ d .if2 .left) (sym (h .before .has-data-elsewhere .ensures) ∙ h .if3 .left) (ends e ∙ c .if4 .taken))
 
 media-scale-requires : tie.Need-media-scale-requires
 media-scale-requires c κs = search needs
@@ -76,19 +86,21 @@ media-scale-requires c κs = search needs
 edits-ok-requires : tie.Need-edits-ok-requires
 edits-ok-requires c κs = search needs
 
-returns-4 : tie.Need-returns-4
-returns-4 c =
-    let e = c .before .before .before .before in
-    let d = e .before .before .before .before in
-    let s = d .before .before .before .before .before .before in
-    sym (timed-13 _ _ _ _ _ (s .pre .0) (s .fits .total .fits) (over (d .before .before .before) ∙ d .before .before .if1 .left) (sym (d .before .has-other-duration .ensures) ∙ d .if2 .left) (ends e ∙ c .before .before .before .if3 .left) (shows (c .before) ∙ c .if4 .taken))
-
 returns-5 : tie.Need-returns-5
 returns-5 c =
     let e = c .before .before .before .before in
-    let d = e .before .before .before .before in
+    let h = e .before .before .before .before in
+    let d = h .before .before in
     let s = d .before .before .before .before .before .before in
-    sym (timed-0 _ _ _ _ _ (s .pre .0) (s .fits .total .fits) (over (d .before .before .before) ∙ d .before .before .if1 .left) (sym (d .before .has-other-duration .ensures) ∙ d .if2 .left) (ends e ∙ c .before .before .before .if3 .left) (shows (c .before) ∙ c .if4 .left))
+    sym (timed-13 _ _ _ _ _ (s .pre .0) (s .fits .total .fits) (over (d .before .before .before) ∙ d .before .before .if1 .left) (sym (d .before .has-other-duration .ensures) ∙ d .if2 .left) (sym (h .before .has-data-elsewhere .ensures) ∙ h .if3 .left) (ends e ∙ c .before .before .before .if4 .left) (shows (c .before) ∙ c .if5 .taken))
+
+returns-6 : tie.Need-returns-6
+returns-6 c =
+    let e = c .before .before .before .before in
+    let h = e .before .before .before .before in
+    let d = h .before .before in
+    let s = d .before .before .before .before .before .before in
+    sym (timed-0 _ _ _ _ _ (s .pre .0) (s .fits .total .fits) (over (d .before .before .before) ∙ d .before .before .if1 .left) (sym (d .before .has-other-duration .ensures) ∙ d .if2 .left) (sym (h .before .has-data-elsewhere .ensures) ∙ h .if3 .left) (ends e ∙ c .before .before .before .if4 .left) (shows (c .before) ∙ c .if5 .left))
 
 pub timed-refusal-spec : {M : Type 1} → statement M
 timed-refusal-spec =
@@ -99,12 +111,14 @@ timed-refusal-spec =
     returns
     has-other-duration-requires
     returns-2
+    has-data-elsewhere-requires
+    returns-3
     table-requires
     table-requires-2
     table-requires-3
     chunks-end-within-requires
-    returns-3
+    returns-4
     media-scale-requires
     edits-ok-requires
-    returns-4
-    returns-5)
+    returns-5
+    returns-6)

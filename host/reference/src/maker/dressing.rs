@@ -4,21 +4,22 @@ use super::random::Random;
 use crate::film::*;
 
 /// The containers, the file among them, and which of their children are counted or walked.
-const KNOWN: [(&str, &[&str]); 7] = [
+const KNOWN: [(&str, &[&str]); 8] = [
     ("file", &["moov"]),
     ("moov", &["mvhd", "trak"]),
     ("trak", &["tkhd", "mdia", "edts"]),
     ("edts", &["elst"]),
     ("mdia", &["mdhd", "hdlr", "minf"]),
-    ("minf", &["stbl"]),
+    ("minf", &["stbl", "dinf"]),
+    ("dinf", &["dref"]),
     ("stbl", &["stsd", "stts", "stsc", "stsz", "stco", "ctts", "stss"]),
 ];
 
 /// Types of atoms: those that a rule names, those that QuickTime has besides, and some that differ from them in a letter.
-pub const KINDS: [&str; 32] = [
+pub const KINDS: [&str; 33] = [
     "moov", "mvhd", "trak", "tkhd", "edts", "elst", "mdia", "mdhd", "hdlr", "minf", "stbl", "stsd", "stts", "ctts",
     "stsc", "stsz", "stco", "stss", "prfl", "file", "free", "skip", "wide", "udta", "cmov", "rmra", "mdat", "MOOV",
-    "Trak", "co64", "dinf", "\0\0\0\0",
+    "Trak", "co64", "dinf", "dref", "\0\0\0\0",
 ];
 
 /// The children of an atom that a rule counts or that are walked, none of a leaf.
@@ -74,7 +75,7 @@ fn fill_unread(random: &mut Random, node: &mut Node) {
             node.body.resize(node.body.len() + more, 0);
             noise(random, node, 16..20);
         }
-        b"elst" | b"stts" | b"ctts" | b"stsc" | b"stsz" | b"stco" | b"stss" | b"stsd" => {
+        b"elst" | b"stts" | b"ctts" | b"stsc" | b"stsz" | b"stco" | b"stss" | b"stsd" | b"dref" => {
             let flags = random.bytes(3);
             node.body[1..4].copy_from_slice(&flags);
         }

@@ -175,6 +175,29 @@ fn descriptions(random: &mut Random, subtype: &[u8; 4], samples: usize) -> Vec<V
     (0..number).map(|_| described(random, subtype)).collect()
 }
 
+/// Data references, of which the first means this file. Other flags and the version play no part, nor does what follows.
+fn references(random: &mut Random) -> Vec<Vec<u8>> {
+    let many = if random.once_in(40) { 64 } else { 3 };
+    let number = random.one(&[1, 1, 1, 2, many]);
+    (0..number)
+        .map(|i| {
+            let flags = if i == 0 { random.number() | 1 } else { random.number() };
+            let length = random.one(&[0, 0, 1, 30]);
+            let rest = random.bytes(length);
+            reference(random.one(&[b"alis", b"url ", b"rsrc", &[0; 4]]), flags, &rest)
+        })
+        .collect()
+}
+
+/// Gives each description an index of a reference to this file.
+fn refer(random: &mut Random, descriptions: &mut [Vec<u8>], references: &[Vec<u8>]) {
+    let here: Vec<usize> = (0..references.len()).filter(|i| references[*i][11] % 2 == 1).collect();
+    for bytes in descriptions {
+        let index = u16::try_from(random.one(&here) + 1).unwrap();
+        bytes[14..16].copy_from_slice(&index.to_be_bytes());
+    }
+}
+
 fn subtype(random: &mut Random) -> [u8; 4] {
     random.one(&[*b"vide", *b"vide", *b"vide", *b"soun", *b"soun", *b"text", *b"VIDE", [0; 4]])
 }
@@ -182,7 +205,9 @@ fn subtype(random: &mut Random) -> [u8; 4] {
 /// A track of so many samples without edits and profile.
 pub fn track_of(random: &mut Random, id: u32, samples: usize) -> Track {
     let subtype = subtype(random);
-    let descriptions = descriptions(random, &subtype, samples);
+    let references = references(random);
+    let mut descriptions = descriptions(random, &subtype, samples);
+    refer(random, &mut descriptions, &references);
     let dealt = deal(random, samples);
     let durations = durations(random, &dealt);
     let by_a_run = !durations.is_empty() && random.once_in(3);
@@ -198,6 +223,7 @@ pub fn track_of(random: &mut Random, id: u32, samples: usize) -> Track {
         stco: vec![0; dealt.len()],
         stss: sync_samples(random, samples),
         descriptions,
+        references,
         edits: None,
         profile: None,
     }

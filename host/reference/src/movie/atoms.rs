@@ -39,15 +39,17 @@ pub fn big_endian(bytes: &[u8], at: usize, width: usize) -> u64 {
     n
 }
 
-/// "Containers, each only in the parent shown: moov in the file; trak in moov; edts and mdia in trak; minf in mdia; stbl in minf."
+/// "Containers, each only in the parent shown: moov in the file; trak in moov; edts and mdia in trak; minf in mdia; stbl in minf." Document 02: "one 'dinf'
+/// container in minf"
 fn is_container(parent: &[u8; 4], kind: &[u8; 4]) -> bool {
-    let shown: [(&[u8; 4], &[u8; 4]); 6] = [
+    let shown: [(&[u8; 4], &[u8; 4]); 7] = [
         (FILE, b"moov"),
         (b"moov", b"trak"),
         (b"trak", b"edts"),
         (b"trak", b"mdia"),
         (b"mdia", b"minf"),
         (b"minf", b"stbl"),
+        (b"minf", b"dinf"),
     ];
     shown.contains(&(parent, kind))
 }
@@ -181,6 +183,7 @@ pub struct TrackLeaves {
     pub elst: Option<Leaf>,
     pub mdhd: Leaf,
     pub hdlr: Leaf,
+    pub dref: Leaf,
     pub stsd: Leaf,
     pub stts: Leaf,
     pub ctts: Option<Leaf>,
@@ -193,8 +196,8 @@ pub struct TrackLeaves {
 impl TrackLeaves {
     /// The read leaves.
     pub fn read(&self) -> Vec<&Leaf> {
-        let TrackLeaves { prfl: _, tkhd, elst, mdhd, hdlr, stsd, stts, ctts, stsc, stsz, stco, stss } = self;
-        let mut all = vec![tkhd, mdhd, hdlr, stsd, stts, stsc, stsz, stco];
+        let TrackLeaves { prfl: _, tkhd, elst, mdhd, hdlr, dref, stsd, stts, ctts, stsc, stsz, stco, stss } = self;
+        let mut all = vec![tkhd, mdhd, hdlr, dref, stsd, stts, stsc, stsz, stco];
         for optional in [elst, ctts, stss] {
             all.extend(optional);
         }
@@ -250,6 +253,7 @@ fn track(trak: &Atom) -> Option<TrackLeaves> {
         elst,
         mdhd: leaf(one(mdia, b"mdhd")?),
         hdlr: leaf(one(mdia, b"hdlr")?),
+        dref: leaf(one(one(minf, b"dinf")?, b"dref")?),
         stsd: leaf(one(stbl, b"stsd")?),
         stts: leaf(one(stbl, b"stts")?),
         ctts: one(stbl, b"ctts").map(leaf),

@@ -1,6 +1,7 @@
 //! "Features, decided by four-character code".
 use super::peaks::{peak, Peak};
-use super::tables::{code, Track};
+use super::refusals::in_media_scale;
+use super::tables::{code, Edit, Sample, Track};
 
 fn least_duration(track: &Track) -> Option<u64> {
     track.samples.iter().map(|sample| sample.duration).filter(|duration| *duration != 0).min()
@@ -19,10 +20,35 @@ pub fn quotient(numerator: u128, divisor: Option<u64>) -> Option<u32> {
     u32::try_from(result).ok()
 }
 
-/// "8 × all sizes × scale / total"
-fn average(track: &Track) -> Option<u32> {
-    let sizes: u128 = track.samples.iter().map(|sample| u128::from(sample.size)).sum();
-    quotient(8 * sizes * u128::from(track.tables.scale), Some(track.total))
+/// The place in the track of the sample at a media time: "decode time ≤ t < decode time plus duration"
+fn place_at(track: &Track, t: u128) -> usize {
+    let holds = |sample: &Sample| {
+        let start = u128::from(sample.decode_time);
+        start <= t && t < start + u128::from(sample.duration)
+    };
+    track.samples.iter().position(holds).unwrap()
+}
+
+/// Document 02: "each entry that shows media covers the samples from the one at its first place to the one at its last place (movie time d-1 in the
+/// entry)"
+fn covered<'a>(track: &'a Track, edit: &Edit, movie_scale: u64) -> &'a [Sample] {
+    let Ok(first) = u128::try_from(edit.media_time) else {
+        return &[];
+    };
+    let last = first + in_media_scale(edit.duration - 1, track.tables.scale, movie_scale);
+    &track.samples[place_at(track, first)..=place_at(track, last)]
+}
+
+/// "8 × all sizes × scale / total". Document 02: "With an edit list ... Sizes and durations of those samples are added, once for each entry that covers
+/// them. Without a list nothing changes."
+fn average(track: &Track, movie_scale: u64) -> Option<u32> {
+    let parts: Vec<&[Sample]> = match &track.tables.edits {
+        Some(edits) => edits.iter().map(|edit| covered(track, edit, movie_scale)).collect(),
+        None => vec![&track.samples],
+    };
+    let all = || parts.iter().flat_map(|part| part.iter());
+    let sizes: u128 = all().map(|sample| u128::from(sample.size)).sum();
+    quotient(8 * sizes * u128::from(track.tables.scale), Some(all().map(|sample| sample.duration).sum()))
 }
 
 /// "greatest width × 65536 + greatest height"; "no description for tvsz"
@@ -55,10 +81,10 @@ pub fn peak_of(track: &Track, feature: u32) -> Option<Peak> {
 }
 
 /// The feature of that code, or nothing where it is refused 18. "another code, the wrong subtype"
-pub fn computed(track: &Track, feature: u32) -> Option<u32> {
+pub fn computed(track: &Track, movie_scale: u64, feature: u32) -> Option<u32> {
     match &feature.to_be_bytes() {
-        b"avvb" if is_video(track) => average(track),
-        b"avab" if is_sound(track) => average(track),
+        b"avvb" if is_video(track) => average(track, movie_scale),
+        b"avab" if is_sound(track) => average(track, movie_scale),
         b"tvsz" if is_video(track) => picture_size(track),
         b"vfps" if is_video(track) => frame_rate(track),
         b"mvbr" | b"mabr" => peak_of(track, feature).map(|peak| peak.rate),

@@ -28,6 +28,17 @@ pub struct Stretch {
     pub bytes: u64,
 }
 
+/// "the position, from 1, of the entry that holds the answered sample", which is sample n
+fn entry_of(stts: &[(u64, u64)], n: u64) -> u64 {
+    let mut samples = 0;
+    let mut position = 0;
+    while samples < n {
+        samples += stts[position].0;
+        position += 1;
+    }
+    u64::try_from(position).unwrap()
+}
+
 impl Movie {
     /// "no track has that ID"
     pub fn track(&self, id: u32) -> Result<&Track, u32> {
@@ -59,11 +70,13 @@ impl Movie {
         Ok(samples[n - 1])
     }
 
-    /// "the n with decode time ≤ t < decode time plus duration"
-    pub fn sample_at(&self, id: u32, t: u64) -> Result<u64, u32> {
-        for (i, sample) in self.track(id)?.samples.iter().enumerate() {
+    /// "the n with decode time ≤ t < decode time plus duration", and document 02's "how many stts entries it took in"
+    pub fn sample_at(&self, id: u32, t: u64) -> Result<(u64, u64), u32> {
+        let track = self.track(id)?;
+        for (i, sample) in track.samples.iter().enumerate() {
             if sample.decode_time <= t && t < sample.decode_time + sample.duration {
-                return Ok(u64::try_from(i).unwrap() + 1);
+                let n = u64::try_from(i).unwrap() + 1;
+                return Ok((n, entry_of(&track.tables.stts, n)));
             }
         }
         Err(OUTSIDE)
@@ -101,8 +114,8 @@ impl Movie {
         if a >= b || b > track.total {
             return Err(OUTSIDE);
         }
-        let first = self.sample_at(id, a)?;
-        let last = self.sample_at(id, b - 1)?;
+        let (first, _) = self.sample_at(id, a)?;
+        let (last, _) = self.sample_at(id, b - 1)?;
         let included = &track.samples[usize::try_from(first - 1).unwrap()..usize::try_from(last).unwrap()];
         let mut pairs: Vec<(u64, u64)> = Vec::new();
         let mut chunk = 0;
@@ -125,7 +138,7 @@ impl Movie {
 
     /// "the feature cannot be computed"
     pub fn feature(&self, id: u32, code: u32) -> Result<u32, u32> {
-        computed(self.track(id)?, code).ok_or(NOT_COMPUTED)
+        computed(self.track(id)?, self.scale, code).ok_or(NOT_COMPUTED)
     }
 
     /// Which samples give 'mvbr' or 'mabr' its value: the number of the first, and how many they are. Refused as the feature is, and for other codes.
@@ -185,7 +198,8 @@ pub fn sample_bytes(file: &[u8], id: u32, n: u32) -> (u64, u64) {
     (sample.offset, sample.size)
 }
 
-pub fn sample_at(file: &[u8], id: u32, t: u32) -> (u32, u64) {
+/// The sample's number, and the position of its stts entry.
+pub fn sample_at(file: &[u8], id: u32, t: u32) -> (u32, (u64, u64)) {
     answered(read(file).and_then(|movie| movie.sample_at(id, u64::from(t))))
 }
 

@@ -2,6 +2,7 @@
 mod contradictions;
 mod counts;
 mod edits;
+mod references;
 mod sizes;
 
 use super::atoms::{leaves, tree, Leaf, MovieLeaves, TrackLeaves};
@@ -10,6 +11,7 @@ use super::tables::{movie_tables, written_out, Movie, MovieTables, Track};
 pub use contradictions::refused_9;
 pub use counts::refused_3;
 pub use edits::{in_media_scale, refused_13};
+pub use references::refused_19;
 pub use sizes::refused_5;
 
 /// "the file is longer than 2,147,483,647 bytes"
@@ -45,10 +47,12 @@ fn track_over(track: &TrackLeaves) -> Option<Fault> {
         .or_else(|| over(&track.stco, 12, "chunks", 1_048_576))
         .or_else(|| over(track.elst.as_ref()?, 12, "edits", 256))
         .or_else(|| over(&track.stsd, 12, "descriptions", 64))
+        .or_else(|| over(&track.dref, 12, "data references", 64))
         .or_else(|| over_records(&track.prfl))
 }
 
-/// "over 16 tracks, or in one track over 1,048,576 samples or chunks, 256 edits or 64 descriptions; in one profile over 64 records"
+/// "over 16 tracks, or in one track over 1,048,576 samples or chunks, 256 edits or 64 descriptions; in one profile over 64 records"; document 02:
+/// "6 over 64 references"
 pub fn refused_6(movie: &MovieLeaves) -> Option<Fault> {
     let tracks = movie.tracks.len();
     if tracks > 16 {
@@ -147,7 +151,7 @@ pub enum Reading {
     Strict,
 }
 
-/// The movie of these tables, written out, if it is not refused 10 to 13.
+/// The movie of these tables, written out, if it is not refused 10 to 13 or 19.
 pub fn read_movie(found: &MovieLeaves, tables: MovieTables, length: usize, reading: Reading) -> Result<Movie, Refused> {
     let movie = written_out(tables);
     let refuse = |number, fault: Option<Fault>| refuse(number, fault.map(|fault| fault.said(found)));
@@ -155,6 +159,8 @@ pub fn read_movie(found: &MovieLeaves, tables: MovieTables, length: usize, readi
     if reading == Reading::Strict {
         refuse(11, refused_11(&movie))?;
     }
+    // "19, data elsewhere or no such entry, judged after 11 and before 12"
+    refuse(19, refused_19(&movie))?;
     refuse(12, refused_12(&movie, length))?;
     refuse(13, refused_13(&movie))?;
     Ok(movie)

@@ -32,6 +32,13 @@ pub struct Picture {
     pub height: u64,
 }
 
+/// A data reference: its type, and whether it means this file.
+#[derive(Clone, Copy, Debug, PartialEq)]
+pub struct Reference {
+    pub kind: u64,
+    pub is_this_file: bool,
+}
+
 /// A chunk, with what stsc says of it.
 #[derive(Clone, Copy, Debug, PartialEq)]
 pub struct Chunk {
@@ -63,6 +70,9 @@ pub struct TrackTables {
     /// As many as descriptions, where the subtype is 'vide', and none otherwise.
     pub pictures: Vec<Picture>,
     pub descriptions: u64,
+    /// As many as descriptions.
+    pub reference_indices: Vec<u64>,
+    pub references: Vec<Reference>,
     pub stts: Vec<(u64, u64)>,
     pub ctts: Option<Vec<(u64, i64)>>,
     pub stsc: Vec<Run>,
@@ -110,35 +120,60 @@ fn places(n: u64, width: usize) -> Vec<usize> {
     (0..usize::try_from(n).unwrap()).map(|i| 16 + width * i).collect()
 }
 
-/// Where each description begins and ends; or how they do not fill the atom exactly.
-/// "filled exactly by n descriptions | n at 12; each: size (at least 16), format"
-pub fn descriptions(stsd: &Leaf) -> Result<Vec<(u64, u64)>, String> {
-    let size = stsd.size();
+/// Where each entry that states its own size begins and ends, n of them, "n at 12", each of at least that size; or how they do not fill the atom exactly.
+fn sized(leaf: &Leaf, least: u64, entry: &str) -> Result<Vec<(u64, u64)>, String> {
+    let size = leaf.size();
     if size < 16 {
         return Err(format!("has {size} bytes, and must have at least 16"));
     }
     let mut found = Vec::new();
     let mut at = 16;
-    let n = stsd.number(12);
+    let n = leaf.number(12);
     for i in 1..=n {
         let remaining = size - at;
-        if remaining < 16 {
-            return Err(format!("states {n} descriptions, and has {remaining} bytes left for description {i}"));
+        if remaining < least {
+            return Err(format!("states {n} {entry}s, and has {remaining} bytes left for {entry} {i}"));
         }
-        let says = stsd.number(usize::try_from(at).unwrap());
-        if says < 16 {
-            return Err(format!("description {i} says {says} bytes, and must say at least 16"));
+        let says = leaf.number(usize::try_from(at).unwrap());
+        if says < least {
+            return Err(format!("{entry} {i} says {says} bytes, and must say at least {least}"));
         }
         if says > remaining {
-            return Err(format!("description {i} says {says} bytes, the stsd ends after {remaining}"));
+            let kind = String::from_utf8_lossy(&leaf.place.kind);
+            return Err(format!("{entry} {i} says {says} bytes, the {kind} ends after {remaining}"));
         }
         found.push((at, at + says));
         at += says;
     }
     if at != size {
-        return Err(format!("has {size} bytes, and its {n} descriptions end after {at}"));
+        return Err(format!("has {size} bytes, and its {n} {entry}s end after {at}"));
     }
     Ok(found)
+}
+
+/// "filled exactly by n descriptions | n at 12; each: size (at least 16), format"
+pub fn descriptions(stsd: &Leaf) -> Result<Vec<(u64, u64)>, String> {
+    sized(stsd, 16, "description")
+}
+
+/// "count at 12, then entries of size at least 12, type, version and flags, filling it exactly"
+pub fn references(dref: &Leaf) -> Result<Vec<(u64, u64)>, String> {
+    sized(dref, 12, "reference")
+}
+
+/// The data reference that begins at the place. "whose lowest flag bit is set, meaning this file"
+fn reference(dref: &Leaf, at: u64) -> Reference {
+    let at = usize::try_from(at).unwrap();
+    Reference { kind: dref.number(at + 4), is_this_file: dref.number(at + 8) % 2 == 1 }
+}
+
+fn all_references(dref: &Leaf) -> Vec<Reference> {
+    references(dref).unwrap().iter().map(|(begin, _)| reference(dref, *begin)).collect()
+}
+
+/// "Each description's reference index (16 bits at 14, counted from 1)"
+fn reference_indices(stsd: &Leaf) -> Vec<u64> {
+    descriptions(stsd).unwrap().iter().map(|(begin, _)| stsd.short(usize::try_from(*begin).unwrap() + 14)).collect()
 }
 
 /// "width at 32 and height at 34, 16 bits each", of the description that begins at the place.
@@ -190,6 +225,8 @@ fn track_tables(track: &TrackLeaves) -> TrackTables {
         mdhd_duration: track.mdhd.number(24),
         pictures: pictures(&track.hdlr, &track.stsd),
         descriptions: track.stsd.number(12),
+        reference_indices: reference_indices(&track.stsd),
+        references: all_references(&track.dref),
         stts: places(track.stts.number(12), 8).into_iter().map(|at| pair(&track.stts, at)).collect(),
         ctts: track.ctts.as_ref().map(|t| places(t.number(12), 8).into_iter().map(|at| shift(t, at)).collect()),
         stsc: places(track.stsc.number(12), 12).into_iter().map(|at| run(&track.stsc, at)).collect(),

@@ -48,8 +48,17 @@ both-requires-4 c κs = tt
 one-of-requires-9 : tie.Need-one-of-requires-9
 one-of-requires-9 c κs = tt
 
+one-of-requires-10 : tie.Need-one-of-requires-10
+one-of-requires-10 c κs = tt
+
+both-requires-5 : tie.Need-both-requires-5
+both-requires-5 c κs = tt
+
 has-tables-requires : tie.Need-has-tables-requires
 has-tables-requires c κs = tt
+
+one-of-requires-11 : tie.Need-one-of-requires-11
+one-of-requires-11 c κs = tt
 
 returns : tie.Need-returns
 unfolding present
@@ -79,7 +88,9 @@ returns-5 c =
 
 returns-6 : tie.Need-returns-6
 unfolding present
-returns-6 c = rw (c .before .match .keys6) (c .one-of9 .ensures)
+returns-6 c =
+    rw (c .before .before .before .match .keys6)
+    (both-are (c .both5 .ensures) (c .before .before .one-of9 .ensures) (c .before .one-of10 .ensures))
 
 returns-7 : tie.Need-returns-7
 unfolding present
@@ -87,9 +98,14 @@ returns-7 c = rw (c .before .match .keys7) (c .has-tables .ensures)
 
 returns-8 : tie.Need-returns-8
 unfolding present
-returns-8 c =
+returns-8 c = rw (c .before .match .keys8) (c .one-of11 .ensures)
+
+returns-9 : tie.Need-returns-9
+unfolding present
+returns-9 c =
     let r = c .match .rest in
-    simp (ne-eqb _ _ (r .0 .0 .0 .0 .0 .0 .1), ne-eqb _ _ (r .0 .0 .0 .0 .0 .1), ne-eqb _ _ (r .0 .0 .0 .0 .1), ne-eqb _ _ (r .0 .0 .0 .1), ne-eqb _ _ (r .0 .0 .1), ne-eqb _ _ (r .0 .1), ne-eqb _ _ (r .1))
+    let q = r .0 in
+    simp (ne-eqb _ _ (q .0 .0 .0 .0 .0 .0 .1), ne-eqb _ _ (q .0 .0 .0 .0 .0 .1), ne-eqb _ _ (q .0 .0 .0 .0 .1), ne-eqb _ _ (q .0 .0 .0 .1), ne-eqb _ _ (q .0 .0 .1), ne-eqb _ _ (q .0 .1), ne-eqb _ _ (q .1), ne-eqb _ _ (r .1))
 
 pub has-its-atoms-spec : {M : Type 1} → statement M
 has-its-atoms-spec =
@@ -109,7 +125,10 @@ has-its-atoms-spec =
     one-of-requires-8
     both-requires-4
     one-of-requires-9
+    one-of-requires-10
+    both-requires-5
     has-tables-requires
+    one-of-requires-11
     returns
     returns-2
     returns-3
@@ -117,4 +136,5 @@ has-its-atoms-spec =
     returns-5
     returns-6
     returns-7
-    returns-8)
+    returns-8
+    returns-9)

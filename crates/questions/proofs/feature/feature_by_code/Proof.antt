@@ -1,7 +1,7 @@
 -- `questions::feature::feature_by_code` meets its contract: the feature is computed where the track is accepted.
 -- Assumes nothing.
 use borrow.Author.Needs.{needs}
-use Rattle.questions.proofs.Asking.{asked-computable}
+use Rattle.questions.proofs.Asking.{asked-computable, asked-averaged}
 use Rattle.questions.proofs.Computing.{not-computed, computed}
 use Rattle.questions.proofs.feature.feature_by_code.Statement.{statement}
 use Rattle.questions.proofs.feature.feature_by_code.Tie as tie
@@ -12,17 +12,33 @@ ask-refusal-requires c κs = search needs
 returns : tie.Need-returns
 returns c = not-computed _ _ _ _ _ (c .before .ask-refusal .ensures) (c .if1 .taken)
 
+moov-body-requires : tie.Need-moov-body-requires
+moov-body-requires c κs = search needs
+
+movie-scale-requires : tie.Need-movie-scale-requires
+movie-scale-requires c κs = search needs
+
 track-asked-requires : tie.Need-track-asked-requires
 track-asked-requires c κs = search needs
 
 feature-of-requires : tie.Need-feature-of-requires
-feature-of-requires c κs = let i = c .before in asked-computable _ _ _ _ _ (i .before .ask-refusal .ensures) (i .if1 .left) (c .track-asked .ensures)
+feature-of-requires c κs =
+    let m = c .before in
+    let i = m .before .before in (
+      asked-computable _ _ _ _ _ (i .before .ask-refusal .ensures) (i .if1 .left) (c .track-asked .ensures),
+      asked-averaged _ _ _ _ _ (i .before .ask-refusal .ensures) (i .if1 .left) (c .track-asked .ensures) _ _ (m .before .moov-body .ensures) (m .movie-scale .ensures),
+    )
 
 to-value-requires : tie.Need-to-value-requires
 to-value-requires c κs = search needs
 
 returns-2 : tie.Need-returns-2
-returns-2 c = let k = c .before .before in computed _ _ _ _ _ _ _ _ (k .before .before .ask-refusal .ensures) (k .before .if1 .left) (k .track-asked .ensures) (c .before .feature-of .ensures) (c .to-value .ensures)
+returns-2 c =
+    let k = c .before .before in
+    let m = k .before in
+    let i = m .before .before in
+    computed _ _ _ _ _ _ _ _ _ _ (i .before .ask-refusal .ensures) (i .if1 .left) (m .before .moov-body .ensures) (m .movie-scale .ensures) (k .track-asked .ensures) (c .before .feature-of .ensures)
+    (c .to-value .ensures)
 
 pub feature-by-code-spec : {M : Type 1} → statement M
 feature-by-code-spec =
@@ -30,6 +46,8 @@ feature-by-code-spec =
     (tie.spec
     ask-refusal-requires
     returns
+    moov-body-requires
+    movie-scale-requires
     track-asked-requires
     feature-of-requires
     to-value-requires

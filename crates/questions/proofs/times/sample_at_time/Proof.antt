@@ -20,26 +20,26 @@ track-asked-requires c κs = search needs
 table-requires : tie.Need-table-requires
 table-requires c κs = search needs
 
-sample-at-requires : tie.Need-sample-at-requires
-sample-at-requires c κs =
+look-up-requires : tie.Need-look-up-requires
+look-up-requires c κs =
     let k = c .before in
     table-fits _ _ _ (c .table .ensures) (asked-short _ _ _ _ _ (k .before .before .ask-refusal .ensures) (k .before .if1 .left) (k .track-asked .ensures))
 
-enum-known-index : tie.Need-enum-known-index
-enum-known-index c = search needs
+enum-known-hit : tie.Need-enum-known-hit
+enum-known-hit c = search needs
 
 add-t13 : tie.Need-add-t13
 add-t13 c =
-    let f = c .before .before .before in
+    let f = c .before .before .before .before in
     let k = f .before .before in
-    let h = few-at _ _ _ _ _ _ _ (k .before .before .ask-refusal .ensures) (k .before .if1 .left) (k .track-asked .ensures) (f .before .table .ensures) _ (f .sample-at .ensures) _ (c .before .index .given .1) in
+    let h = few-at _ _ _ _ _ _ _ (k .before .before .ask-refusal .ensures) (k .before .if1 .left) (k .track-asked .ensures) (f .before .table .ensures) _ (f .look-up .ensures) _ (c .before .before .hit .given .1) in
     record { fits = omega arith }
 
 cast-t14 : tie.Need-cast-t14
 cast-t14 c =
-    let f = c .before .before .before in
+    let f = c .before .before .before .before in
     let k = f .before .before in
-    let h = few-at _ _ _ _ _ _ _ (k .before .before .ask-refusal .ensures) (k .before .if1 .left) (k .track-asked .ensures) (f .before .table .ensures) _ (f .sample-at .ensures) _ (c .before .index .given .1) in
+    let h = few-at _ _ _ _ _ _ _ (k .before .before .ask-refusal .ensures) (k .before .if1 .left) (k .track-asked .ensures) (f .before .table .ensures) _ (f .look-up .ensures) _ (c .before .before .hit .given .1) in
     omega arith
 
 enum-told : tie.Need-enum-told
@@ -47,15 +47,15 @@ enum-told c = search needs
 
 returns-2 : tie.Need-returns-2
 returns-2 c =
-    let f = c .before .before .before in
+    let f = c .before .before .before .before in
     let k = f .before .before in
-    found-at _ _ _ _ _ _ _ (k .before .before .ask-refusal .ensures) (k .before .if1 .left) (k .track-asked .ensures) (f .before .table .ensures) _ (f .sample-at .ensures) _ (c .before .index .given .1) _ refl
+    found-at _ _ _ _ _ _ _ (k .before .before .ask-refusal .ensures) (k .before .if1 .left) (k .track-asked .ensures) (f .before .table .ensures) _ (f .look-up .ensures) _ (c .before .before .hit .given .1) _ refl
 
 returns-3 : tie.Need-returns-3
 returns-3 c =
     let f = c .before .before in
     let k = f .before .before in
-    outside-at _ _ _ _ _ _ _ (k .before .before .ask-refusal .ensures) (k .before .if1 .left) (k .track-asked .ensures) (f .before .table .ensures) _ (f .sample-at .ensures) (c .enum-told .given .1)
+    outside-at _ _ _ _ _ _ _ (k .before .before .ask-refusal .ensures) (k .before .if1 .left) (k .track-asked .ensures) (f .before .table .ensures) _ (f .look-up .ensures) (c .enum-told .given .1)
 
 pub sample-at-time-spec : {M : Type 1} → statement M
 sample-at-time-spec =
@@ -65,8 +65,8 @@ sample-at-time-spec =
     returns
     track-asked-requires
     table-requires
-    sample-at-requires
-    enum-known-index
+    look-up-requires
+    enum-known-hit
     add-t13
     cast-t14
     enum-told

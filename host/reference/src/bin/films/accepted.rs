@@ -85,7 +85,7 @@ fn others(films: &mut Films) {
     films.small(0, "rmra-beside-mvhd", |film| film.push("moov", atom("rmra", &NONSENSE)));
     films.small(0, "co64-beside-stco", |film| film.push(STBL, atom("co64", &NONSENSE)));
     films.small(0, "cslg-in-stbl", |film| film.push(STBL, atom("cslg", &NONSENSE)));
-    films.small(0, "dinf-in-minf", |film| film.push("moov trak mdia minf", atom("dinf", &NONSENSE)));
+    films.small(0, "dref-in-minf", |film| film.push("moov trak mdia minf", atom("dref", &NONSENSE)));
     films.small(0, "moof-after-moov", |film| film.push("", atom("moof", &NONSENSE)));
     films.node(0, "no-trak", tiny());
     films.node(0, "two-traks", movie(&[full_track(), sound_track()]));
@@ -94,13 +94,14 @@ fn others(films: &mut Films) {
 /// A container's type in each place that is not its own, and the read leaves likewise.
 fn misplaced(films: &mut Films) {
     let places = [
-        ("file", "", vec!["trak", "edts", "mdia", "minf", "stbl"]),
-        ("moov", "moov", vec!["moov", "edts", "mdia", "minf", "stbl"]),
-        ("trak", "moov trak", vec!["moov", "trak", "minf", "stbl"]),
-        ("edts", "moov trak edts", vec!["moov", "trak", "edts", "mdia", "minf", "stbl"]),
-        ("mdia", "moov trak mdia", vec!["moov", "trak", "edts", "mdia", "stbl"]),
+        ("file", "", vec!["trak", "edts", "mdia", "minf", "dinf", "stbl"]),
+        ("moov", "moov", vec!["moov", "edts", "mdia", "minf", "dinf", "stbl"]),
+        ("trak", "moov trak", vec!["moov", "trak", "minf", "dinf", "stbl"]),
+        ("edts", "moov trak edts", vec!["moov", "trak", "edts", "mdia", "minf", "dinf", "stbl"]),
+        ("mdia", "moov trak mdia", vec!["moov", "trak", "edts", "mdia", "dinf", "stbl"]),
         ("minf", "moov trak mdia minf", vec!["moov", "trak", "edts", "mdia", "minf"]),
-        ("stbl", STBL, vec!["moov", "trak", "edts", "mdia", "minf", "stbl"]),
+        ("dinf", "moov trak mdia minf dinf", vec!["moov", "trak", "edts", "mdia", "minf", "dinf", "stbl"]),
+        ("stbl", STBL, vec!["moov", "trak", "edts", "mdia", "minf", "dinf", "stbl"]),
     ];
     for (parent, path, kinds) in &places {
         films.full(0, &format!("misplaced-containers-in-{parent}"), |film| {

@@ -5,22 +5,24 @@ pub use reference::made::empty_track;
 pub const STBL: &str = "moov trak mdia minf stbl";
 
 /// Every container of `full`.
-pub const CONTAINERS: [(&str, &str); 6] = [
+pub const CONTAINERS: [(&str, &str); 7] = [
     ("moov", "moov"),
     ("trak", "moov trak"),
     ("edts", "moov trak edts"),
     ("mdia", "moov trak mdia"),
     ("minf", "moov trak mdia minf"),
+    ("dinf", "moov trak mdia minf dinf"),
     ("stbl", "moov trak mdia minf stbl"),
 ];
 
 /// Every read leaf of `full`.
-pub const LEAVES: [(&str, &str); 12] = [
+pub const LEAVES: [(&str, &str); 13] = [
     ("mvhd", "moov mvhd"),
     ("tkhd", "moov trak tkhd"),
     ("elst", "moov trak edts elst"),
     ("mdhd", "moov trak mdia mdhd"),
     ("hdlr", "moov trak mdia hdlr"),
+    ("dref", "moov trak mdia minf dinf dref"),
     ("stsd", "moov trak mdia minf stbl stsd"),
     ("stts", "moov trak mdia minf stbl stts"),
     ("ctts", "moov trak mdia minf stbl ctts"),

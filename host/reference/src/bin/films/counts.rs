@@ -66,6 +66,8 @@ fn elsewhere(films: &mut Films) {
         ("mdhd-in-trak-alone", path("mdhd"), "moov trak"),
         ("stco-in-minf-alone", path("stco"), "moov trak mdia minf"),
         ("stbl-in-mdia-alone", STBL, "moov trak mdia"),
+        ("dinf-in-mdia-alone", "moov trak mdia minf dinf", "moov trak mdia"),
+        ("dref-in-minf-alone", path("dref"), "moov trak mdia minf"),
         ("mdia-in-moov-alone", "moov trak mdia", "moov"),
         ("trak-mdia-minf-in-trak", "moov trak mdia minf", "moov trak"),
     ] {

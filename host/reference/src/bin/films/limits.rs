@@ -1,5 +1,5 @@
 //! Refused 6: "over 16 tracks, or in one track over 1,048,576 samples or chunks, 256 edits or 64 descriptions; in one profile over 64 records";
-//! and films with as many as are allowed. Chunks are left out, since 1,048,577 of them need 4 MB.
+//! document 02: "6 over 64 references"; and films with as many as are allowed. Chunks are left out, since 1,048,577 of them need 4 MB.
 use super::base::*;
 use reference::film::*;
 
@@ -44,6 +44,10 @@ pub fn films(films: &mut Films) {
     films.track(6, "65-descriptions-in-vide", described(*b"vide", 36, 65));
     films.track(0, "64-descriptions-in-soun", described(*b"soun", 16, 64));
     films.track(6, "65-descriptions-in-soun", described(*b"soun", 16, 65));
+    let referring = |n| Track { references: vec![this_file(); n], ..small_track() };
+    films.track(0, "64-references", referring(64));
+    films.track(6, "65-references", referring(65));
+    films.node(6, "65-references-in-last-of-two-traks", movie(&[small_track(), Track { id: 2, ..referring(65) }]));
     let records = |n: usize| vec![[0, 1, 2, 3]; n];
     for (number, n) in [(0, 64), (6, 65)] {
         let profile = Some(records(n));

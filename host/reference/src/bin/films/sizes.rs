@@ -158,6 +158,37 @@ fn descriptions(films: &mut Films) {
     films.node(0, "description-of-35-in-soun-after-a-video-track", movie(&two));
 }
 
+/// A data reference of so many bytes that says a size.
+fn saying(size: u32, length: usize) -> Vec<u8> {
+    let mut bytes = this_file();
+    bytes.resize(length, 9);
+    bytes[..4].copy_from_slice(&size.to_be_bytes());
+    bytes
+}
+
+fn references(films: &mut Films) {
+    let of = |references: Vec<Vec<u8>>| Track { references, ..small_track() };
+    for (number, size) in [(5, 8), (5, 11), (0, 12), (0, 13), (0, 100)] {
+        let entry = saying(size, usize::try_from(size).unwrap());
+        films.track(number, &format!("reference-of-{size}"), of(vec![entry.clone()]));
+        films.track(number, &format!("second-reference-of-{size}"), of(vec![this_file(), entry]));
+    }
+    for size in [0, 11, 13, u32::MAX - 11, u32::MAX] {
+        films.track(5, &format!("reference-of-12-says-{size}"), of(vec![saying(size, 12)]));
+    }
+    films.track(5, "first-reference-takes-both", of(vec![saying(24, 12), this_file()]));
+    for (number, count, entries) in [(5, 0, 1), (5, 1, 0), (5, 3, 2), (5, 1, 2), (5, u32::MAX, 2), (0, 2, 2)] {
+        let mut film = movie(&[of(vec![this_file(); entries])]);
+        film.set(path("dref"), 12, count);
+        films.node(number, &format!("dref-count-{count}-of-{entries}"), film);
+    }
+    for over in [1, 11] {
+        films.small(5, &format!("dref-of-a-reference-and-{}", bytes(over)), |film| {
+            film.at(path("dref")).body.extend(vec![0; over]);
+        });
+    }
+}
+
 fn profiles(films: &mut Films) {
     let first = |name: &str, body: &[u8]| {
         let mut film = if name == "moov" { tiny() } else { small() };
@@ -227,5 +258,6 @@ pub fn films(films: &mut Films) {
     counts(films);
     stsz_forms(films);
     descriptions(films);
+    references(films);
     profiles(films);
 }

@@ -51,6 +51,7 @@ fn passing(films: &mut Films) {
         ("edts", "moov trak edts elst"),
         ("mdia", "moov trak mdia minf"),
         ("minf", "moov trak mdia minf stbl"),
+        ("dinf", "moov trak mdia minf dinf dref"),
         ("stbl", "moov trak mdia minf stbl stco"),
     ] {
         let name = child.rsplit(' ').next().unwrap();

@@ -1,8 +1,12 @@
 //! Films with several faults: "The answer is the lowest number that applies; each condition is judged on files that pass all lower ones."
+//! Document 02: "19, data elsewhere or no such entry, judged after 11 and before 12".
 use super::base::*;
 use reference::film::*;
 
-/// Gives a track the fault of a number from 7 to 13. Each changes another field, so that a track can have them all.
+/// The numbers of the tables in the order in which they are judged.
+const JUDGED: [u32; 8] = [7, 8, 9, 10, 11, 19, 12, 13];
+
+/// Gives a track the fault of one of these. Each changes another field, so that a track can have them all.
 fn spoil(track: &mut Track, number: u32) {
     match number {
         7 => track.id = 0,
@@ -10,6 +14,7 @@ fn spoil(track: &mut Track, number: u32) {
         9 => track.stsc = vec![],
         10 => track.stts = vec![(4, 1 << 30)],
         11 => track.duration = 7,
+        19 => track.references = vec![],
         12 => track.stco[1] = 99_999,
         13 => track.edits = edits(&[]),
         _ => panic!("{number}"),
@@ -24,7 +29,7 @@ fn spoiled(id: u32, numbers: &[u32]) -> Track {
     track
 }
 
-/// A film whose lowest fault has that number, and the next that one: of 11, which is not the default, the next is.
+/// A film whose first fault has that number, and the next that one: of 11, which is not the default, the next is.
 fn tracks_of(films: &mut Films, low: u32, next: u32, name: &str, tracks: &[Track]) {
     if low == 11 {
         films.tracks(next, &format!("11-{name}"), tracks).strictly_11();
@@ -33,23 +38,23 @@ fn tracks_of(films: &mut Films, low: u32, next: u32, name: &str, tracks: &[Track
     }
 }
 
-/// The higher number in the first track and in the last, the lower between: neither the first nor the last fault that is met is the answer.
+/// The later number in the first track and in the last, the earlier between: neither the first nor the last fault that is met is the answer.
 fn between(films: &mut Films) {
-    for low in 7..13 {
-        for high in low + 1..14 {
+    for (place, low) in JUDGED.into_iter().enumerate() {
+        for high in JUDGED.into_iter().skip(place + 1) {
             let all = [spoiled(1, &[high]), spoiled(2, &[low]), spoiled(3, &[high])];
             tracks_of(films, low, high, &format!("between-{high}-and-{high}"), &all);
         }
     }
 }
 
-/// Different rules broken in different tracks, the lowest in the last or in the first.
+/// Different rules broken in different tracks, the first in the last or in the first.
 fn ends(films: &mut Films) {
-    for (low, high) in [(7, 9), (10, 13), (11, 13), (12, 13)] {
+    for (low, high) in [(7, 9), (10, 13), (11, 13), (11, 19), (19, 12), (19, 13), (12, 13)] {
         let all = [spoiled(1, &[high]), spoiled(2, &[low])];
         tracks_of(films, low, high, &format!("in-the-last-and-{high}-in-the-first"), &all);
     }
-    let rising: Vec<Track> = (7..14).map(|number| spoiled(number, &[number])).collect();
+    let rising: Vec<Track> = JUDGED.map(|number| spoiled(number, &[number])).to_vec();
     films.tracks(7, "to-13-from-the-first-track-to-the-last", &rising);
     films.tracks(8, "to-13-from-the-first-track-to-the-last", &rising[1..]);
     let falling: Vec<Track> = rising.iter().rev().cloned().collect();
@@ -57,9 +62,8 @@ fn ends(films: &mut Films) {
 }
 
 fn in_one_track(films: &mut Films) {
-    for low in 7..13 {
-        let all: Vec<u32> = (low..14).collect();
-        tracks_of(films, low, low + 1, "to-13-in-one-track", &[spoiled(1, &all)]);
+    for (place, two) in JUDGED.windows(2).enumerate() {
+        tracks_of(films, two[0], two[1], "to-13-in-one-track", &[spoiled(1, &JUDGED[place..])]);
     }
 }
 
@@ -77,7 +81,7 @@ fn of_the_movie(films: &mut Films) {
 
 /// What the tree and the leaves are refused for comes before all that the tables are.
 fn below(films: &mut Films) {
-    let all = [spoiled(1, &[8, 9, 10, 11, 12, 13]), track(2), track(2)];
+    let all = [spoiled(1, &JUDGED[1..]), track(2), track(2)];
     let with = |change: fn(&mut Node)| {
         let mut film = movie(&all);
         change(&mut film);

@@ -1,4 +1,4 @@
-//! Refused 7 to 13, each for one fault alone; 11 only where strict reading is asked for.
+//! Refused 7 to 13 and 19, each for one fault alone; 11 only where strict reading is asked for.
 use super::base::*;
 use reference::film::*;
 
@@ -78,6 +78,36 @@ fn durations(films: &mut Films) {
     films.one(0, "mdhd-2-32-less-one", |track| track.duration = u32::MAX).strictly_11();
 }
 
+/// "data elsewhere or no such entry"
+fn references(films: &mut Films) {
+    let names = |index: u16, flags: &[u32]| {
+        let references = flags.iter().map(|flags| reference(b"alis", *flags, &[])).collect();
+        Track { descriptions: vec![referring(picture(1, 1), index)], references, ..track(1) }
+    };
+    for (number, name, index, flags) in [
+        (19, "index-0", 0, &[1][..]),
+        (19, "index-2-of-1", 2, &[1]),
+        (19, "index-65535-of-1", 65_535, &[1]),
+        (19, "index-256-of-1", 256, &[1]),
+        (19, "index-1-of-none", 1, &[]),
+        (19, "no-flags", 1, &[0]),
+        (19, "all-flags-but-the-lowest", 1, &[0x00ff_fffe]),
+        (19, "the-lowest-bits-of-the-other-flag-bytes", 1, &[0x0101_0100]),
+        (19, "the-second-of-two", 2, &[1, 0]),
+        (0, "reference-with-all-flags-of-version-255", 1, &[u32::MAX]),
+        (0, "second-reference-of-two-to-this-file", 2, &[0, 1]),
+        (0, "64-references-of-which-the-last-is-this-file", 64, &[[0; 63].as_slice(), &[1]].concat()),
+    ] {
+        films.tracks(number, name, &[names(index, flags)]);
+    }
+    // Every description is judged, used or not; of none nothing is asked.
+    films.one(19, "an-unused-description-elsewhere", |track| track.descriptions.push(referring(picture(1, 1), 2)));
+    films.one(19, "the-first-description-elsewhere", |track| track.descriptions.insert(0, referring(picture(1, 1), 0)));
+    films.tracks(0, "no-references-and-no-descriptions", &[Track { references: vec![], ..empty_track(1) }]);
+    films.tracks(19, "a-sound-track", &[track(1), Track { references: vec![], ..sound_track(2, [0, 12, 24]) }]);
+    films.of(19, "in-the-last-of-three", 3, 3, |track| track.references = vec![reference(b"url ", 0, b"file.mov\0")]);
+}
+
 /// "a chunk's offset plus the sizes of its samples passes the file's end"
 fn ends(films: &mut Films) {
     let end = u32::try_from(movie(&tracks(1)).bytes().len()).unwrap();
@@ -117,6 +147,7 @@ pub fn films(films: &mut Films) {
     tables(films);
     totals(films);
     durations(films);
+    references(films);
     ends(films);
     lists(films);
 }

@@ -110,6 +110,55 @@ fn averages(films: &mut Films) {
     film.says(&["feature 1 avvb: refused 18", "feature 1 vfps: 760743181 = 0x2d58050d", "feature 1 mvbr: refused 18"]);
 }
 
+/// Document 02: "Averages must respect edits."
+fn edited_averages(films: &mut Films) {
+    let list = |id, entries: &[(u32, i32)]| track(id, |track| track.edits = edits(entries));
+    let film = films.tracks(
+        "averages-with-edits",
+        &[
+            // Samples 1 and 2, and then 2 to 4.
+            list(1, &[(48, 0), (60, 24)]),
+            // A unit less, and one more, than reaches sample 2.
+            list(2, &[(24, 0)]),
+            list(3, &[(25, 0)]),
+            list(4, &[(5, -1), (7, -1)]),
+            // One place of sample 1, three times; the sample of no bytes; the last place of all.
+            list(5, &[(1, 23), (1, 0), (1, 11), (24, 48), (1, 119)]),
+            Track { edits: edits(&[(1, 8), (2, -1), (1, 0)]), ..sound(6) },
+            Track { edits: edits(&[(5, -1)]), ..empty_track(7) },
+        ],
+    );
+    for id in 1..=7 {
+        film.features(id, &CODES).peaks(id, &PEAKS);
+    }
+    film.says(&["feature 1 avvb: 9000 = 0x00002328", "feature 2 avvb: 20000 = 0x00004e20"]);
+    film.says(&[
+        "feature 3 avvb: 15000 = 0x00003a98",
+        "feature 4 avvb: refused 18",
+        "feature 4 vfps: 1638400 = 0x00190000",
+    ]);
+    // 370 bytes over 144 units.
+    film.says(&["feature 5 avvb: 12334 = 0x0000302e", "feature 5 mvbr: 8800 = 0x00002260"]);
+    film.says(&["feature 6 avab: 1411200 = 0x00158880", "feature 7 avvb: refused 18"]);
+
+    // 1,024 samples of 2,049 bytes: shown 255 times the numerator is below 2^64, shown 256 times it is not, though the quotient is the same.
+    let often = |times: usize| {
+        let (count, duration) = (1024, u32::MAX / 1024);
+        let shown = w_with(|track| {
+            (track.scale, track.duration) = (u32::MAX, count * duration);
+            (track.stts, track.edits) = (vec![(count, duration)], edits(&vec![(6000, 0); times]));
+            (track.stsc, track.stsz) = (vec![(1, 1, 1)], Sizes::Common(2049, count));
+            track.stco = (0..count).collect();
+        });
+        Movie { scale: 6000, ..movie(&[shown]) }.file()
+    };
+    for times in [1, 255, 256] {
+        let film = films.node(0, &format!("all-shown-{times}-times"), often(times));
+        film.features(1, &[b"avvb"]);
+        film.says(&[if times < 256 { "feature 1 avvb: 16785412 = 0x01002004" } else { "feature 1 avvb: refused 18" }]);
+    }
+}
+
 /// "65536 × scale / least non-zero duration"
 fn frame_rates(films: &mut Films) {
     let of = |id, scale, stts: &[(u32, u32)]| {
@@ -138,5 +187,6 @@ pub fn films(films: &mut Films) {
     nothing(films);
     pictures(films);
     averages(films);
+    edited_averages(films);
     frame_rates(films);
 }

@@ -28,7 +28,7 @@ fn sample_line(film: &[u8], id: u32, n: u32) -> String {
 
 fn at_line(film: &[u8], id: u32, t: u32) -> String {
     match sample_at(film, id, t) {
-        (0, n) => n.to_string(),
+        (0, (n, entry)) => format!("{n} entry {entry}"),
         (number, _) => format!("refused {number}"),
     }
 }

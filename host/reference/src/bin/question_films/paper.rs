@@ -24,7 +24,8 @@ fn w_itself(films: &mut Films) {
         .profile(1, &[0, 1, 64])
         .ends()
         .strangers()
-        .says(&["at 1 0: 1", "at 1 23: 1", "at 1 24: 2", "at 1 72: 4", "at 1 119: 4", "at 1 120: refused 15"])
+        .says(&["at 1 0: 1 entry 1", "at 1 23: 1 entry 1", "at 1 24: 2 entry 1", "at 1 71: 3 entry 1"])
+        .says(&["at 1 72: 4 entry 2", "at 1 119: 4 entry 2", "at 1 120: refused 15"])
         .says(&[
             "sample 1 0: refused 15, bytes 0 sum 0",
             "sample 1 1: 0 24 0 sync 1 chunk 1 1000 100, bytes 100 sum 5554",
@@ -49,7 +50,7 @@ pub fn films(films: &mut Films) {
     // "the W case with 121 .. is accepted elsewhere": the media ends where the samples do.
     films.node(0, "w-mdhd-121", w_film(|track| track.duration = 121)).each(1).ends().strangers().says(&[
         "sample 1 4: 72 48 72 sync 1 chunk 2 900 70, bytes 70 sum 12705",
-        "at 1 119: 4",
+        "at 1 119: 4 entry 2",
         "at 1 120: refused 15",
         "map 1 119: 119",
         "map 1 120: refused 15",
@@ -60,8 +61,16 @@ pub fn films(films: &mut Films) {
         let film = w_film(|track| track.edits = edits(&[(60, -1), (60, media)]));
         let film = films.node(0, &format!("w-edits-60-empty-and-60-from-{media}"), film);
         film.map(1, &[0, 59, 60, 61, 119, 120, u32::MAX]).at(1, &[0, 59, 60, 119, 120]);
-        film.says(&["map 1 59: nothing", "map 1 120: refused 15", "at 1 119: 4"]);
+        film.says(&["map 1 59: nothing", "map 1 120: refused 15", "at 1 119: 4 entry 2"]);
+        film.features(1, &[b"avvb", b"avab", b"vfps", b"mvbr"]);
         film.says(if media == 24 { &["map 1 60: 24", "map 1 119: 83"] } else { &["map 1 60: 60", "map 1 119: 119"] });
+        // Samples 2 to 4, "120 bytes over 96 units", and samples 3 and 4, 70 bytes over 72. Peaks are taken over the whole media.
+        film.says(&[if media == 24 {
+            "feature 1 avvb: 6000 = 0x00001770"
+        } else {
+            "feature 1 avvb: 4667 = 0x0000123b"
+        }]);
+        film.says(&["feature 1 mvbr: 8800 = 0x00002260", "feature 1 avab: refused 18"]);
     }
     films.node(0, "w-second-chunk-at-4026", w_film(|track| track.stco[1] = 4026)).sample(1, &[3, 4, 5]).says(&[
         // 4026 is 10 above 16 times 251.

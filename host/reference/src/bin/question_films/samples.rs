@@ -25,8 +25,8 @@ fn compositions(films: &mut Films) {
         "sample 2 4: 72 48 0 sync 1 chunk 2 2600 70, bytes 70 sum 8715",
         "sample 3 3: 2147483648 2147483647 0 sync 1 chunk 1 2850 0, bytes 0 sum 0",
         "sample 3 4: 4294967295 0 6442450942 sync 1 chunk 2 2600 70, bytes 70 sum 8715",
-        "at 3 2147483648: 3",
-        "at 3 4294967294: 3",
+        "at 3 2147483648: 3 entry 3",
+        "at 3 4294967294: 3 entry 3",
         "at 3 4294967295: refused 15",
     ]);
 }
@@ -61,9 +61,9 @@ fn chunks(films: &mut Films) {
         "sample 1 5: 40 10 40 sync 3 chunk 3 1200 5, bytes 5 sum 990",
         "sample 1 6: 50 5 50 sync 2 chunk 4 1100 6, bytes 6 sum 591",
         "sample 1 17: 105 5 105 sync 2 chunk 7 1261 17, bytes 17 sum 238",
-        "at 1 49: 5",
-        "at 1 50: 6",
-        "at 1 109: 17",
+        "at 1 49: 5 entry 1",
+        "at 1 50: 6 entry 2",
+        "at 1 109: 17 entry 2",
     ]);
 
     let film = films.one("one-stsc-entry-for-five-chunks", |track| {
@@ -72,7 +72,7 @@ fn chunks(films: &mut Films) {
     });
     film.sample(1, &[1, 2, 3, 4, 5, 6]).ends();
     // 800 is 47 above three times 251.
-    film.says(&["sample 1 5: 96 24 96 sync 1 chunk 5 800 5, bytes 5 sum 245", "at 1 119: 5"]);
+    film.says(&["sample 1 5: 96 24 96 sync 1 chunk 5 800 5, bytes 5 sum 245", "at 1 119: 5 entry 1"]);
 
     // Two chunks with a byte in common, one that a third repeats, and one that begins with the file: "offset (chunk offset plus sizes before it
     // in the chunk)".
@@ -114,7 +114,13 @@ fn durations(films: &mut Films) {
         track.stsz = Sizes::Each(vec![1, 2, 4, 8, 16, 32]);
     });
     film.sample(1, &[1, 2, 3, 4, 5, 6, 7]).at(1, &[0, 1, 59, 60, 61, 119, 120]).ends();
-    film.says(&["at 1 0: 2", "at 1 59: 2", "at 1 60: 5", "at 1 119: 5", "at 1 120: refused 15"]);
+    film.says(&[
+        "at 1 0: 2 entry 2",
+        "at 1 59: 2 entry 2",
+        "at 1 60: 5 entry 4",
+        "at 1 119: 5 entry 4",
+        "at 1 120: refused 15",
+    ]);
     film.says(&[
         "sample 1 6: 120 0 120 sync 1 chunk 1 1031 32, bytes 32 sum 1360",
         "feature 1 vfps: 655360 = 0x000a0000",
@@ -150,7 +156,7 @@ fn many(films: &mut Films) {
     // 511 + 2047 is 48 above ten times 251.
     film.says(&[
         "sample 1 1048576: 1048575 1 1048575 sync 1 chunk 512 2558 1, bytes 1 sum 48",
-        "at 1 1048575: 1048576",
+        "at 1 1048575: 1048576 entry 1",
     ]);
 }
 

@@ -20,8 +20,8 @@ fn scales(films: &mut Films) {
     film.says(&["map 2 1: 11", "map 2 2: 13", "map 2 3: nothing", "map 2 4: 0", "map 2 5: 1", "map 2 6: refused 15"]);
     film.says(&["map 3 85: 0", "map 3 86: 1", "map 3 10285: 119", "map 3 10286: refused 15"]);
     film.says(&["map 4 85: 119", "map 4 86: 60", "map 4 171: 60", "map 4 172: 61", "map 4 173: refused 15"]);
-    // The features go by the media's scale, and by the whole media whatever its edits show.
-    film.says(&["feature 1 avvb: 13200 = 0x00003390", "feature 2 avvb: 13200 = 0x00003390"]);
+    // The features go by the media's scale. Both entries of track 2 that show media cover sample 1 alone.
+    film.says(&["feature 1 avvb: 13200 = 0x00003390", "feature 2 avvb: 30000 = 0x00007530"]);
 
     let whole =
         |id| track(id, |track| (track.duration, track.stts) = (u32::MAX, vec![(3, 1 << 30), (1, (1 << 30) - 1)]));

@@ -13,12 +13,13 @@ fn number_at(node: &Node, offset: usize) -> u32 {
     u32::from_be_bytes(node.body[offset - 8..offset - 4].try_into().unwrap())
 }
 
-/// The size of a description in an stsd, and sometimes so many bytes of it.
-fn spoil_description(random: &mut Random, node: &mut Node) {
+/// The size of the first entry in an stsd or dref, and sometimes so many bytes of it.
+fn spoil_entry(random: &mut Random, node: &mut Node) {
     if node.body.len() < 24 {
         return;
     }
-    let size = random.one(&[0, 8, 15, 16, 17, 35, 36, 37, number_at(node, 16).wrapping_add(1), 1 << 31, u32::MAX]);
+    let size =
+        random.one(&[0, 8, 11, 12, 13, 15, 16, 17, 35, 36, 37, number_at(node, 16).wrapping_add(1), 1 << 31, u32::MAX]);
     node.set("", 16, size);
     if size < 100 && number_at(node, 12) == 1 {
         node.body.resize(8 + usize::try_from(size).unwrap(), 0);
@@ -60,7 +61,7 @@ pub fn spoil(random: &mut Random, film: &mut Node) {
         0 if !node.body.is_empty() => node.body[0] = random.one(&[1, 2, 128, 255]),
         1 => spoil_length(random, node),
         _ => match &node.kind {
-            b"stsd" if random.once_in(2) => spoil_description(random, node),
+            b"stsd" | b"dref" if random.once_in(2) => spoil_entry(random, node),
             b"stsz" => spoil_sizes(random, node),
             b"tkhd" | b"mdhd" | b"mvhd" | b"hdlr" => spoil_length(random, node),
             _ if node.body.len() >= 8 => {

@@ -1,4 +1,4 @@
-//! Tables just across the rules of refusals 5 to 11 and 13, or just not: each function takes both sides, and the reference says which it was.
+//! Tables just across the rules of refusals 5 to 11, 13 and 19, or just not: each function takes both sides, and the reference says which it was.
 use crate::film::*;
 use crate::made::empty_track;
 use crate::maker::edits::{longest, RATE};
@@ -7,12 +7,15 @@ use crate::maker::tables::{count, described, each_size};
 
 type Fault = fn(&mut Random, &mut Movie);
 
-const FAULTS: [Fault; 19] = [
+const FAULTS: [Fault; 22] = [
     tracks,
     samples,
     edit_count,
     descriptions,
     description_sizes,
+    reference_count,
+    reference_sizes,
+    reference_indices,
     record_count,
     ids,
     scales,
@@ -77,6 +80,40 @@ fn description_sizes(random: &mut Random, movie: &mut Movie) {
     let track = any_track(random, movie);
     let place = random.below(track.descriptions.len() + 1);
     track.descriptions.insert(place, description(b"jpeg", random.one(&[8, 15, 15, 16, 35, 35, 36])));
+}
+
+/// "6 over 64 references"
+fn reference_count(random: &mut Random, movie: &mut Movie) {
+    let number = random.one(&[64, 65]);
+    any_track(random, movie).references.resize(number, this_file());
+}
+
+/// "entries of size at least 12": one more, of a size just too small or just enough
+fn reference_sizes(random: &mut Random, movie: &mut Movie) {
+    let size = random.one(&[8, 11, 11, 12, 13]);
+    let mut bytes = this_file();
+    bytes.resize(size, 0);
+    bytes[..4].copy_from_slice(&count(size).to_be_bytes());
+    any_track(random, movie).references.push(bytes);
+}
+
+/// "data elsewhere or no such entry": an index just past the last or 0, a reference without the lowest flag bit, or none at all
+fn reference_indices(random: &mut Random, movie: &mut Movie) {
+    let track = any_track(random, movie);
+    let number = track.references.len();
+    match random.below(4) {
+        0 => track.references.clear(),
+        1 => {
+            let place = random.below(number);
+            track.references[place][11] = random.one(&[0, 1, 2, 254, 255]);
+        }
+        _ => {
+            let index = u16::try_from(random.one(&[0, number, number + 1, 256, 65_535])).unwrap();
+            if let Some(last) = track.descriptions.last_mut() {
+                last[14..16].copy_from_slice(&index.to_be_bytes());
+            }
+        }
+    }
 }
 
 /// "in one profile over 64 records"

@@ -39,8 +39,10 @@ fn inside(parent: &Atom, kind: &[u8; 4], wrong: impl Fn(&Atom) -> Option<String>
 fn wrong_mdia(mdia: &Atom) -> Option<String> {
     // "mdhd, hdlr and minf in mdia"
     let wrong = wrong_in(mdia, &[b"mdhd", b"hdlr", b"minf"], &[]);
-    // "stbl in minf"
-    let wrong = wrong.or_else(|| inside(mdia, b"minf", |minf| wrong_in(minf, &[b"stbl"], &[])));
+    // "stbl in minf"; document 02: "one 'dinf' container in minf, one read leaf 'dref' in it"
+    let wrong = wrong.or_else(|| inside(mdia, b"minf", |minf| wrong_in(minf, &[b"stbl", b"dinf"], &[])));
+    let in_dinf = |dinf: &Atom| wrong_in(dinf, &[b"dref"], &[]);
+    let wrong = wrong.or_else(|| inside(mdia, b"minf", |minf| inside(minf, b"dinf", in_dinf)));
     // "stsd, stts, stsc, stsz and stco in stbl"; "ctts and stss in stbl"
     let tables: [&[u8; 4]; 5] = [b"stsd", b"stts", b"stsc", b"stsz", b"stco"];
     let in_stbl = |stbl: &Atom| wrong_in(stbl, &tables, &[b"ctts", b"stss"]);

@@ -1,7 +1,7 @@
 //! Refusal 5: the sizes of the leaves that are read.
 use crate::movie::atoms::{Leaf, MovieLeaves, TrackLeaves};
 use crate::movie::fault::{in_tracks, many, Fault};
-use crate::movie::tables::{code, descriptions};
+use crate::movie::tables::{code, descriptions, references};
 
 /// The leaf has another size; the words say which it must have.
 fn wrong(leaf: &Leaf, must_have: &str) -> Option<Fault> {
@@ -69,6 +69,11 @@ fn not_stsd_size(stsd: &Leaf, subtype: u64) -> Option<Fault> {
     fault(format!("description {} has {size} bytes, and must have at least 36 in a track of subtype vide", i + 1))
 }
 
+/// Document 02: "entries of size at least 12, type, version and flags, filling it exactly"
+fn not_dref_size(dref: &Leaf) -> Option<Fault> {
+    references(dref).err().map(|words| Fault::of(b"dref", words))
+}
+
 /// "Version not 0: there is none. Otherwise its size is 16+16n, n at 12"; "An empty body is refused 5."
 fn not_profile_size(prfl: &Leaf) -> Option<Fault> {
     match prfl.body.first() {
@@ -88,6 +93,7 @@ fn wrong_track_size(track: &TrackLeaves) -> Option<Fault> {
         .or_else(|| not_exactly(&track.mdhd, 32))
         .or_else(|| not_at_least(&track.hdlr, 32))
         .or_else(|| optional(&track.elst, 12))
+        .or_else(|| not_dref_size(&track.dref))
         .or_else(|| not_table_size(&track.stts, 8))
         .or_else(|| optional(&track.ctts, 8))
         .or_else(|| not_table_size(&track.stsc, 12))

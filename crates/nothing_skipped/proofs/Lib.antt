@@ -1,0 +1,4 @@
+pub mod Examples
+pub mod Rising
+pub mod Skipped
+pub mod Told

@@ -1,0 +1,3 @@
+pub mod Bests
+pub mod Sliding
+pub mod Rating
