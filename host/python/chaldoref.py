@@ -2,7 +2,7 @@
 
     >>> from chaldoref import Movie, read_slip
     >>> movie = Movie(open("films/two-hoses.mov", "rb").read())
-    >>> movie.sample_bytes(2, movie.sample_at(2, 24))
+    >>> movie.sample_bytes(2, movie.sample_at(2, 24).sample)
     b'hose 2 picture 2'
     >>> read_slip(movie.write_slip(2, 24, 96)).film_time
     72
@@ -24,8 +24,8 @@ from dataclasses import dataclass
 from typing import Any, Dict, Optional, Tuple, Union
 
 __all__ = [
-    "FEATURES", "ByteRange", "MalformedSlip", "Movie", "Peak", "ProfileRecord", "Refusal", "Refused", "Sample", "Slip",
-    "Stretch", "Track", "read_slip",
+    "FEATURES", "ByteRange", "MalformedSlip", "Movie", "Peak", "ProfileRecord", "Refusal", "Refused", "Sample",
+    "SampleAt", "Slip", "Stretch", "Track", "read_slip",
 ]
 
 #: What the library and this module take as bytes. All but bytes are copied, since nothing may write to them in a call.
@@ -182,6 +182,16 @@ class Sample:
 
 
 @dataclass(frozen=True)
+class SampleAt:
+    """The sample at a media time."""
+
+    #: Its number, from 1.
+    sample: int
+    #: How many entries of the track's stts were looked at: the position, from 1, of the entry that holds the sample.
+    entry: int
+
+
+@dataclass(frozen=True)
 class ByteRange:
     """Some bytes of a film: as many as length from offset on, counted from the file's first byte."""
 
@@ -282,10 +292,9 @@ class Movie:
         offset, length = self._ask("sample_bytes", 2, track, n)
         return self._file[offset:offset + length]
 
-    def sample_at(self, track: int, t: int) -> int:
-        """The number of the sample at media time t: decode time <= t < decode time + duration. Refusals 14, 15."""
-        n, = self._ask("sample_at", 1, track, t)
-        return n
+    def sample_at(self, track: int, t: int) -> SampleAt:
+        """The sample at media time t: decode time <= t < decode time + duration. Refusals 14, 15."""
+        return SampleAt(*self._ask("sample_at", 2, track, t))
 
     def media_time(self, track: int, t: int) -> Optional[int]:
         """The media time that a track shows at movie time t, in the movie's time scale; None where nothing is shown.

@@ -64,6 +64,24 @@ pub struct Sample {
     pub size: u32,
 }
 
+/// The sample at a media time.
+#[non_exhaustive]
+#[derive(Clone, Copy, Debug, Default, PartialEq, Eq, Hash)]
+pub struct SampleAt {
+    /// Its number, from 1.
+    pub sample: u32,
+    /// How many entries of the track's stts were looked at: the position, from 1, of the entry that holds the sample.
+    pub entry: u32,
+}
+
+impl SampleAt {
+    /// That sample, in that entry.
+    #[must_use]
+    pub fn new(sample: u32, entry: u32) -> SampleAt {
+        SampleAt { sample, entry }
+    }
+}
+
 /// What a track shows at a movie time. There is no third case.
 #[derive(Clone, Copy, Debug, PartialEq, Eq, Hash)]
 pub enum Shown {

@@ -1,7 +1,7 @@
 //! Every case of document 01, "Film W" and "Misreadings to shut out", that a caller can put.
 use chaldoref::{
-    strict_refusal, ByteRange, Feature, FourCC, MediaTime, Movie, MovieTime, Refusal, Sample, Shown, Slip, Stretch,
-    StretchSize, Track, TrackId,
+    strict_refusal, ByteRange, Feature, FourCC, MediaTime, Movie, MovieTime, Refusal, Sample, SampleAt, Shown, Slip,
+    Stretch, StretchSize, Track, TrackId,
 };
 use reference::film::{self, w, w_movie, w_track, Sizes};
 use std::ops::Range;
@@ -50,8 +50,8 @@ fn tracks() {
 fn times() {
     let file = w().bytes();
     let at = |t| opened(&file).sample_at(ONE, MediaTime(t));
-    for (t, n) in [(0, 1), (23, 1), (24, 2), (72, 4), (119, 4)] {
-        assert_eq!(at(t), Ok(n), "time {t}");
+    for (t, n, entry) in [(0, 1, 1), (23, 1, 1), (24, 2, 1), (71, 3, 1), (72, 4, 2), (119, 4, 2)] {
+        assert_eq!(at(t), Ok(SampleAt::new(n, entry)), "time {t}");
     }
     assert_eq!(at(120), Err(Refusal::Outside));
 }
@@ -231,7 +231,9 @@ fn misreadings() {
     assert_eq!((fifth.chunk, fifth.offset), (3, 2000));
     // "A zero-duration sample returned for the time at which it stands."
     let still = with_track(film::Track { stts: vec![(1, 0), (1, 60), (1, 0), (1, 60)], ..w_track() });
-    assert_eq!([0, 59, 60, 119].map(|t| opened(&still).sample_at(ONE, MediaTime(t))), [2, 2, 4, 4].map(Ok));
+    let found = [0, 59, 60, 119].map(|t| opened(&still).sample_at(ONE, MediaTime(t)));
+    // Each sample has an entry of its own.
+    assert_eq!(found, [2, 2, 4, 4].map(|n| Ok(SampleAt::new(n, n))));
     // "Media time -1 read as 4,294,967,295."
     let empty = with_track(film::Track { edits: Some(vec![(1, -1, 65536)]), ..w_track() });
     assert_eq!(opened(&empty).media_time(ONE, MovieTime(0)), Ok(Shown::Nothing));

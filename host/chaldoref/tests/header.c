@@ -66,6 +66,15 @@ static void print_media_time(const struct film *film, uint32_t t)
     printf("media time %d %" PRIu32 "\n", media.shown, media.time);
 }
 
+static void print_sample_at(const struct film *film, uint32_t t)
+{
+    uint64_t places[CHALDOREF_SAMPLE_AT_PLACES];
+    struct chaldoref_sample_at_info at;
+    chaldoref_sample_at(film->bytes, film->len, ONE, t, places, CHALDOREF_SAMPLE_AT_PLACES);
+    at = chaldoref_sample_at_of(places);
+    printf("sample at %" PRIu32 " %" PRIu32 "\n", at.sample, at.entry);
+}
+
 static void print_pairs(const uint32_t *room, size_t count)
 {
     size_t i;
@@ -163,6 +172,8 @@ static void print_all(struct film *film)
     print_sample(film, 5);
     print_media_time(film, 0);
     print_media_time(film, 60);
+    print_sample_at(film, 71);
+    print_sample_at(film, 72);
     print_stretch(film, 24, 73);
     print_records(film);
     print_peak(film);

@@ -16,8 +16,10 @@ fn same_output(line: &str, plain: &str) {
 
 #[test]
 fn the_sample_at_a_time() {
-    answers("at films/w.mov 1 0.04s", "media time  hh:mm:ss.mmm  sample\n        24  00:00:00.040       2\n");
-    answers("at films/w.mov 1 00:00:00.0399", "media time  hh:mm:ss.mmm  sample\n        23  00:00:00.038       1\n");
+    let heading = "media time  hh:mm:ss.mmm  sample  decode  duration  stts entry";
+    let at = |line, row| answers(line, &format!("{heading}\n{row}\n"));
+    at("at films/w.mov 1 0.04s", "        24  00:00:00.040       2      24        24           1");
+    at("at films/w.mov 1 00:00:00.0399", "        23  00:00:00.038       1       0        24           1");
     for (time, units) in [("0s", 0), ("0.12s", 72), ("0:0:0.199", 119), ("0.1999999999999999999999s", 119)] {
         same_output(&format!("at {W} 1 {time}"), &format!("at {W} 1 {units}"));
         same_output(&format!("at {W} 1 {time} --json"), &format!("at {W} 1 {units} --json"));

@@ -78,13 +78,21 @@ pub fn sample_bytes(movie: &Movie, track: TrackId, n: u32, to: Answer) -> Result
 }
 
 pub fn at(movie: &Movie, track: TrackId, time: &Time, to: Answer) -> Result<(), Failure> {
-    let (time, n) = time.ask(movie, track, |time| movie.sample_at(track, time))?;
+    let (time, at) = time.ask(movie, track, |time| movie.sample_at(track, time))?;
+    let sample = movie.sample(track, at.sample)?;
     let scale = scale(movie, track)?;
     if to.json {
-        return to.document(|o| o.put("track", track.0)?.time("media_time", time.0, scale)?.put("sample", n).map(drop));
+        return to.document(|o| {
+            o.put("track", track.0)?.time("media_time", time.0, scale)?.put("sample", at.sample)?;
+            o.time("decode", sample.decode.0, scale)?.time("duration", sample.duration, scale)?;
+            o.put("entry", at.entry).map(drop)
+        });
     }
-    let row = [time.to_string(), clock(time, scale), n.to_string()];
-    let columns = [number("media time"), CLOCK, number("sample")];
+    let numbers = [at.sample, sample.decode.0, sample.duration, at.entry].map(|n| n.to_string());
+    let [n, decode, duration, entry] = numbers;
+    let row = [time.to_string(), clock(time, scale), n, decode, duration, entry];
+    let columns =
+        [number("media time"), CLOCK, number("sample"), number("decode"), number("duration"), number("stts entry")];
     Ok(table::write(to.out, columns, &[row], |row| row.clone())?)
 }
 
