@@ -37,13 +37,16 @@ fn film_time_filed_in_two_slips_adds_up() {
 
 #[test]
 fn each_track_has_its_own_scale() {
-    let tracks = vec![w_track(), sound_track(7, [1500, 1600, 1700])];
+    let whole = film::Track { edits: None, ..sound_track(8, [1500, 1600, 1700]) };
+    let tracks = vec![w_track(), sound_track(7, [1500, 1600, 1700]), whole];
     let file = film::Movie { tracks, ..w_movie() }.file_of(4096).bytes();
     let movie = Movie::open(&file).unwrap();
     let sound = movie.track(TrackId(7)).unwrap();
     assert_eq!((sound.subtype.to_string().as_str(), sound.scale, sound.edits), ("soun", 44100, 1));
     assert_eq!(movie.media_time(TrackId(7), MovieTime(9)), Ok(Shown::Nothing));
-    assert_eq!(movie.feature(TrackId(7), Feature::AverageAudioBitRate), Ok(8 * 36 * 44100 / 9));
+    // An edit list that shows nothing leaves nothing to take an average of.
+    assert_eq!(movie.feature(TrackId(7), Feature::AverageAudioBitRate), Err(Refusal::NotComputed));
+    assert_eq!(movie.feature(TrackId(8), Feature::AverageAudioBitRate), Ok(8 * 36 * 44100 / 9));
     assert_eq!(MediaTime(22050).seconds(sound.scale), 0.5);
 }
 

@@ -3,14 +3,14 @@ use chaldoref::{Feature, FourCC, MediaTime, Movie, MovieTime, Refusal, Slip, Tra
 use reference::film::{self, w, w_movie, w_track};
 use reference::made::spoiled;
 
-/// The two tables of document 01.
-const PAPER: [&str; 18] = [
+/// The two tables of document 01, with document 02's additions to 6 and its 19.
+const PAPER: [&str; 19] = [
     "the file is longer than 2,147,483,647 bytes",
     "an atom's size is wrong, passes its parent's end, or 1 to 7 bytes (under 16 for a 64-bit size) remain",
     "an atom is absent or occurs too often",
     "a read leaf has a body whose first byte is not 0",
     "a read leaf or profile hasn't its size",
-    "over 16 tracks, or in one track over 1,048,576 samples or chunks, 256 edits or 64 descriptions; in one profile over 64 records",
+    "over 16 tracks, or in one track over 1,048,576 samples or chunks, 256 edits, 64 descriptions or 64 references; in one profile over 64 records",
     "a track ID is 0 or occurs twice",
     "a movie or media time scale is 0",
     "sample tables contradict each other",
@@ -23,6 +23,7 @@ const PAPER: [&str; 18] = [
     "the lent room is shorter than the answer",
     "a slip is malformed",
     "the feature cannot be computed",
+    "a description names data elsewhere, or no such data reference",
 ];
 
 #[test]
@@ -34,7 +35,7 @@ fn numbers_and_words() {
         assert_eq!((Refusal::try_from(number), u32::from(refusal)), (Ok(refusal), number));
     }
     assert_eq!(Refusal::ALL.len(), PAPER.len());
-    for number in [0, 19, u32::MAX] {
+    for number in [0, 20, u32::MAX] {
         assert_eq!(Refusal::from_number(number), None);
         let error = Refusal::try_from(number).unwrap_err();
         assert_eq!((error.number, error.to_string()), (number, format!("no refusal has the number {number}")));

@@ -307,7 +307,7 @@ fn unreadable_files() {
 fn a_film_that_is_refused() {
     let desk = Desk::of_tracks("refused", vec![w_with(|track| track.stts = vec![(5, 24)])]);
     let reason = "sample tables contradict each other";
-    let why = "track 1 (ID 1), stts at byte 356: counts 5 samples, stsz 4";
+    let why = "track 1 (ID 1), stts at byte 392: counts 5 samples, stsz 4";
     let err = format!("chaldoref: film.mov: refused 9: {reason}\nchaldoref: not proved: {why}\n");
     desk.typed("w", OF_W);
     assert_eq!(desk.check("w"), Ran { out: String::new(), err: err.clone(), status: 1 });

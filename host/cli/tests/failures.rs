@@ -30,7 +30,7 @@ fn questions_refused() {
     refuses(
         "read-slip films/w.mov",
         "chaldoref: films/w.mov: refused 17: a slip is malformed\n   \
-            0  00 00 01 E8 6D 6F 6F 76 00 00 00 6C 6D 76 68 64\n      \
+            0  00 00 02 0C 6D 6F 6F 76 00 00 00 6C 6D 76 68 64\n      \
                ^^\n  \
            16  00 00 00 00 00 00 00 00 00 00 00 00 00 00 02 58\n  \
            32  00 00 00 78 00 00 00 00 00 00 00 00 00 00 00 00\n\
