@@ -23,7 +23,7 @@ OneHolds f (r ∷ rs) n = ((f r ≡ true) × (r .number ≡ n)) ⊎ OneHolds f r
 abbrev pub rowsOfMovie : List ℕ → Source → List Row
 rowsOfMovie s w = moovRows w (movieScale (moovOf s)) (length s)
 
--- the number n applies to the film s: by a row that is judged on the file, or by one that is judged on its movie and each of its tracks
+-- the number n applies to the film s: by a row that is judged on the file, or by one that is judged on its movie or one of its tracks
 abbrev pub Applies : List ℕ → Source → ℕ → Type 0
 Applies s w n =
     OneHolds (λ r. r .whole s) fileRows n
