@@ -45,3 +45,7 @@ pub record StrictReading (s : List ℕ) (w : Source) : Type 0 where
   pub only : w .strict ≡ false → filmRefusal s w ≡ 11 → ⊥
   -- where strict reading gives another number, or none, the default gives the same
   pub others : (k : ℕ) → (k ≡ 11 → ⊥) → filmRefusal s (strictly w) ≡ k → filmRefusal s w ≡ k
+  -- what is judged before it is given by both
+  pub before : (k : ℕ) → 0 < k → k < 11 → filmRefusal s w ≡ k → filmRefusal s (strictly w) ≡ k
+  -- where it is given, the default gives none, or what is judged after it
+  pub after : w .strict ≡ false → filmRefusal s (strictly w) ≡ 11 → (filmRefusal s w ≡ 0) ⊎ (11 < filmRefusal s w)
