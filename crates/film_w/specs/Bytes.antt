@@ -1,5 +1,5 @@
--- Film W of document 01, with document 02's dinf, byte by byte: an atom a definition, each beginning with its size and the four characters of its type. The quotes are
--- the document's. These are the 4,096 bytes of films/w.mov (host/reference/tests/film_w_bytes.rs holds the two together).
+-- Film W of document 01, with document 02's dinf, byte by byte: an atom a definition, each beginning with its size and the four characters
+-- of its type. The quotes are document 01's where no other is named. These are the 4,096 bytes of films/w.mov (host/reference/tests/film_w_bytes.rs holds the two together).
 use Prim.Native.Nat.{ℕ, zero, suc, _%_}
 use mathlib.Core.List.{List, [], _∷_, _++_}
 use lib.ListN.{replicate}
@@ -20,7 +20,7 @@ mdhd = 0 ∷ 0 ∷ 0 ∷ 32 ∷ 109 ∷ 100 ∷ 104 ∷ 100 ∷ replicate 12 0 +
 abbrev pub hdlr : List ℕ
 hdlr = 0 ∷ 0 ∷ 0 ∷ 32 ∷ 104 ∷ 100 ∷ 108 ∷ 114 ∷ 0 ∷ 0 ∷ 0 ∷ 0 ∷ 109 ∷ 104 ∷ 108 ∷ 114 ∷ 118 ∷ 105 ∷ 100 ∷ 101 ∷ replicate 12 0
 
--- "W gains a dinf with one such entry": of 12 bytes, its type alis, its lowest flag bit set
+-- document 02: "W gains a dinf with one such entry": of 12 bytes, its type alis, its lowest flag bit set
 abbrev pub dref : List ℕ
 dref =
     0 ∷ 0 ∷ 0 ∷ 28 ∷ 100 ∷ 114 ∷ 101 ∷ 102 ∷ 0 ∷ 0 ∷ 0 ∷ 0 ∷ 0 ∷ 0 ∷ 0 ∷ 1

@@ -1,4 +1,4 @@
--- The one track of film W as plain lists, beside document 01's words.
+-- The one track of film W as plain lists, beside the papers' words.
 use mathlib.Core.Bool.{true}
 use mathlib.Core.List.{[], _∷_, _++_}
 use lib.ListN.{replicate}
@@ -28,7 +28,7 @@ plain =
       chunkOffsets = 1000 ∷ 900 ∷ [];
       -- "one description"
       descriptions = (0 ∷ 0 ∷ 0 ∷ 36 ∷ 106 ∷ 112 ∷ 101 ∷ 103 ∷ replicate 7 0 ++ 1 ∷ replicate 16 0 ++ 1 ∷ 64 ∷ 0 ∷ 240 ∷ []) ∷ [];
-      -- "W gains a dinf with one such entry"
+      -- document 02: "W gains a dinf with one such entry"
       references = (0 ∷ 0 ∷ 0 ∷ 12 ∷ 97 ∷ 108 ∷ 105 ∷ 115 ∷ 0 ∷ 0 ∷ 0 ∷ 1 ∷ []) ∷ [];
       -- "no edits"; "no .. profile"
       editTable = [];

@@ -1,5 +1,5 @@
--- The refusals of a file, 1 to 13 and 19: the paper's table, row after row, in the order of judging. Of all lists of rows this one, `moovRows` with `fileRows`, is to be
--- believed, and `fileRefusal`, which judges by it.
+-- The refusals of a film, 1 to 13 and 19: the papers' table, row after row, in the order of judging. Of all lists of rows this one,
+-- `moovRows` with `fileRows`, is to be believed, and `filmRefusal`, which judges by it.
 use Prim.Native.Nat.{ℕ}
 use mathlib.Core.List.{List, [], _∷_}
 use mathlib.Core.Bool.{Bool}
@@ -40,7 +40,7 @@ moovRows w scale len =
     ∷ row 9 never contradicts
     ∷ row 10 never totalTooLarge
     ∷ row 11 never (otherDuration w)
-    -- "19, data elsewhere or no such entry, judged after 11 and before 12"
+    -- document 02: "19, data elsewhere or no such entry, judged after 11 and before 12"
     ∷ row 19 never dataElsewhere
     ∷ row 12 never (chunkPastEnd len)
     ∷ row 13 never (wrongEdits scale)

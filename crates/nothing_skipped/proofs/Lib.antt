@@ -1,4 +1,3 @@
 pub mod Examples
 pub mod Rising
 pub mod Skipped
-pub mod Told

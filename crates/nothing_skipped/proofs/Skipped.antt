@@ -29,9 +29,9 @@ use Rattle.questions.specs.declared.samples.SampleAnswer.the-variants.{Found}
 use Rattle.questions.specs.declared.times.NumberAnswer.the-variants.{Number}
 use Rattle.questions.specs.declared.times.TimeAnswer.the-variants.{Shown}
 use Rattle.questions.proofs.Asking.{asked}
+use Rattle.theorems.proofs.Answers.{found-known, at-is, at-known}
 use Rattle.nothing_skipped.specs.Shown.{noEntry, entriesOf, entryAt, startAt, Inside, Met, MetBetween, OfTrack, NothingSkipped}
 use Rattle.nothing_skipped.proofs.Rising.{Hits, hits-widths}
-use Rattle.nothing_skipped.proofs.Told.{timesOf, found-known, at-is, at-known}
 
 module _ (s : List ℕ) (w : Source) (id : ℕ) (e : askRefusal s w id ≡ 0) where
   abbrev scale : ℕ
@@ -40,6 +40,11 @@ module _ (s : List ℕ) (w : Source) (id : ℕ) (e : askRefusal s w id ≡ 0) wh
   abbrev movie : ℕ
   movie = movieScale (moovOf s)
 
+  -- the durations of the samples
+  abbrev times : List ℕ
+  times = trackOf (trackAsked s id) .durations
+
+  -- and of the entries
   abbrev lengths : List ℕ
   lengths = durationsOf (entriesOf s id)
 
@@ -82,7 +87,7 @@ module _ (s : List ℕ) (w : Source) (id : ℕ) (e : askRefusal s w id ≡ 0) wh
     here : entryAt s id (holder lengths t) .media ≡ entryAt s id k .media
     here = ap (λ (j : ℕ). entryAt s id j .media) (sym is-k)
 
-    below : placeAt (startAt s id k) (i .first) t < sum (timesOf s id)
+    below : placeAt (startAt s id k) (i .first) t < sum times
     unfolding totalIn trackOf
     below =
         omega (arith, place-is, media-below scale movie (totalIn (trackAsked s id)) (elstOf (trackAsked s id)) some-list (record { 0 = t }) noEntry right in-total (i .first) (here ∙ i .shows))
@@ -95,7 +100,7 @@ module _ (s : List ℕ) (w : Source) (id : ℕ) (e : askRefusal s w id ≡ 0) wh
         ∙ ap (λ (x : ℕ). Shown (record { 0 = x })) place-is)
 
     -- the sample met is the one that holds the place
-    met-here : (n : ℕ) → n ≡ suc (holder (timesOf s id) (placeAt (startAt s id k) (i .first) t)) → Met s w id t n
+    met-here : (n : ℕ) → n ≡ suc (holder times (placeAt (startAt s id k) (i .first) t)) → Met s w id t n
     met-here n q = record {
       media = record { 0 = placeAt (startAt s id k) (i .first) t };
       shown = shown;
@@ -103,12 +108,12 @@ module _ (s : List ℕ) (w : Source) (id : ℕ) (e : askRefusal s w id ≡ 0) wh
       named = at-is s w id e _ below ∙ ap (λ (x : ℕ). Number x (atEntry s id (record { 0 = placeAt (startAt s id k) (i .first) t }))) (sym q);
     }
 
-    met-is : (n : ℕ) → Met s w id t n → n ≡ suc (holder (timesOf s id) (placeAt (startAt s id k) (i .first) t))
+    met-is : (n : ℕ) → Met s w id t n → n ≡ suc (holder times (placeAt (startAt s id k) (i .first) t))
     met-is n m =
         let q = shown in
         let r = m .shown in
         let p : m .media .0 ≡ placeAt (startAt s id k) (i .first) t = cc in
-        at-known s w id e (m .media) n (m .entry) (m .named) .1 ∙ ap (λ (x : ℕ). suc (holder (timesOf s id) x)) p
+        at-known s w id e (m .media) n (m .entry) (m .named) .1 ∙ ap (λ (x : ℕ). suc (holder times x)) p
 
   -- all times of an entry show from the same media time on
   same-first : (k t u : ℕ) (i : Inside s id k t) (j : Inside s id k u) → i .first ≡ j .first
@@ -117,24 +122,24 @@ module _ (s : List ℕ) (w : Source) (id : ℕ) (e : askRefusal s w id ≡ 0) wh
   pub nothing-skipped : OfTrack s w id
   unfolding sampleOf
   nothing-skipped = record {
-    meets = λ k t i. (suc (holder (timesOf s id) (placeAt (startAt s id k) (i .first) t)), met-here k t i _ refl);
+    meets = λ k t i. (suc (holder times (placeAt (startAt s id k) (i .first) t)), met-here k t i _ refl);
     rises = λ k t u n p i j o a b.
         let f = same-first k t u i j in
         let r = rising (startAt s id k) (i .first) t u o in
-        let g = ap (λ (x : ℕ). holder (timesOf s id) (placeAt (startAt s id k) x u)) f in
-        omega (arith, met-is k t i n a, met-is k u j p b, holder-mono (timesOf s id) (placeAt (startAt s id k) (i .first) t) (placeAt (startAt s id k) (i .first) u) r, g);
+        let g = ap (λ (x : ℕ). holder times (placeAt (startAt s id k) x u)) f in
+        omega (arith, met-is k t i n a, met-is k u j p b, holder-mono times (placeAt (startAt s id k) (i .first) t) (placeAt (startAt s id k) (i .first) u) r, g);
     none-passed = λ c k t u n p j x i i₂ o a b l h y z.
         let d = found-known s w id e j x y in
         let f = same-first k t u i i₂ in
         let g = ap (λ (v : ℕ). placeAt (startAt s id k) v u) f in
-        let v = ap (holder (timesOf s id)) g in
-        let q : 0 < getD (timesOf s id) (d .0) 0 = omega (arith, z, ap (λ (m : Sample). m .duration) (d .2)) in
+        let v = ap (holder times) g in
+        let q : 0 < getD times (d .index) 0 = omega (arith, z, ap (λ (m : Sample). m .duration) (d .is)) in
         let m =
-        hits-widths (placeAt (startAt s id k) (i .first)) (rising-by-one c (startAt s id k) (i .first)) (timesOf s id) t u (d .0) o
+        hits-widths (placeAt (startAt s id k) (i .first)) (rising-by-one c (startAt s id k) (i .first)) times t u (d .index) o
         (rising (startAt s id k) (i .first) t u o)
         (omega (arith, g, below k u i₂))
-        (omega (arith, met-is k t i n a, d .1))
-        (omega (arith, met-is k u i₂ p b, d .1, v))
+        (omega (arith, met-is k t i n a, d .number))
+        (omega (arith, met-is k u i₂ p b, d .number, v))
         q
         in
         let at-in : Inside s id k (m .at) = record { from = omega (arith, i .from, m .from); to = omega (arith, i₂ .to, m .to); first = i .first; shows = i .shows } in
@@ -143,7 +148,7 @@ module _ (s : List ℕ) (w : Source) (id : ℕ) (e : askRefusal s w id ≡ 0) wh
           from = m .from;
           to = m .to;
           inside = at-in;
-          met = met-here k (m .at) at-in j (d .1 ∙ ap suc (sym (m .is)));
+          met = met-here k (m .at) at-in j (d .number ∙ ap suc (sym (m .is)));
         };
   }
 

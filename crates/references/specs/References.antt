@@ -1,4 +1,4 @@
--- The data references of a dref, and whether the samples of every description are in the film's own file. Offsets in an entry "count
+-- Document 02, Ask 6. The data references of a dref, and whether the samples of every description are in the film's own file. Offsets in an entry "count
 -- from" its own first byte.
 use Prim.Native.Nat.{ℕ, _-_, _%_}
 use mathlib.Core.List.{List, []}
@@ -29,6 +29,6 @@ indexOf d = u16At d 14
 unfoldable pub namesThisFile : List (List ℕ) → ℕ → Bool
 namesThisFile rs k = not (eqb k 0) && isThisFile (getD rs (k - 1) [])
 
--- the same of every description of an stsd, used or not
+-- the same of every description of an stsd, used or not. In a track of pictures refusal 5 has asked for 36 bytes, so the cut is the same
 unfoldable pub allInThisFile : List ℕ → List ℕ → Bool
 allInThisFile dref stsd = all (λ d. namesThisFile (references dref) (indexOf d)) (descriptions 16 stsd)

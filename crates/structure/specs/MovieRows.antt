@@ -1,5 +1,5 @@
 -- The rows 4 to 6, and the refusal of a file by the rows 1 to 6. These need not be believed: they are between the crates' own functions,
--- and `movie/proofs/Tables.antt` shows that with the rows 7 to 13 they come to `filmRefusal` of the crate movie.
+-- and `movie/proofs/Tables.antt` shows that with the rows 7 to 13 and 19 they come to `filmRefusal` of the crate movie.
 use Prim.Native.Nat.{ℕ}
 use mathlib.Core.List.{List, [], _∷_}
 use Rattle.structure.specs.Movie.{moovOf, tracksOf}

@@ -1,4 +1,4 @@
--- How a film is lent and read. "The default becomes to accept"; "11 only where strict reading is asked for".
+-- How a film is lent and read. Document 02: "The default becomes to accept"; "11 only where strict reading is asked for".
 use mathlib.Core.Bool.{true, false}
 use Rattle.structure.specs.declared.source.Source.{Source}
 

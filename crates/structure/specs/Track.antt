@@ -23,7 +23,7 @@ tableOf k t = childIn stbl k 0 (stblOf t)
 unfoldable pub elstOf : List ℕ → List ℕ
 elstOf t = childIn edts elst 0 (bodyIn trak edts 0 t)
 
--- its data references, as a dref; empty where it is absent. "one 'dinf' container in minf, one read leaf 'dref' in it"
+-- its data references, as a dref; empty where it is absent. Document 02: "one 'dinf' container in minf, one read leaf 'dref' in it"
 unfoldable pub drefOf : List ℕ → List ℕ
 drefOf t = childIn dinf dref 0 (bodyIn minf dinf 0 (minfOf t))
 
@@ -55,7 +55,7 @@ editsOf t = u32At (elstOf t) 12
 abbrev pub descriptionsOf : List ℕ → ℕ
 descriptionsOf t = u32At (tableOf stsd t) 12
 
--- "count at 12"
+-- document 02: "count at 12"
 abbrev pub referencesOf : List ℕ → ℕ
 referencesOf t = u32At (drefOf t) 12
 

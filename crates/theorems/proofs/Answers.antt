@@ -14,7 +14,9 @@ use Rattle.lists.proofs.Booleans.{and-left, and-right, cond-zero}
 use Rattle.pairs.specs.Pairs.{flat}
 use Rattle.edits.specs.declared.MediaTime.{MediaTime}
 use Rattle.structure.specs.declared.source.Source.{Source}
-use Rattle.structure.specs.Track.{samplesOf}
+use Rattle.atoms.specs.Kinds.{stts}
+use Rattle.runs.specs.Runs.{runsOf, entryOf}
+use Rattle.structure.specs.Track.{tableOf, samplesOf}
 use Rattle.structure.specs.Rows.{orElse}
 use Rattle.structure.proofs.Callers.{none-else}
 use Rattle.movie.specs.Rooms.{noRoom}
@@ -49,6 +51,11 @@ pub record Answered (s : List ℕ) (source : Source) (id : ℕ) (a b : MediaTime
   pub refusal : stretchRefusal s source id a b room ≡ 0
   pub count : k ≡ length (stretchPairs s id a b)
   pub total : bytes ≡ bytesIn (tables s id) a b
+
+-- the entry that is answered, by the runs of stts
+pub entry-is : (s : List ℕ) (id : ℕ) (t : MediaTime) → atEntry s id t ≡ entryOf (runsOf (tableOf stts (trackAsked s id))) (holder (tables s id .durations) (t .0))
+unfolding atEntry
+entry-is s id t = refl
 
 module _ (s : List ℕ) (source : Source) (id : ℕ) (e : askRefusal s source id ≡ 0) where
   -- ---- samples

@@ -37,7 +37,7 @@ use Rattle.theorems.proofs.Lists.{tables, Listed, listed}
 use Rattle.theorems.proofs.Entries.{total-is, count-is, entry-counts, size-at, offset-at, entry-holds}
 use Rattle.theorems.proofs.Tracks.{own-asked, own-itself}
 use Rattle.stretch.proofs.Spanning.{flat-length}
-use Rattle.theorems.proofs.Answers.{Known, found-is, none-is, past-is, found-known, at-is, at-outside, at-known, pairs-is, short-is, no-stretch, pairs-known}
+use Rattle.theorems.proofs.Answers.{Known, found-is, none-is, past-is, found-known, entry-is, at-is, at-outside, at-known, pairs-is, short-is, no-stretch, pairs-known}
 
 -- ---- what a sample's answer says of the lists
 
@@ -234,7 +234,7 @@ module _ (s t : List ℕ) (source : Source) (e : askRefusal s source (idOf t) �
             let low : i < samplesOf (trackAsked s id) = omega (arith, places.holds-below ds (time .0) i k .1, l .timed) in
             let f = found-is s source id e (suc i) i refl low in
             let c = entry-counts t shape (suc i) i refl (omega (arith, low, l .timed, ap length durations-are)) in
-            let g : atEntry s id time ≡ suc (c .0) = ap (λ u. entryOf (runsOf (tableOf stts u)) i) itself ∙ c .3 in (
+            let g : atEntry s id time ≡ suc (c .0) = entry-is s id time ∙ ap (λ u. entryOf (runsOf (tableOf stts u)) i) itself ∙ c .3 in (
               suc i,
               c .0,
               sampleOf (tables s id) i,

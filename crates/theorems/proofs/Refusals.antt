@@ -7,11 +7,13 @@ use mathlib.Core.Logic.{_⊎_, inl, inr, ⊎-elim}
 use mathlib.Core.Bool.{Bool, true, false, cond, _||_}
 use mathlib.Core.List.{List, [], _∷_, _++_, map}
 use native.Mathlib.Omega.{arith}
+use native.Mathlib.Decide.{decLt, ℕ-discrete}
 use lib.ListN.{length}
 use lib.Dec.{ltb, eqb·suc-zero}
-use borrow.Author.Tests.{ltb-true}
+use borrow.Author.Tests.{ltb-true, ne-eqb}
 use Rattle.lists.proofs.Booleans.{and-left, and-right}
 use Rattle.structure.specs.declared.source.Source.{Source}
+use Rattle.structure.specs.Source.{strictly}
 use Rattle.structure.specs.Rows.{Row, some, first, orElse, rank, ranksRise}
 use Rattle.structure.specs.Movie.{moovOf, movieScale, tracksOf}
 use Rattle.structure.specs.Refusals.{fileRows}
@@ -131,5 +133,41 @@ only-strict s w q e =
     ⊎-elim (λ y. omega (arith, three (λ r. r .whole s) 11 y)) (none-eleven w (movieScale m) (length s) m (tracksOf m) q)
     (subst (Applies s w) e (first-applies s w .applies (λ z. omega (arith, e, z))))
 
+-- any other row that holds by default holds strictly
+same-rows : (w : Source) (scale len : ℕ) (g : Row → Bool) (n : ℕ) → (n ≡ 11 → ⊥)
+    → OneHolds g (moovRows w scale len) n → OneHolds g (moovRows (strictly w) scale len) n
+unfolding moovRows
+same-rows w scale len g n h =
+    right (right (right (right (right (right (right (λ o. ⊎-elim (λ y. absurd (h (sym (y .1)))) (λ z. inr z) o)))))))
+  where
+    right : {A B C : Type 0} → (B → C) → A ⊎ B → A ⊎ C
+    right f = ⊎-elim (λ a. inl a) (λ b. inr (f b))
+
+rank-low : (k : ℕ) → k < 11 → rank k < rank 11
+unfolding rank
+rank-low k l = let n : k ≡ 19 → ⊥ = λ z. omega arith in rw (ne-eqb k 19 n) (omega arith)
+
+judged-before : (s : List ℕ) (w : Source) (k : ℕ) → 0 < k → k < 11 → filmRefusal s w ≡ k → filmRefusal s (strictly w) ≡ k
+judged-before s w k p l e =
+    let m = moovOf s in
+    let n : k ≡ 11 → ⊥ = λ z. omega arith in
+    let a : Applies s w k = subst (Applies s w) e (first-applies s w .applies (λ z. omega (arith, e, z))) in
+    let b : Applies s (strictly w) k = ⊎-elim (λ y. inl y) (λ y. inr (same-rows w (movieScale m) (length s) _ k n y)) a in
+    let c = first-applies s (strictly w) .earliest k b in
+    let o : filmRefusal s (strictly w) ≡ 11 → ⊥ = λ z. omega (arith, rank-low k l, ap rank z, c .1) in
+    sym (strict-same s w (filmRefusal s (strictly w)) o refl) ∙ e
+
+judged-after : (s : List ℕ) (w : Source) → w .strict ≡ false → filmRefusal s (strictly w) ≡ 11 → (filmRefusal s w ≡ 0) ⊎ (11 < filmRefusal s w)
+judged-after s w q e = elim (ℕ-discrete (filmRefusal s w) 0) [
+  | yes z ↦ inl z
+  | no z ↦ elim (decLt 11 (filmRefusal s w)) [
+    | yes l ↦ inr l
+    | no l ↦ elim (ℕ-discrete (filmRefusal s w) 11) [
+      | yes t ↦ absurd (only-strict s w q t)
+      | no t ↦ absurd (omega (arith, e, judged-before s w (filmRefusal s w) (omega (arith, z)) (omega (arith, l, t)) refl))
+    ]
+  ]
+]
+
 pub strict-reading : (s : List ℕ) (w : Source) → StrictReading s w
-strict-reading s w = record { only = only-strict s w; others = strict-same s w }
+strict-reading s w = record { only = only-strict s w; others = strict-same s w; before = judged-before s w; after = judged-after s w }

@@ -23,7 +23,7 @@ OneHolds f (r ∷ rs) n = ((f r ≡ true) × (r .number ≡ n)) ⊎ OneHolds f r
 abbrev pub rowsOfMovie : List ℕ → Source → List Row
 rowsOfMovie s w = moovRows w (movieScale (moovOf s)) (length s)
 
--- the number n applies to the film s: by a row that is judged on the file, or by one that is judged on its movie and each of its tracks
+-- the number n applies to the film s: by a row that is judged on the file, or by one that is judged on its movie or one of its tracks
 abbrev pub Applies : List ℕ → Source → ℕ → Type 0
 Applies s w n =
     OneHolds (λ r. r .whole s) fileRows n
@@ -45,3 +45,7 @@ pub record StrictReading (s : List ℕ) (w : Source) : Type 0 where
   pub only : w .strict ≡ false → filmRefusal s w ≡ 11 → ⊥
   -- where strict reading gives another number, or none, the default gives the same
   pub others : (k : ℕ) → (k ≡ 11 → ⊥) → filmRefusal s (strictly w) ≡ k → filmRefusal s w ≡ k
+  -- what is judged before it is given by both
+  pub before : (k : ℕ) → 0 < k → k < 11 → filmRefusal s w ≡ k → filmRefusal s (strictly w) ≡ k
+  -- where it is given, the default gives none, or what is judged after it
+  pub after : w .strict ≡ false → filmRefusal s (strictly w) ≡ 11 → (filmRefusal s w ≡ 0) ⊎ (11 < filmRefusal s w)

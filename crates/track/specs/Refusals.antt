@@ -1,4 +1,4 @@
--- The refusals of a track, 7 to 13 and 19, each a condition on the body t of its trak with the paper's words beside it.
+-- The refusals of a track, 9 to 13 and 19, each a condition on the body t of its trak with the papers' words beside it.
 use Prim.Native.Nat.{ℕ}
 use mathlib.Core.List.{List, [], _∷_}
 use mathlib.Core.Bool.{Bool, false, not, _&&_, _||_}
@@ -46,11 +46,11 @@ totalIn t = sum (perSample (tableOf stts t))
 unfoldable pub totalTooLarge : List ℕ → Bool
 totalTooLarge t = ltb 4294967295 (totalIn t) || ltb 4294967295 (editTotal (elstOf t))
 
--- 11: "the mdhd duration is not the total of the sample durations", "only where strict reading is asked for"
+-- 11: "the mdhd duration is not the total of the sample durations"; document 02: "only where strict reading is asked for"
 unfoldable pub otherDuration : Source → List ℕ → Bool
 otherDuration w t = w .strict && not (eqb (durationOf t) (totalIn t))
 
--- 19: "data elsewhere or no such entry", "judged after 11 and before 12"
+-- 19, document 02: "data elsewhere or no such entry", "judged after 11 and before 12"
 unfoldable pub dataElsewhere : List ℕ → Bool
 dataElsewhere t = not (allInThisFile (drefOf t) (tableOf stsd t))
 

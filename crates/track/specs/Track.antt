@@ -32,7 +32,7 @@ pub record Track : Type 0 where
   pub chunkOffsets : List ℕ
   -- the sample descriptions, each as its own bytes
   pub descriptions : List (List ℕ)
-  -- its data references, each as its own bytes: "A track's record shall also hold its data references"
+  -- its data references, each as its own bytes. Document 02: "A track's record shall also hold its data references"
   pub references : List (List ℕ)
   -- the edit list, empty where it is absent, and its entries
   pub editTable : List ℕ

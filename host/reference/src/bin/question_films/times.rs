@@ -71,7 +71,27 @@ fn lists(films: &mut Films) {
     film.says(&["map 1 381: nothing", "map 1 382: 17", "map 1 383: 18", "map 1 384: refused 15"]);
 }
 
+/// Document 02, "Nothing skipped in an edited film": with a finer media scale a sample may be passed over.
+fn passed_over(films: &mut Films) {
+    let three = |id, scale| {
+        track(id, |track| {
+            (track.scale, track.duration, track.stts) = (scale, 3, vec![(3, 1)]);
+            (track.stsc, track.stsz, track.stco) = (vec![(1, 3, 1)], Sizes::Common(5, 3), vec![2000]);
+            track.edits = edits(&[(2, 0)]);
+        })
+    };
+    let film = films.movie("sample-2-passed-over", Movie { scale: 1, ..movie(&[three(1, 2), three(2, 1)]) });
+    for id in [1, 2] {
+        film.map(id, &[0, 1, 2]).at(id, &[0, 1, 2, 3]).sample(id, &[1, 2, 3]).features(id, &[b"avvb"]);
+    }
+    film.says(&["map 1 0: 0", "map 1 1: 2", "map 1 2: refused 15", "at 1 0: 1 entry 1", "at 1 2: 3 entry 1"]);
+    film.says(&["map 2 0: 0", "map 2 1: 1", "map 2 2: refused 15", "at 2 0: 1 entry 1", "at 2 1: 2 entry 1"]);
+    // The entry covers the sample that it passes over: 15 bytes over 3 units, and 10 over 2.
+    film.says(&["feature 1 avvb: 80 = 0x00000050", "feature 2 avvb: 40 = 0x00000028"]);
+}
+
 pub fn films(films: &mut Films) {
     scales(films);
     lists(films);
+    passed_over(films);
 }
