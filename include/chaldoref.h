@@ -208,6 +208,8 @@ uint32_t chaldoref_profile(
  * A feature of a track, by its four-character code. Refusals: the file's but 11; 14, 18, 16.
  * places: 1: the value: bits a second for avvb, avab, mvbr and mabr; width * 65536 +
  *         height for tvsz; frames a second * 65536 for vfps. Quotients are rounded up.
+ * avvb and avab are taken over the samples that the track's edits show, each as often as it
+ * is shown; without an edit list over the whole media.
  * mvbr and mabr are the greatest rate of a run of samples. There is a run for each sample:
  * the shortest that starts with it and lasts a second, if one does; where none does, the
  * whole track is the only run.

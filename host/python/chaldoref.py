@@ -326,7 +326,8 @@ class Movie:
 
     def feature(self, track: int, code: str) -> int:
         """A feature computed from a track's tables, by its code: bits a second for avvb, avab, mvbr and mabr; width *
-        65536 + height for tvsz; frames a second * 65536 for vfps. Refusals 14, 18; every code that is not in FEATURES
+        65536 + height for tvsz; frames a second * 65536 for vfps. avvb and avab are taken over the samples that the
+        track's edits show, or without an edit list over the whole media. Refusals 14, 18; every code that is not in FEATURES
         is refused 18."""
         value, = self._ask("feature", 1, track, _code(code))
         return value

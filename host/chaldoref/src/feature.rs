@@ -15,9 +15,10 @@ use std::fmt;
 #[non_exhaustive]
 #[derive(Clone, Copy, Debug, PartialEq, Eq, Hash)]
 pub enum Feature {
-    /// `avvb`, of video: bits a second over the whole media, rounded up.
+    /// `avvb`, of video: bits a second over the samples that the track's edits show, or without an edit list over the
+    /// whole media; rounded up.
     AverageVideoBitRate,
-    /// `avab`, of sound: bits a second over the whole media, rounded up.
+    /// `avab`, of sound: the same.
     AverageAudioBitRate,
     /// `tvsz`, of video: the greatest width × 65536 + the greatest height.
     GreatestPicture,
