@@ -91,11 +91,11 @@ static bool ask_sample(const struct film *f, const struct track_facts *t, double
 
 static bool ask_sample_at(const struct film *f, const struct track_facts *t, double *ms)
 {
-    uint64_t n;
+    uint64_t places[CHALDOREF_SAMPLE_AT_PLACES];
     double begin = now_ms();
-    uint32_t refused = chaldoref_sample_at(f->bytes, f->len, t->id, t->total - 1, &n, 1);
+    uint32_t refused = chaldoref_sample_at(f->bytes, f->len, t->id, t->total - 1, places, CHALDOREF_SAMPLE_AT_PLACES);
     *ms = now_ms() - begin;
-    return refused == 0 && n == t->samples;
+    return refused == 0 && places[0] == t->samples;
 }
 
 static bool ask_write_slip(const struct film *f, const struct track_facts *t, double *ms)

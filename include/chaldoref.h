@@ -88,7 +88,7 @@ enum {
     CHALDOREF_TRACK_LIST_PLACES = 1,
     CHALDOREF_SAMPLE_PLACES = 8,
     CHALDOREF_SAMPLE_BYTES_PLACES = 2,
-    CHALDOREF_SAMPLE_AT_PLACES = 1,
+    CHALDOREF_SAMPLE_AT_PLACES = 2,
     CHALDOREF_MEDIA_TIME_PLACES = 2,
     CHALDOREF_STRETCH_PLACES = 2,
     CHALDOREF_PROFILE_PLACES = 1,
@@ -148,7 +148,8 @@ uint32_t chaldoref_sample_bytes(
 
 /*
  * The sample at media time t: decode time <= t < decode time + duration. Refusals 1 to 13, 14, 15, 16.
- * places: 1: the sample's number, from 1.
+ * places: 2: the sample's number, from 1; the position, from 1, of the stts entry that
+ *         holds it, which is how many entries the lookup took in.
  */
 uint32_t chaldoref_sample_at(
     const uint8_t *file, size_t file_len,
@@ -423,6 +424,21 @@ static inline struct chaldoref_sample_info chaldoref_sample_of(const int64_t pla
     sample.chunk = (uint32_t)places[5];
     sample.offset = (uint32_t)places[6];
     sample.size = (uint32_t)places[7];
+    return sample;
+}
+
+/* The sample at a media time. */
+struct chaldoref_sample_at_info {
+    uint32_t number;  /* from 1 */
+    uint32_t entry;   /* the position of its stts entry, from 1 */
+};
+
+/* For the places of chaldoref_sample_at. */
+static inline struct chaldoref_sample_at_info chaldoref_sample_at_of(const uint64_t places[CHALDOREF_SAMPLE_AT_PLACES])
+{
+    struct chaldoref_sample_at_info sample;
+    sample.number = (uint32_t)places[0];
+    sample.entry = (uint32_t)places[1];
     return sample;
 }
 

@@ -2,7 +2,7 @@
 
     >>> from chaldoref import Movie, read_slip
     >>> movie = Movie(open("films/two-hoses.mov", "rb").read())
-    >>> movie.sample_bytes(2, movie.sample_at(2, 24))
+    >>> movie.sample_bytes(2, movie.sample_at(2, 24).number)
     b'hose 2 picture 2'
     >>> read_slip(movie.write_slip(2, 24, 96)).film_time
     72
@@ -24,8 +24,8 @@ from dataclasses import dataclass
 from typing import Any, Dict, Optional, Tuple, Union
 
 __all__ = [
-    "FEATURES", "ByteRange", "MalformedSlip", "Movie", "Peak", "ProfileRecord", "Refusal", "Refused", "Sample", "Slip",
-    "Stretch", "Track", "read_slip",
+    "FEATURES", "ByteRange", "MalformedSlip", "Movie", "Peak", "ProfileRecord", "Refusal", "Refused", "Sample",
+    "SampleAt", "Slip", "Stretch", "Track", "read_slip",
 ]
 
 #: What the library and this module take as bytes. All but bytes are copied, since nothing may write to them in a call.
@@ -210,6 +210,16 @@ class ProfileRecord:
 
 
 @dataclass(frozen=True)
+class SampleAt:
+    """The sample at a media time."""
+
+    #: Its number, from 1.
+    number: int
+    #: The position, from 1, of the entry of the table of durations that holds it.
+    entry: int
+
+
+@dataclass(frozen=True)
 class Peak:
     """Where a track has its highest bit rate over one second: a run of samples."""
 
@@ -278,10 +288,9 @@ class Movie:
         offset, length = self._ask("sample_bytes", 2, track, n)
         return self._file[offset:offset + length]
 
-    def sample_at(self, track: int, t: int) -> int:
-        """The number of the sample at media time t: decode time <= t < decode time + duration. Refusals 14, 15."""
-        n, = self._ask("sample_at", 1, track, t)
-        return n
+    def sample_at(self, track: int, t: int) -> SampleAt:
+        """The sample at media time t: decode time <= t < decode time + duration. Refusals 14, 15."""
+        return SampleAt(*self._ask("sample_at", 2, track, t))
 
     def media_time(self, track: int, t: int) -> Optional[int]:
         """The media time that a track shows at movie time t, in the movie's time scale; None where nothing is shown.

@@ -14,7 +14,8 @@ from pathlib import Path
 
 import chaldoref
 from chaldoref import (
-    FEATURES, ByteRange, MalformedSlip, Movie, Peak, ProfileRecord, Refusal, Refused, Sample, Track, read_slip,
+    FEATURES, ByteRange, MalformedSlip, Movie, Peak, ProfileRecord, Refusal, Refused, Sample, SampleAt, Track,
+    read_slip,
 )
 
 W = Path("films/w.mov").read_bytes()
@@ -84,8 +85,8 @@ class FilmW(Case):
         self.assertIs(self.movie.file, W)
 
     def test_samples_at_times(self):
-        for t, n in ((0, 1), (23, 1), (24, 2), (72, 4), (119, 4)):
-            self.assertEqual(self.movie.sample_at(1, t), n)
+        for t, n, entry in ((0, 1, 1), (23, 1, 1), (24, 2, 1), (71, 3, 1), (72, 4, 2), (119, 4, 2)):
+            self.assertEqual(self.movie.sample_at(1, t), SampleAt(n, entry))
         self.assertRefused(15, self.movie.sample_at, 1, 120)
 
     def test_samples(self):
@@ -241,7 +242,7 @@ class Asking(Case):
         movies = (Movie(given), Movie(memoryview(given)), Movie(memoryview(b"x" + W)[1:]))
         given[:] = bytes(len(given))
         for movie in movies:
-            self.assertEqual(movie.sample_at(1, 24), 2)
+            self.assertEqual(movie.sample_at(1, 24).number, 2)
         self.assertEqual(read_slip(bytearray(SLIP)), read_slip(SLIP))
 
     def test_what_is_not_bytes(self):

@@ -54,6 +54,16 @@ pub struct Sample {
     pub size: u32,
 }
 
+/// The sample at a media time.
+#[non_exhaustive]
+#[derive(Clone, Copy, Debug, Default, PartialEq, Eq, Hash)]
+pub struct SampleAt {
+    /// Its number, from 1.
+    pub number: u32,
+    /// The position, from 1, of the entry of the table `stts` that holds it: how many entries the lookup took in.
+    pub entry: u32,
+}
+
 /// What a track shows at a movie time. There is no third case.
 #[derive(Clone, Copy, Debug, PartialEq, Eq, Hash)]
 pub enum Shown {

@@ -82,7 +82,7 @@ pub fn sample_bytes(file: &[u8], id: u32, n: u32) -> Result<[u64; 2], Refusal> {
     ask(|places, len| unsafe { raw::chaldoref_sample_bytes(file.as_ptr(), file.len(), id, n, places, len) })
 }
 
-pub fn sample_at(file: &[u8], id: u32, t: u32) -> Result<[u64; 1], Refusal> {
+pub fn sample_at(file: &[u8], id: u32, t: u32) -> Result<[u64; 2], Refusal> {
     // SAFETY: slices' own pointers and lengths, as the module says.
     ask(|places, len| unsafe { raw::chaldoref_sample_at(file.as_ptr(), file.len(), id, t, places, len) })
 }

@@ -16,7 +16,7 @@
 //! assert_eq!((track.id, track.subtype.to_string().as_str()), (TrackId(1), "vide"));
 //!
 //! // The sample shown at media time 24, and its own bytes, which are not copied.
-//! let n = movie.sample_at(track.id, MediaTime(24))?;
+//! let n = movie.sample_at(track.id, MediaTime(24))?.number;
 //! assert_eq!((n, movie.sample_bytes(track.id, n)?.len()), (2, 50));
 //!
 //! // The bytes of a stretch of film time, one range for each chunk that it touches.
@@ -68,7 +68,7 @@ mod room;
 mod slip;
 mod units;
 
-pub use answers::{Peak, ProfileRecord, Sample, Shown, Stretch, StretchSize, Track};
+pub use answers::{Peak, ProfileRecord, Sample, SampleAt, Shown, Stretch, StretchSize, Track};
 pub use feature::{Feature, UnknownFeature};
 pub use movie::{Movie, MAX_FILE_BYTES};
 pub use refusal::{Refusal, UnknownRefusal};

@@ -1,5 +1,5 @@
 //! Movies and the questions about them.
-use crate::answers::{Peak, ProfileRecord, Sample, Shown, Stretch, StretchSize, Track};
+use crate::answers::{Peak, ProfileRecord, Sample, SampleAt, Shown, Stretch, StretchSize, Track};
 use crate::ffi::{self, broken, promised};
 use crate::refusal::Refusal;
 use crate::room::room;
@@ -97,14 +97,15 @@ impl<'a> Movie<'a> {
         Ok(range.of(self.file).unwrap_or_else(|| broken()))
     }
 
-    /// The number of the sample at a media time: the one with decode time ≤ `t` < decode time plus duration.
+    /// The sample at a media time, the one with decode time ≤ `t` < decode time plus duration: its number, and the
+    /// position of its entry in the table of durations.
     ///
     /// # Errors
     ///
     /// [`Refusal::NoTrack`]; [`Refusal::Outside`] where `t` is not below the track's total.
-    pub fn sample_at(&self, id: TrackId, t: MediaTime) -> Result<u32, Refusal> {
-        let [n] = ffi::sample_at(self.file, id.0, t.0)?;
-        Ok(promised(n))
+    pub fn sample_at(&self, id: TrackId, t: MediaTime) -> Result<SampleAt, Refusal> {
+        let [number, entry] = ffi::sample_at(self.file, id.0, t.0)?;
+        Ok(SampleAt { number: promised(number), entry: promised(entry) })
     }
 
     /// What a track shows at a movie time, which goes through the track's edit list if it has one.

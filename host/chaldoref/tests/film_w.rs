@@ -48,9 +48,9 @@ fn tracks() {
 #[test]
 fn times() {
     let file = w().bytes();
-    let at = |t| opened(&file).sample_at(ONE, MediaTime(t));
-    for (t, n) in [(0, 1), (23, 1), (24, 2), (72, 4), (119, 4)] {
-        assert_eq!(at(t), Ok(n), "time {t}");
+    let at = |t| opened(&file).sample_at(ONE, MediaTime(t)).map(|sample| (sample.number, sample.entry));
+    for (t, n, entry) in [(0, 1, 1), (23, 1, 1), (24, 2, 1), (71, 3, 1), (72, 4, 2), (119, 4, 2)] {
+        assert_eq!(at(t), Ok((n, entry)), "time {t}");
     }
     assert_eq!(at(120), Err(Refusal::Outside));
 }
@@ -207,7 +207,8 @@ fn misreadings() {
     assert_eq!((fifth.chunk, fifth.offset), (3, 2000));
     // "A zero-duration sample returned for the time at which it stands."
     let still = with_track(film::Track { stts: vec![(1, 0), (1, 60), (1, 0), (1, 60)], ..w_track() });
-    assert_eq!([0, 59, 60, 119].map(|t| opened(&still).sample_at(ONE, MediaTime(t))), [2, 2, 4, 4].map(Ok));
+    let named = [0, 59, 60, 119].map(|t| opened(&still).sample_at(ONE, MediaTime(t)).unwrap());
+    assert_eq!(named.map(|sample| (sample.number, sample.entry)), [(2, 2), (2, 2), (4, 4), (4, 4)]);
     // "Media time -1 read as 4,294,967,295."
     let empty = with_track(film::Track { edits: Some(vec![(1, -1, 65536)]), ..w_track() });
     assert_eq!(opened(&empty).media_time(ONE, MovieTime(0)), Ok(Shown::Nothing));

@@ -56,6 +56,15 @@ static void print_sample(const struct film *film, uint32_t n)
            bytes.offset, bytes.length);
 }
 
+static void print_sample_at(const struct film *film, uint32_t t)
+{
+    uint64_t places[CHALDOREF_SAMPLE_AT_PLACES];
+    struct chaldoref_sample_at_info sample;
+    chaldoref_sample_at(film->bytes, film->len, ONE, t, places, CHALDOREF_SAMPLE_AT_PLACES);
+    sample = chaldoref_sample_at_of(places);
+    printf("sample at %" PRIu32 " %" PRIu32 "\n", sample.number, sample.entry);
+}
+
 static void print_media_time(const struct film *film, uint32_t t)
 {
     uint64_t places[CHALDOREF_MEDIA_TIME_PLACES];
@@ -160,6 +169,7 @@ static void print_all(struct film *film)
     print_sample(film, 1);
     print_sample(film, 4);
     print_sample(film, 5);
+    print_sample_at(film, 0);
     print_media_time(film, 0);
     print_media_time(film, 60);
     print_stretch(film, 24, 73);

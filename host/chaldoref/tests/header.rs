@@ -61,6 +61,11 @@ fn sample(movie: &Movie, n: u32) -> String {
     }
 }
 
+fn sample_at(movie: &Movie, t: u32) -> String {
+    let sample = movie.sample_at(ONE, chaldoref::MediaTime(t)).unwrap();
+    format!("sample at {} {}\n", sample.number, sample.entry)
+}
+
 fn media_time(movie: &Movie, t: u32) -> String {
     match movie.media_time(ONE, MovieTime(t)).unwrap() {
         Shown::At(media) => format!("media time 1 {media}\n"),
@@ -96,7 +101,7 @@ fn records_and_peak(movie: &Movie) -> String {
 fn expected(film: &[u8]) -> String {
     let movie = Movie::open(film).unwrap();
     let samples: String = [1, 4, 5].map(|n| sample(&movie, n)).concat();
-    let times: String = [0, 60].map(|t| media_time(&movie, t)).concat();
+    let times = sample_at(&movie, 0) + &[0, 60].map(|t| media_time(&movie, t)).concat();
     let [stretch, slips] = stretch_and_slips(&movie);
     // A file and a slip of no bytes are refused as such; then come room, bytes and places that are too few.
     let lent = "nothing lent 3 17 16 16 16 16\nlent 1 1 1 1 1\n";

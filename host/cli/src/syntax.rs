@@ -45,7 +45,7 @@ pub static COMMANDS: [Command; 10] = [
         name: "at",
         operands: &["FILE", "TRACK", "MEDIA-TIME"],
         options: &[&JSON],
-        about: "the number of the sample at a media time",
+        about: "the sample at a media time, and its place in the table of durations",
         ask: |words| Ok(Ask::At { track: words.track(1)?, time: words.media_time(2)? }),
     },
     Command {

@@ -92,11 +92,15 @@ fn bytes() {
 
 #[test]
 fn times() {
-    answers("at films/w.mov 1 24", "media time  hh:mm:ss.mmm  sample\n        24  00:00:00.040       2\n");
+    answers(
+        "at films/w.mov 1 24",
+        "media time  hh:mm:ss.mmm  sample  entry  decode  duration\n        24  00:00:00.040       2      1      24        24\n",
+    );
     answers(
         "at films/w.mov 0x1 0x77 --json",
         "{\"format\":1,\"file\":\"films/w.mov\",\"track\":1,\"media_time\":119,\
-         \"media_time_seconds\":0.19833333333333333,\"sample\":4}\n",
+         \"media_time_seconds\":0.19833333333333333,\"sample\":4,\"entry\":2,\"decode\":72,\"decode_seconds\":0.12,\
+         \"duration\":48,\"duration_seconds\":0.08}\n",
     );
     answers("map films/w.mov 1 60", "movie time  media time  hh:mm:ss.mmm\n        60          60  00:00:00.100\n");
     answers(

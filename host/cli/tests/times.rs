@@ -16,8 +16,10 @@ fn same_output(line: &str, plain: &str) {
 
 #[test]
 fn the_sample_at_a_time() {
-    answers("at films/w.mov 1 0.04s", "media time  hh:mm:ss.mmm  sample\n        24  00:00:00.040       2\n");
-    answers("at films/w.mov 1 00:00:00.0399", "media time  hh:mm:ss.mmm  sample\n        23  00:00:00.038       1\n");
+    let line = |row: &str| format!("media time  hh:mm:ss.mmm  sample  entry  decode  duration\n{row}\n");
+    answers("at films/w.mov 1 0.04s", &line("        24  00:00:00.040       2      1      24        24"));
+    answers("at films/w.mov 1 00:00:00.0399", &line("        23  00:00:00.038       1      1       0        24"));
+    answers("at films/w.mov 1 72", &line("        72  00:00:00.120       4      2      72        48"));
     for (time, units) in [("0s", 0), ("0.12s", 72), ("0:0:0.199", 119), ("0.1999999999999999999999s", 119)] {
         same_output(&format!("at {W} 1 {time}"), &format!("at {W} 1 {units}"));
         same_output(&format!("at {W} 1 {time} --json"), &format!("at {W} 1 {units} --json"));

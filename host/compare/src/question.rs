@@ -34,7 +34,7 @@ pub const KINDS: [&str; 11] = [
 ];
 
 /// How many places each question fills, in the same order.
-const PLACES: [usize; 11] = [1, 8, 2, 1, 2, 2, 1, 1, 2, 6, 1];
+const PLACES: [usize; 11] = [1, 8, 2, 2, 2, 2, 1, 1, 2, 6, 1];
 
 /// An answer: its own numbers, and what goes to the lent numbers or bytes.
 #[derive(Clone, Debug, Default, PartialEq)]

@@ -77,13 +77,19 @@ pub fn sample_bytes(movie: &Movie, track: TrackId, n: u32, to: Answer) -> Result
 }
 
 pub fn at(movie: &Movie, track: TrackId, time: &Time, to: Answer) -> Result<(), Failure> {
-    let (time, n) = time.ask(movie, track, |time| movie.sample_at(track, time))?;
+    let (time, found) = time.ask(movie, track, |time| movie.sample_at(track, time))?;
+    let s = movie.sample(track, found.number)?;
     let scale = scale(movie, track)?;
     if to.json {
-        return to.document(|o| o.put("track", track.0)?.time("media_time", time.0, scale)?.put("sample", n).map(drop));
+        return to.document(|o| {
+            o.put("track", track.0)?.time("media_time", time.0, scale)?;
+            o.put("sample", found.number)?.put("entry", found.entry)?;
+            o.time("decode", s.decode.0, scale)?.time("duration", s.duration, scale).map(drop)
+        });
     }
-    let row = [time.to_string(), clock(time, scale), n.to_string()];
-    let columns = [number("media time"), CLOCK, number("sample")];
+    let [n, entry, start, duration] = [found.number, found.entry, s.decode.0, s.duration].map(|n| n.to_string());
+    let row = [time.to_string(), clock(time, scale), n, entry, start, duration];
+    let columns = [number("media time"), CLOCK, number("sample"), number("entry"), number("decode"), number("duration")];
     Ok(table::write(to.out, columns, &[row], |row| row.clone())?)
 }
 
