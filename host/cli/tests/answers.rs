@@ -207,7 +207,7 @@ fn features() {
     answers(
         "features films/w.mov 1",
         "code  name                                         value  meaning\n\
-         avvb  average video bit rate                        8800  8800 bits a second\n\
+         avvb  average video bit rate                        8800  8800 bits a second over the whole media\n\
          avab  average audio bit rate                  refused 18  only for sound tracks\n\
          tvsz  greatest picture                          20971760  320 x 240 pixels\n\
          vfps  highest frame rate                         1638400  25.000 frames a second\n\
@@ -215,25 +215,26 @@ fn features() {
          mabr  highest audio bit rate over one second  refused 18  only for sound tracks\n\
          peak of mvbr: samples 1 to 4, media time 0 to 120 (00:00:00.000 to 00:00:00.200), the whole track\n",
     );
-    let refused = "\"value\":null,\"refused\":18,\"reason\":\"only for sound tracks\",\"peak\":null}";
-    let found = "\"refused\":null,\"reason\":null,\"peak\":null}";
+    let refused = "\"value\":null,\"refused\":18,\"reason\":\"only for sound tracks\",\"over_edits\":null,\"peak\":null}";
+    let found = "\"refused\":null,\"reason\":null,\"over_edits\":null,\"peak\":null}";
+    let average = "\"refused\":null,\"reason\":null,\"over_edits\":0,\"peak\":null}";
     let whole = "{\"first\":1,\"last\":4,\"a\":0,\"a_seconds\":0,\"b\":120,\"b_seconds\":0.2}}";
     answers(
         "features films/w.mov 1 --json",
         &format!(
             "{{\"format\":1,\"file\":\"films/w.mov\",\"track\":1,\"features\":[{{\"code\":\"avvb\",\
-             \"name\":\"average video bit rate\",\"value\":8800,{found},\
+             \"name\":\"average video bit rate\",\"value\":8800,{average},\
              {{\"code\":\"avab\",\"name\":\"average audio bit rate\",{refused},\
              {{\"code\":\"tvsz\",\"name\":\"greatest picture\",\"value\":20971760,{found},\
              {{\"code\":\"vfps\",\"name\":\"highest frame rate\",\"value\":1638400,{found},\
              {{\"code\":\"mvbr\",\"name\":\"highest video bit rate over one second\",\"value\":8800,\
-             \"refused\":null,\"reason\":null,\"peak\":{whole},\
+             \"refused\":null,\"reason\":null,\"over_edits\":null,\"peak\":{whole},\
              {{\"code\":\"mabr\",\"name\":\"highest audio bit rate over one second\",{refused}]}}\n"
         ),
     );
     answers(
         "features films/w.mov 1 avvb",
-        "code  name                    value  meaning\navvb  average video bit rate   8800  8800 bits a second\n",
+        "code  name                    value  meaning\navvb  average video bit rate   8800  8800 bits a second over the whole media\n",
     );
     answers(
         "features films/w.mov 1 0x76667073 --json",
@@ -242,6 +243,23 @@ fn features() {
              \"name\":\"highest frame rate\",\"value\":1638400,{found}]}}\n"
         ),
     );
+}
+
+#[test]
+fn averages_over_edits() {
+    let edited = |edits: &[(u32, i32)]| {
+        let edits = edits.iter().map(|(duration, media)| (*duration, *media, 65536)).collect();
+        film_of(vec![film::Track { edits: Some(edits), ..w_track() }])
+    };
+    let table = |value: u32, over: &str| {
+        let name = "code  name                    value  meaning\navvb  average video bit rate";
+        format!("{name}{value:>7}  {value} bits a second {over}\n")
+    };
+    let ask = ["features", "-", "1", "avvb"];
+    answers_on(&edited(&[(60, -1), (60, 24)]), &ask, &table(6000, "over 2 edits"));
+    answers_on(&edited(&[(48, 0)]), &ask, &table(15000, "over 1 edit"));
+    let json = run_on(&edited(&[(60, -1), (60, 24)]), &["features", "-", "1", "avvb", "--json"]).out;
+    assert!(json.contains("\"value\":6000,\"refused\":null,\"reason\":null,\"over_edits\":2,"), "{json}");
 }
 
 #[test]
@@ -269,7 +287,7 @@ fn peaks() {
         &["features", "-", "1"],
         "code  name                                         value  meaning\n\
          avvb  average video bit rate                  refused 18  only for video tracks\n\
-         avab  average audio bit rate                         442  442 bits a second\n\
+         avab  average audio bit rate                         442  442 bits a second over the whole media\n\
          tvsz  greatest picture                        refused 18  only for video tracks\n\
          vfps  highest frame rate                      refused 18  only for video tracks\n\
          mvbr  highest video bit rate over one second  refused 18  only for video tracks\n\
@@ -281,7 +299,7 @@ fn peaks() {
         &["features", "-", "1", "mabr", "--json"],
         "{\"format\":1,\"file\":\"-\",\"track\":1,\"features\":[{\"code\":\"mabr\",\
          \"name\":\"highest audio bit rate over one second\",\
-         \"value\":1680,\"refused\":null,\"reason\":null,\"peak\":{\"first\":3,\"last\":5,\"a\":10,\"a_seconds\":1,\
+         \"value\":1680,\"refused\":null,\"reason\":null,\"over_edits\":null,\"peak\":{\"first\":3,\"last\":5,\"a\":10,\"a_seconds\":1,\
          \"b\":20,\"b_seconds\":2}}]}\n",
     );
 }

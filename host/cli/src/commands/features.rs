@@ -55,14 +55,14 @@ fn only_for(track: &Track, code: FourCC) -> Option<&'static str> {
 fn print(track: &Track, all: &[Found], to: Answer) -> Result<(), Failure> {
     if to.json {
         return to.document(|o| {
-            let fields = |o: &mut Object, found: &Found| fields(o, found, track.scale);
+            let fields = |o: &mut Object, found: &Found| fields(o, found, track);
             o.put("track", track.id.0)?.list("features", all, fields).map(drop)
         });
     }
     let columns = [text("code"), text("name"), number("value"), text("meaning")];
     let row = |found: &Found| {
         let [value, meaning] = match found.value {
-            Ok(value) => [value.to_string(), meaning(found.code, value)],
+            Ok(value) => [value.to_string(), meaning(track, found.code, value)],
             Err(refusal) => [format!("refused {}", refusal.number()), found.reason.clone().unwrap_or_default()],
         };
         [found.code.to_string(), name(found.code), value, meaning]
@@ -86,13 +86,14 @@ fn print_peak(track: &Track, code: FourCC, peak: &Peak, out: &mut dyn Write) -> 
     writeln!(out, "peak of {code}: samples {first} to {last}, media time {a} to {b} ({begin} to {end}){whole}")
 }
 
-fn fields(o: &mut Object, found: &Found, scale: u32) -> io::Result<()> {
+fn fields(o: &mut Object, found: &Found, track: &Track) -> io::Result<()> {
     let refused = found.value.err().map(Refusal::number);
     o.put("code", found.code.to_string())?.put("name", name(found.code))?.put("value", found.value.ok())?;
     o.put("refused", refused)?.put("reason", found.reason.clone())?;
+    o.put("over_edits", found.value.ok().filter(|_| is_average(found.code)).map(|_| track.edits))?;
     o.object("peak", found.peak.as_ref(), |o, peak| {
         o.put("first", *peak.samples.start())?.put("last", *peak.samples.end())?;
-        time_fields(o, &peak.time, scale)
+        time_fields(o, &peak.time, track.scale)
     })?;
     Ok(())
 }
@@ -101,9 +102,23 @@ fn name(code: FourCC) -> String {
     Feature::from_code(code).map_or_else(String::new, |feature| feature.to_string())
 }
 
+fn is_average(code: FourCC) -> bool {
+    matches!(Feature::from_code(code), Some(Feature::AverageVideoBitRate | Feature::AverageAudioBitRate))
+}
+
+/// What an average is taken over: the samples that the track's edits show, where it has an edit list.
+fn over(track: &Track) -> String {
+    match track.edits {
+        0 => "over the whole media".to_string(),
+        1 => "over 1 edit".to_string(),
+        n => format!("over {n} edits"),
+    }
+}
+
 /// What a feature's number says.
-fn meaning(code: FourCC, value: u32) -> String {
+fn meaning(track: &Track, code: FourCC, value: u32) -> String {
     match Feature::from_code(code) {
+        Some(_) if is_average(code) => format!("{value} bits a second {}", over(track)),
         Some(Feature::GreatestPicture) => format!("{} x {} pixels", value >> 16, value & 0xffff),
         Some(Feature::HighestFrameRate) => format!("{:.3} frames a second", f64::from(value) / 65536.0),
         Some(_) => format!("{value} bits a second"),
