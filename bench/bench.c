@@ -51,7 +51,7 @@ static bool ask_vector(const struct film *f, const struct track_facts *t, double
 
 static bool is_line(const uint32_t *line, const struct track_facts *t)
 {
-    const uint32_t right[] = { t->id, t->subtype, t->scale, t->total, t->samples, t->chunks, 0 };
+    const uint32_t right[] = { t->id, t->subtype, t->scale, t->total, t->samples, t->chunks, t->edits };
     return memcmp(line, right, sizeof right) == 0;
 }
 
@@ -91,11 +91,11 @@ static bool ask_sample(const struct film *f, const struct track_facts *t, double
 
 static bool ask_sample_at(const struct film *f, const struct track_facts *t, double *ms)
 {
-    uint64_t n;
+    uint64_t places[CHALDOREF_SAMPLE_AT_PLACES];
     double begin = now_ms();
-    uint32_t refused = chaldoref_sample_at(f->bytes, f->len, t->id, t->total - 1, &n, 1);
+    uint32_t refused = chaldoref_sample_at(f->bytes, f->len, t->id, t->total - 1, places, CHALDOREF_SAMPLE_AT_PLACES);
     *ms = now_ms() - begin;
-    return refused == 0 && n == t->samples;
+    return refused == 0 && places[0] == t->samples;
 }
 
 static bool ask_write_slip(const struct film *f, const struct track_facts *t, double *ms)
@@ -162,10 +162,12 @@ static int gather(struct candidate *c, const struct film *f)
     c[n++] = (struct candidate){ .name = "last sample", .run = ask_sample, .track = f->track };
     c[n++] = (struct candidate){ .name = "sample at the last time", .run = ask_sample_at, .track = f->track };
     c[n++] = (struct candidate){ .name = "slip of the whole", .run = ask_write_slip, .track = f->track };
-    c[n++] = (struct candidate){ .name = "feature avvb", .run = ask_feature, .track = f->track };
+    c[n++] = (struct candidate){ .name = "feature avvb", .run = ask_feature, .track = f->track, .slow = f->track->edits != 0 };
     c[n++] = (struct candidate){ .name = "feature mvbr", .run = ask_highest, .track = f->track };
     c[n++] = (struct candidate){ .name = "peak of mvbr", .run = ask_peak, .track = f->track };
 #ifdef WITH_AV
+    if (f->track->edits != 0)
+        return n; /* its index has what the edits show */
     c[n++] = (struct candidate){ .name = "libavformat: open", .run = ask_open, .slow = true };
     c[n++] = (struct candidate){ .name = "libavformat: find stream info", .run = ask_info, .slow = true };
 #endif

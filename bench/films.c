@@ -5,7 +5,7 @@
 #include <stdlib.h>
 #include <string.h>
 
-enum { VIDE = 0x76696465, SOUN = 0x736f756e, MOVIE_SCALE = 600 };
+enum { VIDE = 0x76696465, SOUN = 0x736f756e, MOVIE_SCALE = 60 };
 
 /* How the tables of a track are made. */
 struct plan {
@@ -15,6 +15,7 @@ struct plan {
     bool syncs;            /* an stss entry for every second sample */
     uint32_t common_size;  /* 0: a size for each sample */
     uint32_t (*deal)(uint32_t chunk, uint32_t begin);
+    uint32_t edits;        /* entries of an edit list that each show the whole track; 0: no list */
 };
 
 struct writer {
@@ -255,6 +256,20 @@ static void put_mdia(struct writer *w, const struct plan *p, struct track_facts 
     poke32(w->bytes + mdhd + 24, f->total);
 }
 
+/* Each entry ends at the movie time of the track's last media time. */
+static void put_edts(struct writer *w, const struct plan *p, const struct track_facts *f)
+{
+    size_t edts = open_atom(w, "edts");
+    size_t at = open_table(w, "elst");
+    for (uint32_t i = 0; i < p->edits; i++) {
+        put32(w, (uint32_t)((uint64_t)(f->total - 1) * MOVIE_SCALE / p->scale) + 1);
+        put32(w, 0);
+        put32(w, 65536);
+    }
+    close_table(w, at, p->edits);
+    close_atom(w, edts);
+}
+
 /* From each sample on as many as last a second; no film is shorter. */
 static void find_peak(const struct plan *p, struct track_facts *f)
 {
@@ -276,7 +291,9 @@ static void find_peak(const struct plan *p, struct track_facts *f)
 
 static struct track_facts put_trak(struct writer *w, const struct plan *p, uint32_t id, uint32_t offset)
 {
-    struct track_facts f = { .id = id, .subtype = p->subtype, .scale = p->scale, .samples = FILM_SAMPLES };
+    struct track_facts f = {
+        .id = id, .subtype = p->subtype, .scale = p->scale, .samples = FILM_SAMPLES, .edits = p->edits
+    };
     size_t trak = open_atom(w, "trak");
     size_t tkhd = open_atom(w, "tkhd");
     put32(w, 15);
@@ -284,6 +301,8 @@ static struct track_facts put_trak(struct writer *w, const struct plan *p, uint3
     poke32(w->bytes + tkhd + 20, id);
     close_atom(w, tkhd);
     put_mdia(w, p, &f, offset);
+    if (p->edits != 0)
+        put_edts(w, p, &f);
     close_atom(w, trak);
     find_peak(p, &f);
     return f;
@@ -315,11 +334,13 @@ static uint32_t one(uint32_t chunk, uint32_t begin)
     return 1;
 }
 
-static const struct plan typical = { VIDE, 30000, false, false, false, 0, in_thirds };
-static const struct plan sound = { SOUN, 48000, false, false, false, 0, in_thirds };
-static const struct plan full = { VIDE, 30000, true, true, true, 0, ten_or_twenty };
-static const struct plan short_chunks = { VIDE, 30000, true, true, true, 0, one_or_two };
-static const struct plan lone = { VIDE, 30000, false, false, false, 2, one };
+static const struct plan typical = { VIDE, 30000, false, false, false, 0, in_thirds, 0 };
+static const struct plan sound = { SOUN, 48000, false, false, false, 0, in_thirds, 0 };
+static const struct plan full = { VIDE, 30000, true, true, true, 0, ten_or_twenty, 0 };
+static const struct plan short_chunks = { VIDE, 30000, true, true, true, 0, one_or_two, 0 };
+static const struct plan lone = { VIDE, 30000, false, false, false, 2, one, 0 };
+static const struct plan edited = { VIDE, 30000, false, false, false, 0, in_thirds, 256 };
+static const struct plan full_edited = { VIDE, 30000, true, true, true, 0, ten_or_twenty, 256 };
 
 static const struct {
     const char *name, *tables;
@@ -330,6 +351,8 @@ static const struct {
     { "full tables", "stts, ctts and stsz per sample, stss every second sample, stsc an entry for each chunk, of 10 and 20 samples in turn", { &full, NULL } },
     { "full tables, short chunks", "the same with chunks of 1 and 2 samples in turn", { &short_chunks, NULL } },
     { "one sample a chunk", "stts one run, a common size, stsc one entry, 1,000,000 chunks", { &lone, NULL } },
+    { "one track, 256 edits", "as one track, with 256 edits that each show all of it", { &edited, NULL } },
+    { "full tables, 256 edits", "as full tables, with 256 edits that each show all of it", { &full_edited, NULL } },
 };
 
 /* ftyp, mdat, moov: with the mdat first the chunks' offsets are known when stco is written. */

@@ -5,11 +5,11 @@
 #include <stddef.h>
 #include <stdint.h>
 
-enum { FILM_KINDS = 5, FILM_TRACKS = 2, FILM_SAMPLES = 1000000 };
+enum { FILM_KINDS = 7, FILM_TRACKS = 2, FILM_SAMPLES = 1000000 };
 
 /* What the tables of a track say, counted while they are made: the answers are checked against it. */
 struct track_facts {
-    uint32_t id, subtype, scale, total, samples, chunks;
+    uint32_t id, subtype, scale, total, samples, chunks, edits;
     uint32_t last_duration, last_size, last_begin;
     uint64_t bytes;
     uint64_t peak_rate, peak_first, peak_samples; /* the second with the highest bit rate, the first of equal ones */
