@@ -3,8 +3,9 @@
 use bigendian::after;
 use edits::Edit;
 use edits::EditStart;
+use edits::MediaTime;
 use edits::edit_at;
-use edits::scaled;
+use edits::last_place;
 use edits::start_of;
 use rates::Feature;
 use rates::rate;
@@ -48,12 +49,12 @@ fn hit_at(stts: &[u8], t: u32) -> Hit
 }
 
 // The samples from the one at a media time to the one at another.
-fn added_between(stts: &[u8], stsz: &[u8], first: u32, last: u32) -> Added
-    requires { ⌜ Small (now stts) × (first ≤ last) × (last < sum (perSample (now stts))) ⌝ }
-    ensures { λ r. ⌜ (r ≡ addedIn (perSample (now (stts .entry))) (sizes (now (stsz .entry))) (rangeAt (perSample (now (stts .entry))) first last)) × (r .bytes ≤ 4503599627370496) × (r .units < 4294967296) ⌝ }
+fn added_between(stts: &[u8], stsz: &[u8], first: MediaTime, last: MediaTime) -> Added
+    requires { ⌜ Small (now stts) × (first .0 ≤ last .0) × (last .0 < sum (perSample (now stts))) ⌝ }
+    ensures { λ r. ⌜ (r ≡ addedIn (perSample (now (stts .entry))) (sizes (now (stsz .entry))) (rangeAt (perSample (now (stts .entry))) (first .0) (last .0))) × (r .bytes ≤ 4503599627370496) × (r .units < 4294967296) ⌝ }
 {
-    let from = hit_at(stts, first);
-    let to = hit_at(stts, last);
+    let from = hit_at(stts, first.0);
+    let to = hit_at(stts, last.0);
     Added {
         bytes: bytes_between(stsz, from.index as u32, (to.index + 1) as u32),
         units: to.start + (to.duration as u64) - from.start,
@@ -70,8 +71,8 @@ fn entry_added(stts: &[u8], stsz: &[u8], e: Edit, scale: u32, movie: u32) -> Add
     let p = start_of(media);
     match p {
         EditStart::From(m) => {
-            let last = m + scaled(d - 1, scale, movie);
-            added_between(stts, stsz, m as u32, last as u32)
+            let last = last_place(m, d, scale, movie);
+            added_between(stts, stsz, MediaTime(m as u32), last)
         }
         EditStart::Empty => Added { bytes: 0, units: 0 },
         EditStart::Wrong => Added { bytes: 0, units: 0 },

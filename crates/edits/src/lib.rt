@@ -5,7 +5,7 @@ use bigendian::i32_at;
 use bigendian::u32_at;
 use lists::Total;
 ghost use mathlib.Core.Path.{_≡_};
-ghost use Prim.Native.Nat.{_≤_, _<_, _^_};
+ghost use Prim.Native.Nat.{_+_, _-_, _≤_, _<_, _^_};
 ghost use lib.Signed.{mag};
 ghost use Rattle.lists.specs.Totals.{totalOf};
 ghost use Rattle.edits.specs.Edits.{editOf, editTotal, startOf, inMedia, editOk, editsOk, placed, shownAt, mediaAt};
@@ -79,13 +79,22 @@ pub fn edits_total(elst: &[u8]) -> Total
 }
 
 // A time of the movie's scale in the media's, rounded down; 0 where the movie's scale is 0.
-pub fn scaled(t: u32, scale: u32, movie: u32) -> u64
+fn scaled(t: u32, scale: u32, movie: u32) -> u64
     ensures { λ r. ⌜ (r ≡ inMedia scale movie t) × (r ≤ 18446744065119617025) ⌝ }
 {
     if movie == 0 {
         return 0;
     }
     t as u64 * scale as u64 / movie as u64
+}
+
+// The last place that an entry of duration d shows, from a media time on: that of movie time d - 1 in the entry.
+pub fn last_place(m: u64, d: u32, scale: u32, movie: u32) -> MediaTime
+    requires { ⌜ (0 < d) × (m + inMedia scale movie (d - 1) < 4294967296) ⌝ }
+    ensures { λ r. ⌜ r .0 ≡ m + inMedia scale movie (d - 1) ⌝ }
+{
+    let place = m + scaled(d - 1, scale, movie);
+    MediaTime(place as u32)
 }
 
 // Whether an entry is right: its duration, its rate, its media time and the last place that it shows.

@@ -5,7 +5,9 @@ use mathlib.Core.Path.{_≡_, refl, sym, ap, _∙_}
 use mathlib.Core.Bool.{true, false}
 use native.Mathlib.Omega.{arith}
 use native.Mathlib.Decide.{decLt}
-use borrow.Author.Tests.{lt-ltb, le-ltb}
+use borrow.Author.Tests.{lt-ltb, le-ltb, leb-true}
+use lib.Dec.{ltb}
+use Rattle.lists.proofs.Booleans.{cond-unless}
 use Rattle.rates.specs.Rates.{rateOf}
 use Rattle.rates.specs.declared.Feature.{Feature}
 use Rattle.rates.specs.declared.Feature.the-variants as features
@@ -13,7 +15,13 @@ use Rattle.rates.proofs.Orders.{eightfold, no-higher}
 use Rattle.windows.specs.declared.RatedRun.{RatedRun}
 use Rattle.windows.specs.declared.Best.{Best}
 use Rattle.windows.specs.declared.Best.the-variants.{Run, NotComputed}
-use Rattle.windows.specs.Windows.{ratedAs, ratedRun, better, noRun}
+use Rattle.windows.specs.Windows.{ratedAs, ratedRun, better, noRun, noHigher}
+
+-- what the comparison says where it tells
+pub no-higher-known : (bytes span : ℕ) (other : RatedRun) → noHigher bytes span other ≡ true → bytes * other .span ≤ other .bytes * span
+unfolding noHigher
+no-higher-known bytes span other e =
+    leb-true _ _ (cond-unless (ltb 4294967295 (other .bytes)) _ (cond-unless (ltb 4294967295 bytes) _ e .1) .1)
 
 -- what a test that failed says of an answer that is true
 pub untrue : {A : Type 0} → false ≡ true → A

@@ -2,7 +2,7 @@
 -- crate's own functions.
 use Prim.Native.Nat.{ℕ, suc, _+_, _-_, _*_, _≤_, _<_}
 use mathlib.Core.Path.{_≡_}
-use mathlib.Core.Bool.{cond}
+use mathlib.Core.Bool.{Bool, false, cond}
 use mathlib.Core.List.{List, [], _∷_}
 use lib.ListN.{length, take, drop}
 use lib.Dec.{ltb, leb}
@@ -104,6 +104,11 @@ bestFrom s i (d ∷ ds) zs =
 
 unfoldable pub bestOf : ℕ → List ℕ → List ℕ → Best
 bestOf s ds zs = cond (ltb (sum ds) s) (ratedRun s 0 (length ds) (sum zs) (sum ds)) (bestFrom s 0 ds zs)
+
+-- whether it is told in 64 bits that so many bytes in so long are no more a second than another run's, by cross-multiplication
+unfoldable pub noHigher : ℕ → ℕ → RatedRun → Bool
+noHigher bytes span other =
+    cond (ltb 4294967295 bytes) false (cond (ltb 4294967295 (other .bytes)) false (leb (bytes * other .span) (other .bytes * span)))
 
 -- a best run whose rate is that of its bytes and its span
 abbrev pub IsRated : ℕ → Best → Type 0

@@ -8,11 +8,10 @@ use runs::cursor::run_ready;
 use runs::cursor::run_start;
 use words::size_of;
 ghost use mathlib.Core.Path.{_≡_};
-ghost use mathlib.Core.Bool.{true};
 ghost use Prim.Native.Nat.{_+_, _-_, _*_, _≤_, _<_};
 ghost use Rattle.runs.specs.Runs.{perSample};
 ghost use Rattle.words.specs.Words.{sizes};
-ghost use Rattle.windows.specs.Windows.{Timed, startWindow, grownBy, Slides, Reaches, ratedRun, IsRated, Raises};
+ghost use Rattle.windows.specs.Windows.{Timed, startWindow, grownBy, Slides, Reaches, ratedRun, IsRated, noHigher, Raises};
 
 // The samples from index `first` up to, not including, `stop`: how long they last, their bytes, and a cursor of stts at each end.
 pub struct Window {
@@ -129,7 +128,7 @@ pub fn rated(w: Window, scale: u32) -> Best
 // Whether so many bytes in so long are, by cross-multiplication, no more a second than another run's. Where that is not told in 64 bits, the answer is no.
 pub fn is_no_higher(bytes: u64, span: u64, other: RatedRun) -> bool
     requires { ⌜ (span < 4294967296) × (other .span < 4294967296) ⌝ }
-    ensures { λ r. ⌜ (r ≡ true → bytes * other .span ≤ other .bytes * span) ⌝ }
+    ensures { λ r. ⌜ r ≡ noHigher bytes span other ⌝ }
 {
     if 4294967295 < bytes {
         return false;

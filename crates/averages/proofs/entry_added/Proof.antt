@@ -44,23 +44,16 @@ start-of-requires c κs = search needs
 enum-known-p : tie.Need-enum-known-p
 enum-known-p c = search needs
 
-sub-scaled : tie.Need-sub-scaled
-sub-scaled c = omega (arith, last c .0)
+last-place-requires : tie.Need-last-place-requires
+last-place-requires c κs =
+    (last c .0, omega (arith, last c .1, c .before .before .before .before .before .before .before .pre .0 .total-fits))
 
-scaled-requires : tie.Need-scaled-requires
-scaled-requires c κs = search needs
-
-add-last : tie.Need-add-last
-add-last c = omega (arith, last (c .before) .1, c .scaled .ensures .0, c .before .before .before .before .before .before .before .before .pre .0 .total-fits)
-
-cast-added-between : tie.Need-cast-added-between
-cast-added-between c = omega (arith, last (c .before) .1, c .before .before .before .before .before .before .before .before .pre .0 .total-fits)
-
-cast-added-between-2 : tie.Need-cast-added-between-2
-cast-added-between-2 c = omega (arith, last (c .before) .1, c .scaled .ensures .0, c .before .before .before .before .before .before .before .before .pre .0 .total-fits)
+cast-t12 : tie.Need-cast-t12
+cast-t12 c = omega (arith, last (c .before) .1, c .before .before .before .before .before .before .before .before .pre .0 .total-fits)
 
 added-between-requires : tie.Need-added-between-requires
-added-between-requires c κs = (c .before .before .before .before .before .before .before .before .pre .0, omega arith, omega (arith, last (c .before) .1, c .scaled .ensures .0))
+added-between-requires c κs =
+    (c .before .before .before .before .before .before .before .before .pre .0, omega (arith, c .last-place .ensures), omega (arith, last (c .before) .1, c .last-place .ensures))
 
 enum-told : tie.Need-enum-told
 enum-told c = search needs
@@ -76,8 +69,8 @@ returns c =
     let zs = sizes (now (a .stsz)) in
     let m = k .before .p .given .0 .0 in (
       c .added-between .ensures .0
-          ∙ added-one ds zs (rangeAt ds m (m + c .before .scaled .result))
-          ∙ ap (λ (x : ℕ). addedAll ds zs (rangeAt ds m (m + x) ∷ [])) (c .before .scaled .ensures .0)
+          ∙ added-one ds zs (rangeAt ds m (c .before .last-place .result .0))
+          ∙ ap (λ (x : ℕ). addedAll ds zs (rangeAt ds m x ∷ [])) (c .before .last-place .ensures)
           ∙ covers (k .before .before .before) (sym (k .before .p .given .1)),
       c .added-between .ensures .1,
       c .added-between .ensures .2,
@@ -95,11 +88,8 @@ entry-added-spec =
     (tie.spec
     start-of-requires
     enum-known-p
-    sub-scaled
-    scaled-requires
-    add-last
-    cast-added-between
-    cast-added-between-2
+    last-place-requires
+    cast-t12
     added-between-requires
     enum-told
     enum-told-2

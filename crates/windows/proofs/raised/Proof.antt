@@ -2,6 +2,7 @@
 -- Assumes nothing.
 use borrow.Author.Needs.{needs}
 use mathlib.Core.Path.{sym, _∙_}
+use Rattle.windows.proofs.Bests.{no-higher-known}
 use Rattle.windows.proofs.Rating.{raised-kept, raised-none, raised-uncomputed, raised-higher, raised-lower}
 use Rattle.windows.proofs.raised.Statement.{statement}
 use Rattle.windows.proofs.raised.Tie as tie
@@ -23,7 +24,7 @@ returns-2 c =
     let n = c .before in
     let b = n .before .before in
     let s = b .before .before in
-    raised-kept _ _ _ (s .pre .0) _ (b .best .given .1) (s .pre .3) (s .pre .4) (n .is-no-higher .ensures (c .if1 .taken))
+    raised-kept _ _ _ (s .pre .0) _ (b .best .given .1) (s .pre .3) (s .pre .4) (no-higher-known _ _ _ (sym (n .is-no-higher .ensures) ∙ c .if1 .taken))
 
 rated-requires : tie.Need-rated-requires
 rated-requires c κs = search needs
