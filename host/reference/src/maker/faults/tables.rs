@@ -105,12 +105,14 @@ fn reference_indices(random: &mut Random, movie: &mut Movie) {
         0 => track.references.clear(),
         1 if number > 0 => {
             let place = random.below(number);
-            track.references[place][11] = random.one(&[0, 1, 2, 254, 255]);
+            let flags = random.one(&[0, 1, 2, 254, 255]);
+            // Another fault may have cut it short.
+            track.references[place].get_mut(11).into_iter().for_each(|byte| *byte = flags);
         }
         _ => {
             let index = u16::try_from(random.one(&[0, number, number + 1, 256, 65_535])).unwrap();
-            if let Some(last) = track.descriptions.last_mut() {
-                last[14..16].copy_from_slice(&index.to_be_bytes());
+            if let Some(field) = track.descriptions.last_mut().and_then(|last| last.get_mut(14..16)) {
+                field.copy_from_slice(&index.to_be_bytes());
             }
         }
     }
