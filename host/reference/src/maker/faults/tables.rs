@@ -103,7 +103,7 @@ fn reference_indices(random: &mut Random, movie: &mut Movie) {
     let number = track.references.len();
     match random.below(4) {
         0 => track.references.clear(),
-        1 => {
+        1 if number > 0 => {
             let place = random.below(number);
             track.references[place][11] = random.one(&[0, 1, 2, 254, 255]);
         }
