@@ -58,13 +58,9 @@ fn average_rate(trak: &[u8], movie: u32) -> Feature
     if elst.len() == 0 {
         return whole_average(trak);
     }
-    edited_average(
-        table(trak, kinds::STTS),
-        table(trak, kinds::STSZ),
-        elst,
-        media_scale(trak),
-        movie,
-    )
+    let stts = table(trak, kinds::STTS);
+    let stsz = table(trak, kinds::STSZ);
+    edited_average(stts, stsz, elst, media_scale(trak), movie)
 }
 
 // The greatest width and height of a track of pictures.
