@@ -97,20 +97,23 @@ fn reference_sizes(random: &mut Random, movie: &mut Movie) {
     any_track(random, movie).references.push(bytes);
 }
 
-/// "data elsewhere or no such entry": an index just past the last or 0, a reference without the lowest flag bit, or none at all
+/// "data elsewhere or no such entry": an index just past the last or 0, a reference without the lowest flag bit, or none at all. Another fault may have
+/// left no reference, or cut one or a description short.
 fn reference_indices(random: &mut Random, movie: &mut Movie) {
     let track = any_track(random, movie);
     let number = track.references.len();
     match random.below(4) {
         0 => track.references.clear(),
-        1 => {
+        1 if number > 0 => {
             let place = random.below(number);
-            track.references[place][11] = random.one(&[0, 1, 2, 254, 255]);
+            if let Some(flags) = track.references[place].get_mut(11) {
+                *flags = random.one(&[0, 1, 2, 254, 255]);
+            }
         }
         _ => {
             let index = u16::try_from(random.one(&[0, number, number + 1, 256, 65_535])).unwrap();
-            if let Some(last) = track.descriptions.last_mut() {
-                last[14..16].copy_from_slice(&index.to_be_bytes());
+            if let Some(place) = track.descriptions.last_mut().and_then(|last| last.get_mut(14..16)) {
+                place.copy_from_slice(&index.to_be_bytes());
             }
         }
     }
