@@ -51,7 +51,7 @@ static bool ask_vector(const struct film *f, const struct track_facts *t, double
 
 static bool is_line(const uint32_t *line, const struct track_facts *t)
 {
-    const uint32_t right[] = { t->id, t->subtype, t->scale, t->total, t->samples, t->chunks, t->edits };
+    const uint32_t right[] = { t->id, t->subtype, t->scale, t->total, t->samples, t->chunks, t->edits, t->total };
     return memcmp(line, right, sizeof right) == 0;
 }
 

@@ -1,5 +1,6 @@
 -- Film W of document 01, with document 02's dinf, byte by byte: an atom a definition, each beginning with its size and the four characters
--- of its type. The quotes are document 01's where no other is named. These are the 4,096 bytes of films/w.mov (host/reference/tests/film_w_bytes.rs holds the two together).
+-- of its type. The quotes are document 01's where no other is named. These are the 4,096 bytes of films/w.mov
+-- (host/reference/tests/film_w_bytes.rs holds the two together).
 use Prim.Native.Nat.{ℕ, zero, suc, _%_}
 use mathlib.Core.List.{List, [], _∷_, _++_}
 use lib.ListN.{replicate}

@@ -27,7 +27,8 @@ plain =
       descriptionIds = 1 ∷ 1 ∷ [];
       chunkOffsets = 1000 ∷ 900 ∷ [];
       -- "one description"
-      descriptions = (0 ∷ 0 ∷ 0 ∷ 36 ∷ 106 ∷ 112 ∷ 101 ∷ 103 ∷ replicate 7 0 ++ 1 ∷ replicate 16 0 ++ 1 ∷ 64 ∷ 0 ∷ 240 ∷ []) ∷ [];
+      descriptions = (0 ∷ 0 ∷ 0 ∷ 36 ∷ 106 ∷ 112 ∷ 101 ∷ 103 ∷ replicate 7 0
+          ++ 1 ∷ replicate 16 0 ++ 1 ∷ 64 ∷ 0 ∷ 240 ∷ []) ∷ [];
       -- document 02: "W gains a dinf with one such entry"
       references = (0 ∷ 0 ∷ 0 ∷ 12 ∷ 97 ∷ 108 ∷ 105 ∷ 115 ∷ 0 ∷ 0 ∷ 0 ∷ 1 ∷ []) ∷ [];
       -- "no edits"; "no .. profile"

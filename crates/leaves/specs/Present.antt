@@ -3,7 +3,8 @@ use Prim.Native.Nat.{ℕ}
 use mathlib.Core.List.{List}
 use mathlib.Core.Bool.{Bool, true, cond, _&&_}
 use lib.Dec.{leb, eqb}
-use Rattle.atoms.specs.Kinds.{file, moov, trak, edts, mdia, minf, dinf, stbl, mvhd, tkhd, mdhd, hdlr, dref, stsd, stts, stsc, stsz, stco, elst, ctts, stss}
+use Rattle.atoms.specs.Kinds.{file, moov, trak, edts, mdia, minf, dinf, stbl, mvhd, tkhd}
+use Rattle.atoms.specs.Kinds.{mdhd, hdlr, dref, stsd, stts, stsc, stsz, stco, elst, ctts, stss}
 use Rattle.atoms.specs.Atoms.{countIn}
 
 -- "Exactly one"

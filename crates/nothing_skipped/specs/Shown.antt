@@ -1,5 +1,5 @@
--- "Nothing skipped in an edited film", of the answers that movie time to media time, sample at media time and sample n give. k counts the entries of
--- an edit list from 0, t, u and v are movie times, n, p and j are sample numbers.
+-- "Nothing skipped in an edited film", of the answers that movie time to media time, sample at media time and sample n give. k
+-- counts the entries of an edit list from 0, t, u and v are movie times, n, p and j are sample numbers.
 use Prim.Native.Nat.{ℕ, suc, _≤_, _<_}
 use mathlib.Core.Path.{_≡_}
 use mathlib.Core.List.{List}
@@ -63,7 +63,8 @@ pub record OfTrack (s : List ℕ) (w : Source) (id : ℕ) : Type 0 where
   pub rises : (k t u n p : ℕ) → Inside s id k t → Inside s id k u → t ≤ u → Met s w id t n → Met s w id u p → n ≤ p
   -- and "where the media scale is at most the movie scale, no sample of non-zero duration between the first and last met is passed over"
   pub none-passed : scaleOf (trackAsked s id) ≤ movieScale (moovOf s)
-      → (k t u n p j : ℕ) (x : Sample) → Inside s id k t → Inside s id k u → t ≤ u → Met s w id t n → Met s w id u p → n ≤ j → j ≤ p
+      → (k t u n p j : ℕ) (x : Sample) → Inside s id k t → Inside s id k u → t ≤ u → Met s w id t n
+      → Met s w id u p → n ≤ j → j ≤ p
       → sampleAnswer s w id j ≡ Found x → 0 < x .duration → MetBetween s w id k t u j
 
 -- of every track of a film that is not refused

@@ -1,5 +1,5 @@
--- Document 02, Ask 6. The data references of a dref, and whether the samples of every description are in the film's own file. Offsets in an entry "count
--- from" its own first byte.
+-- Document 02, Ask 6. The data references of a dref, and whether the samples of every description are in the film's own file.
+-- Offsets in an entry "count from" its own first byte.
 use Prim.Native.Nat.{ℕ, _-_, _%_}
 use mathlib.Core.List.{List, []}
 use mathlib.Core.Bool.{Bool, not, _&&_}

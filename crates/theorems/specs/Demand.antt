@@ -92,7 +92,8 @@ pub record OfTrack (s t : List ℕ) (w : Source) : Type 0 where
   pub follows : (n : ℕ) (x y : Sample) → sampleAnswer s w (idOf t) n ≡ Found x → sampleAnswer s w (idOf t) (suc n) ≡ Found y
       → y .decode ≡ x .decode + x .duration
   -- each has the duration of the stts entry that counts it, and its size in stsz
-  pub lasts : (n : ℕ) (x : Sample) → sampleAnswer s w (idOf t) n ≡ Found x → (k : ℕ) × Counts t k n × (x .duration ≡ sampleDuration t k)
+  pub lasts : (n : ℕ) (x : Sample) → sampleAnswer s w (idOf t) n ≡ Found x
+      → (k : ℕ) × Counts t k n × (x .duration ≡ sampleDuration t k)
   pub sized : (n : ℕ) (x : Sample) → sampleAnswer s w (idOf t) n ≡ Found x → x .size ≡ sampleSize t n
   -- "each media time below the total belongs to exactly one sample, and asked for it the reader names it", with "the position, from 1, of the entry
   -- that holds the answered sample, which is never above the number of stts entries"
@@ -102,7 +103,8 @@ pub record OfTrack (s t : List ℕ) (w : Source) : Type 0 where
       × ((m : ℕ) (y : Sample) → sampleAnswer s w (idOf t) m ≡ Found y → HasTime y (time .0) → m ≡ n)
   -- any other belongs to none, and is refused
   pub outside : (time : MediaTime) → mediaTotal t ≤ time .0
-      → (atAnswer s w (idOf t) time ≡ number.Refused 15) × ((m : ℕ) (y : Sample) → sampleAnswer s w (idOf t) m ≡ Found y → HasTime y (time .0) → ⊥)
+      → (atAnswer s w (idOf t) time ≡ number.Refused 15)
+      × ((m : ℕ) (y : Sample) → sampleAnswer s w (idOf t) m ≡ Found y → HasTime y (time .0) → ⊥)
   -- "samples are dealt to chunks in order, none left over, none twice": each chunk gets as many as its stsc entry says, which fixes this list,
   pub perChunk : List ℕ
   pub deals : Deals t perChunk
@@ -112,20 +114,24 @@ pub record OfTrack (s t : List ℕ) (w : Source) : Type 0 where
   pub gets : (c n : ℕ) → DealtTo perChunk c n → (x : Sample) × (sampleAnswer s w (idOf t) n ≡ Found x) × (x .chunk ≡ c)
   -- "byte ranges in a chunk are contiguous from the chunk's offset": the first sample of a chunk begins at stco's number,
   pub first-in : (c : ℕ) → 1 ≤ c → c ≤ chunksOf t
-      → (x : Sample) × (sampleAnswer s w (idOf t) (suc (before perChunk (c - 1))) ≡ Found x) × (x .chunk ≡ c) × (x .offset ≡ chunkOffset t c)
+      → (x : Sample) × (sampleAnswer s w (idOf t) (suc (before perChunk (c - 1))) ≡ Found x) × (x .chunk ≡ c)
+      × (x .offset ≡ chunkOffset t c)
   -- and each other one where the one before it ends. "Its byte range begins at its offset and is as long as its size"
-  pub next-in : (n : ℕ) (x y : Sample) → sampleAnswer s w (idOf t) n ≡ Found x → sampleAnswer s w (idOf t) (suc n) ≡ Found y → x .chunk ≡ y .chunk
+  pub next-in : (n : ℕ) (x y : Sample) → sampleAnswer s w (idOf t) n ≡ Found x
+      → sampleAnswer s w (idOf t) (suc n) ≡ Found y → x .chunk ≡ y .chunk
       → y .offset ≡ x .offset + x .size
   -- "the parts of the track's samples inside a stretch add up to its length": of all of them, 1 to N
   pub parts : (a b : ℕ) → a < b → b ≤ mediaTotal t → added s w (idOf t) (partIn a b) 1 (samplesOf t) ≡ b - a
   -- each stretch is answered in any room for its k pairs, and refused 16 in any less; what is none is refused 15
   pub answered : (a b : MediaTime) → a .0 < b .0 → b .0 ≤ mediaTotal t
-      → (k : ℕ) × (bytes : ℕ) × ((room : List ℕ) → 2 * k ≤ length room → stretchAnswer s w (idOf t) a b room ≡ stretch.Pairs k bytes)
+      → (k : ℕ) × (bytes : ℕ)
+      × ((room : List ℕ) → 2 * k ≤ length room → stretchAnswer s w (idOf t) a b room ≡ stretch.Pairs k bytes)
       × ((room : List ℕ) → length room < 2 * k → stretchAnswer s w (idOf t) a b room ≡ stretch.Refused 16)
   pub refused : (a b : MediaTime) → ((a .0 < b .0) × (b .0 ≤ mediaTotal t) → ⊥) → (room : List ℕ)
       → stretchAnswer s w (idOf t) a b room ≡ stretch.Refused 15
   -- "One pair (offset, length) for each chunk touched": from the chunk of the sample at a to that of the sample at b - 1
-  pub pairs : (a b z : MediaTime) (room : List ℕ) (k total first last i j : ℕ) (x y : Sample) → stretchAnswer s w (idOf t) a b room ≡ stretch.Pairs k total
+  pub pairs : (a b z : MediaTime) (room : List ℕ) (k total first last i j : ℕ) (x y : Sample)
+      → stretchAnswer s w (idOf t) a b room ≡ stretch.Pairs k total
       → z .0 ≡ b .0 - 1 → atAnswer s w (idOf t) a ≡ number.Number first i → atAnswer s w (idOf t) z ≡ number.Number last j
       → sampleAnswer s w (idOf t) first ≡ Found x → sampleAnswer s w (idOf t) last ≡ Found y → k ≡ suc (y .chunk) - x .chunk
   -- "The bytes of a stretch are its answered total: the sizes of all samples included, added", those "from the one at a to the one at b-1"
@@ -134,9 +140,11 @@ pub record OfTrack (s t : List ℕ) (w : Source) : Type 0 where
       → total ≡ added s w (idOf t) sizeIn first last
   -- "a stretch cut at a sample's start gives bytes that add up": the cut m is the start of a sample, strictly inside, and each of the three has
   -- room. A sample of zero duration that stands at m would be in the whole and in neither part, so that there may be none there
-  pub cut : (a m b : MediaTime) → NoZeroDuration s w (idOf t) (m .0) → (n : ℕ) (x : Sample) → sampleAnswer s w (idOf t) n ≡ Found x → m .0 ≡ x .decode
+  pub cut : (a m b : MediaTime) → NoZeroDuration s w (idOf t) (m .0) → (n : ℕ) (x : Sample)
+      → sampleAnswer s w (idOf t) n ≡ Found x → m .0 ≡ x .decode
       → a .0 < m .0 → m .0 < b .0 → (room₁ room₂ room : List ℕ) (k₁ k₂ k bytes₁ bytes₂ bytes : ℕ)
-      → stretchAnswer s w (idOf t) a m room₁ ≡ stretch.Pairs k₁ bytes₁ → stretchAnswer s w (idOf t) m b room₂ ≡ stretch.Pairs k₂ bytes₂
+      → stretchAnswer s w (idOf t) a m room₁ ≡ stretch.Pairs k₁ bytes₁
+      → stretchAnswer s w (idOf t) m b room₂ ≡ stretch.Pairs k₂ bytes₂
       → stretchAnswer s w (idOf t) a b room ≡ stretch.Pairs k bytes
       → bytes ≡ bytes₁ + bytes₂
 

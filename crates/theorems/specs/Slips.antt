@@ -41,7 +41,8 @@ pub record ReadsBack (s : List ℕ) (w : Source) (id : ℕ) (a b : MediaTime) : 
       → (r ≡ Accepted (headOf s id a b k)) × (take (2 * k) read ≡ take (2 * k) put) × (drop (2 * k) read ≡ drop (2 * k) places)
   -- "as proof that a file was closed properly": each track states as its duration the total of its samples
   pub closed : (out after : List ℕ) (n : ℕ) → Slips s w id a b out (slip.Written n) after
-      → (i : ℕ) → i < length (tracksOf (moovOf s)) → durationOf (getD (tracksOf (moovOf s)) i []) ≡ mediaTotal (getD (tracksOf (moovOf s)) i [])
+      → (i : ℕ) → i < length (tracksOf (moovOf s))
+      → durationOf (getD (tracksOf (moovOf s)) i []) ≡ mediaTotal (getD (tracksOf (moovOf s)) i [])
 
 pub record OnlyWriting (h : Head) : Type 0 where
   -- bytes that are read and accepted are the writing of their numbers, which stand in the answer and in the room
