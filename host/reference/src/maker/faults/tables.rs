@@ -97,7 +97,8 @@ fn reference_sizes(random: &mut Random, movie: &mut Movie) {
     any_track(random, movie).references.push(bytes);
 }
 
-/// "data elsewhere or no such entry": an index just past the last or 0, a reference without the lowest flag bit, or none at all
+/// "data elsewhere or no such entry": an index just past the last or 0, a reference without the lowest flag bit, or none at all. Another fault may have
+/// left no reference, or cut one or a description short.
 fn reference_indices(random: &mut Random, movie: &mut Movie) {
     let track = any_track(random, movie);
     let number = track.references.len();
