@@ -1,4 +1,5 @@
--- "Averages must respect edits". ds are the durations of a track's samples and zs their sizes; scale is the media's time scale, movie the movie's.
+-- Document 02, Ask 2, "Averages must respect edits". ds are the durations of a track's samples and zs their sizes; scale is the
+-- media's time scale, movie the movie's.
 use Prim.Native.Nat.{ℕ, suc, _+_, _-_, _*_}
 use mathlib.Core.List.{List, [], _∷_, _++_, map}
 use Rattle.lists.specs.Lists.{sum, between, holder}
@@ -37,6 +38,6 @@ covered scale movie ds (e ∷ es) = coveredBy scale movie ds e ++ covered scale 
 abbrev pub addedOver : List ℕ → List Range → ℕ
 addedOver xs rs = sum (map (λ r. between xs (r .from) (r .stop)) rs)
 
--- "8 × all sizes × scale / total" of these samples. "18 also when no entry shows media": the divisor is then 0
+-- document 01: "8 × all sizes × scale / total", of these samples. Document 02: "18 also when no entry shows media": the divisor is then 0
 unfoldable pub averageOver : ℕ → List ℕ → List ℕ → List Range → Feature
 averageOver scale ds zs rs = rateOf (8 * addedOver zs rs * scale) (addedOver ds rs)

@@ -48,7 +48,7 @@ soun = 0x736f756e
 unfoldable pub wholeAverage : Track → Feature
 wholeAverage t = rateOf (8 * sum (t .sizes) * t .scale) (sum (t .durations))
 
--- the same over the samples that the entries of the edit list cover; "Without a list nothing changes". movie is the movie's time scale
+-- the same over the samples that the entries of the edit list cover; document 02: "Without a list nothing changes". movie is the movie's time scale
 unfoldable pub average : ℕ → Track → Feature
 average movie t =
     cond (eqb (length (t .editTable)) 0) (wholeAverage t)

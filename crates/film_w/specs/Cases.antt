@@ -1,4 +1,5 @@
--- The cases of document 01, "Film W", that are "proved as a single theorem over the list of them". The quotes are the document's.
+-- The cases of document 01, "Film W", that are "proved as a single theorem over the list of them", and time 71, the last of entry 1, for
+-- document 02's "position, from 1, of the entry". The quotes are document 01's.
 use Prim.Native.Nat.{ℕ}
 use mathlib.Core.Path.{_≡_}
 use mathlib.Core.Bool.{true}

@@ -1,4 +1,4 @@
--- "Nothing skipped in an edited film", of the answers that movie time to media time, sample at media time and sample n give. k
+-- Document 02, Ask 14, "Nothing skipped in an edited film", of the answers that movie time to media time, sample at media time and sample n give. k
 -- counts the entries of an edit list from 0, t, u and v are movie times, n, p and j are sample numbers.
 use Prim.Native.Nat.{ℕ, suc, _≤_, _<_}
 use mathlib.Core.Path.{_≡_}
@@ -30,7 +30,7 @@ entriesOf s id = edits (elstOf (trackAsked s id))
 abbrev pub entryAt : List ℕ → ℕ → ℕ → Edit
 entryAt s id k = getD (entriesOf s id) k noEntry
 
--- "Entries follow one another from movie time 0": where entry k starts
+-- document 01: "Entries follow one another from movie time 0": where entry k starts
 abbrev pub startAt : List ℕ → ℕ → ℕ → ℕ
 startAt s id k = before (durationsOf (entriesOf s id)) k
 

@@ -69,7 +69,7 @@ at-most s (d ∷ ds) zs v e (suc i) l h = go (leb s (sum (d ∷ ds))) e (λ y f.
         shift (t .0, t .1, omega (arith, t .2, r .4))
     go false f ih = shift (ih v f)
 
--- and where some run gets there, one of them has just that rate
+-- and where that is above 0, a run that gets there has just that rate
 pub attained : (s : ℕ) (ds zs : List ℕ) (v : ℕ) → highest s ds zs ≡ Value v → 0 < v → (i : ℕ) × (i < length ds) × (s ≤ sum (drop i ds)) × (rateAt s ds zs i ≡ Value v)
 attained s [] zs v e p = let z : 0 ≡ v = cc in absurd (omega arith)
 attained s (d ∷ ds) zs v e p = go (leb s (sum (d ∷ ds))) refl e (λ f. attained s ds (drop 1 zs) v f p)

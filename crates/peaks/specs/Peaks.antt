@@ -1,5 +1,5 @@
--- "Highest rate over a second": s is the media's time scale, ds are the durations of the samples from one on, and zs their sizes. Edits are not
--- looked at.
+-- Document 02, Ask 1, "Highest rate over a second": s is the media's time scale, ds are the durations of the samples from one on,
+-- and zs their sizes. Edits are not looked at.
 use Prim.Native.Nat.{ℕ, suc, _*_, max}
 use mathlib.Core.Bool.{Bool, false, cond}
 use mathlib.Core.List.{List, [], _∷_}

@@ -40,7 +40,7 @@ compositionOffset s i = signed32 (getD (perSample s) i 0)
 unfoldable pub sampleAt : List ℕ → ℕ → Lookup
 sampleAt ds t = cond (ltb t (sum ds)) (At (holder ds t)) Outside
 
--- "the position, from 1, of the entry that holds the answered sample": of the sample with index i
+-- document 02: "the position, from 1, of the entry that holds the answered sample": of the sample with index i
 unfoldable pub entryOf : List Run → ℕ → ℕ
 entryOf rs i = suc (holder (map (λ r. r .count) rs) i)
 

@@ -1,5 +1,5 @@
 -- What one pass keeps: the window, which is the run of the sample at its tail, and the best run so far. This need not be believed: it is between the
--- crate's own functions.
+-- crates' own functions.
 use Prim.Native.Nat.{ℕ, suc, _+_, _-_, _*_, _≤_, _<_}
 use mathlib.Core.Path.{_≡_}
 use mathlib.Core.Bool.{Bool, false, cond}
