@@ -129,7 +129,7 @@ fn a_film_kept_in_another_file_is_told_by_track_and_reference() {
             "",
             1,
             "chaldoref: standard input: refused 19: a description names data elsewhere, or no such data reference\n\
-             chaldoref: not proved: track 2 (ID 2), stsd at byte 772: description 1 names data reference 2, of type alis, \
+             chaldoref: not proved: track 2 (ID 2), stsd at byte 772: description 1 names data reference 2, of type 'alis', \
              which is another file\n"
         )
     );

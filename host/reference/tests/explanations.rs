@@ -306,7 +306,8 @@ fn number_19() {
     };
     names(0, 1, b"alis", "0, and references count from 1");
     names(3, 1, b"alis", "3, dref has 2 references");
-    names(2, 0, b"alis", "2, of type alis, which is another file");
+    names(2, 0, b"alis", "2, of type 'alis', which is another file");
+    names(2, 0, b"url ", "2, of type 'url ', which is another file");
     names(2, 2, b"url\0", "2, of type 0x75726C00, which is another file");
     let words = "stsd@: description 1 names data reference 1, dref has 0 references";
     second(|track| track.references = vec![], 19, words);

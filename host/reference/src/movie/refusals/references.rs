@@ -2,11 +2,11 @@
 use crate::movie::fault::{in_tracks, many, Fault};
 use crate::movie::tables::{Movie, TrackTables};
 
-/// The type of a data reference, in hex where it has other than printable characters.
+/// The type of a data reference in quotes, since one is `url` and a blank; in hex where it has other than printable characters.
 fn kind_name(kind: u64) -> String {
     let bytes = u32::try_from(kind).unwrap().to_be_bytes();
     match std::str::from_utf8(&bytes) {
-        Ok(name) if bytes.iter().all(u8::is_ascii_graphic) => name.to_string(),
+        Ok(name) if bytes.iter().all(|byte| byte.is_ascii_graphic() || *byte == b' ') => format!("'{name}'"),
         _ => format!("0x{kind:08X}"),
     }
 }
