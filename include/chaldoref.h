@@ -58,9 +58,9 @@ extern "C" {
 
 /* The version of this header, and of the library that it belongs to. */
 #define CHALDOREF_VERSION_MAJOR 0
-#define CHALDOREF_VERSION_MINOR 1
+#define CHALDOREF_VERSION_MINOR 2
 #define CHALDOREF_VERSION_PATCH 0
-#define CHALDOREF_VERSION "0.1.0"
+#define CHALDOREF_VERSION "0.2.0"
 
 /* The refusals, by their numbers in documents 01 and 02. Of a file the lowest number that
    applies is given, but that 19 is judged after 11 and before 12. */

@@ -1,4 +1,4 @@
-"""Chaldoref: a verified reader of QuickTime movie tables, over the shared library libchaldoref.so.0.
+"""Chaldoref: a verified reader of QuickTime movie tables, over the shared library libchaldoref.so.1.
 
     >>> from chaldoref import Movie, read_slip
     >>> movie = Movie(open("films/two-hoses.mov", "rb").read())
@@ -396,7 +396,7 @@ _PARAMETERS = {
 }
 
 # A call through CDLL lets other threads of Python run, as the library keeps no state.
-_library = ctypes.CDLL("libchaldoref.so.0")
+_library = ctypes.CDLL("libchaldoref.so.1")
 
 
 def _declared(name: str) -> Any:
