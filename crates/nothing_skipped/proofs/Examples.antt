@@ -7,7 +7,7 @@ use mathlib.Core.Bool.{true}
 use mathlib.Core.List.{List, [], _∷_, map}
 use lib.IntN.{pos}
 use Rattle.lists.specs.Lists.{holder}
-use Rattle.edits.specs.Edits.{listOk, mapIn}
+use Rattle.edits.specs.Edits.{editOk, listOk, mapIn}
 use Rattle.edits.specs.declared.Edit.{Edit}
 use Rattle.edits.specs.declared.Mapped.the-variants.{Media, Outside}
 
@@ -19,6 +19,7 @@ shown = refl
 
 -- the list is right, so the film is not refused for it
 right : listOk 2 1 3 list ≡ true
+unfolding editOk
 right = refl
 
 -- the indices, from 0, of the samples at these media times: 1, that of sample 2, is not among them
