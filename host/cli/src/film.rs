@@ -261,12 +261,12 @@ mod tests {
             assert!(differing.clone().all(|(read, _)| *read == 0), "film {n}");
             left_out += differing.count();
             let refused = Movie::open(&whole).err().map_or(0, |refusal| refusal.number());
+            // Nothing is read whole but what is refused for its top level, and files that are empty.
+            assert!(film.file.is_some() || refused == 2 || whole.is_empty(), "film {n}");
             let counts = if film.file.is_some() { &mut by_tables } else { &mut whole_ones };
             counts[refused as usize] += 1;
         }
-        // Nothing is read whole but what is refused 2, and files that are empty.
-        assert!(whole_ones[2] > 500 && whole_ones[3] < 10, "{whole_ones:?}");
-        assert_eq!(whole_ones.iter().sum::<i32>(), whole_ones[2] + whole_ones[3]);
+        assert!(whole_ones[2] > 500, "{whole_ones:?}");
         assert!(by_tables[0] > 500 && by_tables[2] > 100 && by_tables[3] > 200, "{by_tables:?}");
         assert!([4, 5, 6, 7, 8, 9, 10, 12, 13, 19].iter().all(|n| by_tables[*n] > 0), "{by_tables:?}");
         assert!(left_out > 100_000, "{left_out}");
