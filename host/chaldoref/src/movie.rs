@@ -113,9 +113,17 @@ impl<'a> Movie<'a> {
     ///
     /// [`Refusal::NoTrack`]; [`Refusal::Outside`] where the track has no sample `n`.
     pub fn sample_bytes(&self, id: TrackId, n: u32) -> Result<&'a [u8], Refusal> {
+        Ok(self.sample_range(id, n)?.of(self.file).unwrap_or_else(|| broken()))
+    }
+
+    /// Where in the file those bytes are.
+    ///
+    /// # Errors
+    ///
+    /// Those of [`Movie::sample_bytes`].
+    pub fn sample_range(&self, id: TrackId, n: u32) -> Result<ByteRange, Refusal> {
         let [offset, length] = ffi::sample_bytes(self.file, id.0, n)?;
-        let range = ByteRange { offset: promised(offset), length: promised(length) };
-        Ok(range.of(self.file).unwrap_or_else(|| broken()))
+        Ok(ByteRange { offset: promised(offset), length: promised(length) })
     }
 
     /// The sample at a media time: the one with decode time ≤ `t` < decode time plus duration.

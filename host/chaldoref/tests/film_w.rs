@@ -71,6 +71,7 @@ fn samples() {
     for n in [0, 5] {
         assert_eq!(movie.sample(ONE, n), Err(Refusal::Outside));
         assert_eq!(movie.sample_bytes(ONE, n), Err(Refusal::Outside));
+        assert_eq!(movie.sample_range(ONE, n), Err(Refusal::Outside));
     }
 }
 
@@ -81,6 +82,7 @@ fn sample_bytes_are_a_part_of_the_file() {
     // They outlive the movie that was asked, and were not copied.
     assert!(std::ptr::eq(bytes, &file[1100..1150]));
     assert!(std::ptr::eq(opened(&file).sample_bytes(ONE, 3).unwrap(), &file[1150..1150]));
+    assert_eq!([2, 3].map(|n| opened(&file).sample_range(ONE, n)), [Ok(pair(1100, 50)), Ok(pair(1150, 0))]);
 }
 
 #[test]

@@ -1,5 +1,5 @@
-//! The atoms of a film, for the warnings alone: no answer follows from what is found here. Films that are refused have no warnings, so a wrong size
-//! only ends the walk.
+//! The atoms of a film, for the warnings and for what is read of a film: no answer follows from what is found here. Films that are refused have no
+//! warnings, and one with a wrong size at top level is read whole, so a wrong size only ends the walk.
 
 /// An atom's type and its body.
 type Atom<'a> = (&'a [u8], &'a [u8]);
@@ -16,15 +16,21 @@ impl<'a> Iterator for Atoms<'a> {
 
     fn next(&mut self) -> Option<Atom<'a>> {
         let rest = std::mem::take(&mut self.rest);
-        let (header, size) = match number(rest, 0)? {
-            0 if self.top => (8, rest.len()),
-            1 if self.top => (16, usize::try_from(u64::from_be_bytes(*rest.get(8..)?.first_chunk()?)).ok()?),
-            size => (8, size as usize),
-        };
-        let atom = (rest.get(4..8)?, rest.get(header..size)?);
+        let (header, size) = extent(rest, self.top)?;
         self.rest = &rest[size..];
-        Some(atom)
+        Some((&rest[4..8], &rest[header..size]))
     }
+}
+
+/// How many bytes the header of the first of these atoms has, and how many the whole, at top level or inside an atom;
+/// nothing where the size is wrong or passes the end.
+pub fn extent(atoms: &[u8], top: bool) -> Option<(usize, usize)> {
+    let (header, size) = match number(atoms, 0)? {
+        0 if top => (8, atoms.len()),
+        1 if top => (16, usize::try_from(u64::from_be_bytes(*atoms.get(8..)?.first_chunk()?)).ok()?),
+        size => (8, size as usize),
+    };
+    (header <= size && size <= atoms.len()).then_some((header, size))
 }
 
 /// The 32-bit number at a place.

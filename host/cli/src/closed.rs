@@ -1,5 +1,5 @@
 //! Whether standard input and standard output were closed when the program began. Rust's runtime opens /dev/null in their place before main, so this
-//! is asked before the runtime begins. All of the program's unsafe code is here.
+//! is asked before the runtime begins.
 use std::ffi::c_int;
 use std::io;
 use std::sync::atomic::{AtomicBool, Ordering};

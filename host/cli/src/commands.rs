@@ -7,6 +7,7 @@ mod slips;
 
 use crate::args::{Ask, Request};
 use crate::failure::Failure;
+use crate::film::Film;
 use crate::input;
 use crate::json::{document, Object};
 use crate::table::{number, Column};
@@ -70,33 +71,41 @@ pub fn run(request: &Request, name: &OsStr, out: &mut dyn Write) -> Result<(), F
 }
 
 fn answer(request: &Request, name: &OsStr, out: &mut dyn Write) -> Result<(), Failure> {
-    let file = input::read(name).map_err(Failure::Input)?;
-    let movie = || Movie::open(&file).map_err(|refusal| Failure::of_film(&file, refusal));
+    let film = read(&request.ask, name).map_err(Failure::Input)?;
+    let movie = || Movie::open(film.bytes()).map_err(|refusal| Failure::of_film(film.bytes(), refusal));
     // The slip writer reads strictly, so that its refusal of the film is the one to tell.
-    let strictly = |refusal| Failure::of_film(&file, strict_refusal(&file).unwrap_or(refusal));
-    let filed = || Movie::open(&file).map_err(strictly);
+    let strictly = |refusal| Failure::of_film(film.bytes(), strict_refusal(film.bytes()).unwrap_or(refusal));
+    let filed = || Movie::open(film.bytes()).map_err(strictly);
     let to = Answer { out, json: request.json, file: name, beside_others: request.files.len() > 1 };
     match &request.ask {
         Ask::Tracks => questions::tracks(&movie()?, to),
         Ask::Sample { track, n, bytes: false } => questions::sample(&movie()?, *track, *n, to),
-        Ask::Sample { track, n, bytes: true } => questions::sample_bytes(&movie()?, *track, *n, to),
+        Ask::Sample { track, n, bytes: true } => questions::sample_bytes(&film, &movie()?, *track, *n, to),
         Ask::At { track, time } => questions::at(&movie()?, *track, time, to),
         Ask::Map { track, time } => questions::map(&movie()?, *track, *time, to),
         Ask::Features { track, code: None } => features::features(&movie()?, *track, to),
         Ask::Features { track, code: Some(code) } => features::feature(&movie()?, *track, *code, to),
         Ask::Profile { track } => questions::profile(&movie()?, *track, to),
         Ask::Stretch { track, time, bytes: false } => ranges::stretch(&movie()?, *track, time, to),
-        Ask::Stretch { track, time, bytes: true } => ranges::stretch_bytes(&movie()?, *track, time, to),
+        Ask::Stretch { track, time, bytes: true } => ranges::stretch_bytes(&film, &movie()?, *track, time, to),
         Ask::Slip { track, time, out: None } => ranges::slip(&filed()?, *track, time, to),
         Ask::Slip { track, time, out: Some(slip_name) } => {
             let slip = ranges::slip_of(&filed()?, *track, time)?;
             ranges::write_out(&slip, slip_name, name, to)
         }
         Ask::ReadSlip { hex } => {
-            let bytes = if *hex { input::from_hex(&file) } else { input::slip(file) };
+            let bytes = if *hex { input::from_hex(film.bytes()) } else { input::slip(film.into_bytes()) };
             slips::read(&bytes.map_err(Failure::Input)?, to)
         }
         Ask::Check { slips } => check::check(&movie()?, slips, to),
+    }
+}
+
+/// Reads what is asked about. Only a slip is needed whole.
+fn read(ask: &Ask, name: &OsStr) -> io::Result<Film> {
+    match ask {
+        Ask::ReadSlip { .. } => Film::read_whole(name),
+        _ => Film::read(name),
     }
 }
 

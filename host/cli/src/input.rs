@@ -10,7 +10,7 @@ use std::os::fd::AsFd;
 pub const STANDARD: &str = "-";
 
 /// One byte more than is accepted, so that a file that is too long is refused for its length.
-const MOST_BYTES: u64 = MAX_FILE_BYTES + 1;
+pub const MOST_BYTES: u64 = MAX_FILE_BYTES + 1;
 
 /// What a file to be read is called in messages.
 pub fn called(name: &OsStr) -> String {
@@ -33,10 +33,14 @@ pub fn shown(word: &OsStr) -> String {
     word.to_string_lossy().replace(char::is_control, "?")
 }
 
-/// All bytes of a file, or the first ones of a file that is too long. They are read into one buffer, which is made for
-/// the length that the system tells, if it does, so that it need not grow.
+/// All bytes of a file, or the first ones of a file that is too long.
 pub fn read(name: &OsStr) -> io::Result<Vec<u8>> {
-    let file = open(name)?;
+    all(open(name)?)
+}
+
+/// The same of a file that is open. They are read into one buffer, which is made for the length that the system tells,
+/// if it does, so that it need not grow.
+pub fn all(file: File) -> io::Result<Vec<u8>> {
     let length = file.metadata()?.len().min(MOST_BYTES);
     let mut bytes = Vec::new();
     bytes.try_reserve_exact(usize::try_from(length).unwrap_or(usize::MAX))?;
@@ -44,7 +48,7 @@ pub fn read(name: &OsStr) -> io::Result<Vec<u8>> {
     Ok(bytes)
 }
 
-fn open(name: &OsStr) -> io::Result<File> {
+pub fn open(name: &OsStr) -> io::Result<File> {
     if name == STANDARD {
         if closed::input() {
             return Err(closed::error());

@@ -12,6 +12,7 @@ mod explain;
 mod failure;
 mod fault;
 mod filed;
+mod film;
 mod help;
 mod input;
 mod json;
@@ -21,6 +22,8 @@ mod syntax;
 mod table;
 mod time;
 mod warnings;
+#[allow(unsafe_code)]
+mod zeros;
 
 use args::{Parsed, Request};
 use failure::{worse, Failure, SUCCESS};

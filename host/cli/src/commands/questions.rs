@@ -1,6 +1,7 @@
 //! Tracks, samples, times and profiles.
 use super::{scale, Answer, CLOCK};
 use crate::failure::Failure;
+use crate::film::Film;
 use crate::json::{Object, Value};
 use crate::table::{self, number, text};
 use crate::time::{clock, Time};
@@ -73,8 +74,8 @@ pub fn sample(movie: &Movie, track: TrackId, n: u32, to: Answer) -> Result<(), F
     Ok(table::write(to.out, columns, &[row], |row| row.clone())?)
 }
 
-pub fn sample_bytes(movie: &Movie, track: TrackId, n: u32, to: Answer) -> Result<(), Failure> {
-    Ok(to.out.write_all(movie.sample_bytes(track, n)?)?)
+pub fn sample_bytes(film: &Film, movie: &Movie, track: TrackId, n: u32, to: Answer) -> Result<(), Failure> {
+    film.copy(&[movie.sample_range(track, n)?], to.out)
 }
 
 pub fn at(movie: &Movie, track: TrackId, time: &Time, to: Answer) -> Result<(), Failure> {

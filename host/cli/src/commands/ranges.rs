@@ -1,6 +1,7 @@
 //! Stretches of film as byte ranges, and the slips written of them.
 use super::{scale, Answer};
 use crate::failure::Failure;
+use crate::film::Film;
 use crate::input::{self, STANDARD};
 use crate::json::{Object, Value};
 use crate::output;
@@ -31,15 +32,11 @@ pub fn stretch(movie: &Movie, track: TrackId, span: &Span, to: Answer) -> Result
 }
 
 /// The film's own bytes, range after range.
-pub fn stretch_bytes(movie: &Movie, track: TrackId, span: &Span, to: Answer) -> Result<(), Failure> {
+pub fn stretch_bytes(film: &Film, movie: &Movie, track: TrackId, span: &Span, to: Answer) -> Result<(), Failure> {
     let (time, stretch) = span.ask(movie, track, |time| movie.stretch(track, time))?;
     tell_units(movie, track, span, &time)?;
     warnings::tell(&warnings::of_stretch(movie.file(), track));
-    for pair in stretch.pairs {
-        // A film in which a chunk passes the end is refused 12.
-        to.out.write_all(pair.of(movie.file()).expect("the ranges of a stretch lie within its film"))?;
-    }
-    Ok(())
+    film.copy(&stretch.pairs, to.out)
 }
 
 pub fn slip(movie: &Movie, track: TrackId, span: &Span, to: Answer) -> Result<(), Failure> {
