@@ -6,7 +6,7 @@
 use super::features::{computed, peak_of};
 use super::refusals::{in_media_scale, read, read_strictly};
 use super::tables::{Movie, Record, Sample, Track};
-use crate::slip::writing;
+use crate::slip::{slip_writing, Head};
 
 pub const NO_TRACK: u32 = 14;
 pub const OUTSIDE: u32 = 15;
@@ -149,14 +149,11 @@ impl Movie {
 
     /// "1 (the form), track ID, scale, a, b, number of pairs, pairs"; "Slip writing takes a stretch question." Asked of a movie that was read strictly.
     pub fn slip(&self, id: u32, a: u32, b: u32) -> Result<Vec<u8>, u32> {
-        let stretch = self.stretch(id, u64::from(a), u64::from(b))?;
+        let (a, b) = (u64::from(a), u64::from(b));
+        let pairs = self.stretch(id, a, b)?.pairs;
         let scale = self.track(id)?.tables.scale;
-        let count = u64::try_from(stretch.pairs.len()).unwrap();
-        let mut numbers = vec![1, u64::from(id), scale, u64::from(a), u64::from(b), count];
-        for (offset, length) in stretch.pairs {
-            numbers.extend([offset, length]);
-        }
-        Ok(numbers.into_iter().flat_map(|n| writing(u128::from(n))).collect())
+        let count = u64::try_from(pairs.len()).unwrap();
+        Ok(slip_writing(Head { id: u64::from(id), scale, a, b, pairs: count }, &pairs))
     }
 }
 
