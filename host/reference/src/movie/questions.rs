@@ -171,7 +171,7 @@ fn fill<N: TryFrom<u64, Error: Debug>>(room: &mut [N], list: &[u64]) -> Result<(
 }
 
 /// The number, and zeros with it where something is refused.
-fn answered<T: Default>(answer: Result<T, u32>) -> (u32, T) {
+pub fn answered<T: Default>(answer: Result<T, u32>) -> (u32, T) {
     match answer {
         Ok(numbers) => (0, numbers),
         Err(number) => (number, T::default()),
