@@ -35,16 +35,16 @@ impl<T: AsRef<[u8]> + ?Sized> Film for T {
 }
 
 /// "A second way in takes the moov atom alone in lent bytes ... with the file's length as a number".
-#[derive(Clone, Copy, Debug)]
-pub struct MoovAlone<'f> {
-    pub moov: &'f [u8],
+#[derive(Clone, Copy, Debug, PartialEq)]
+pub struct MoovAlone<B> {
+    pub moov: B,
     pub length: u64,
 }
 
-impl Film for MoovAlone<'_> {
+impl<B: AsRef<[u8]>> Film for MoovAlone<B> {
     type Number = u64;
 
     fn lent(&self) -> Lent<'_> {
-        Lent { bytes: self.moov, length: self.length, way: Way::MoovAlone }
+        Lent { bytes: self.moov.as_ref(), length: self.length, way: Way::MoovAlone }
     }
 }

@@ -61,7 +61,7 @@ pub struct Sample {
 }
 
 /// The tables of a track as they stand in the file. The sizes are N numbers, also where there is a common size.
-#[derive(Clone, Debug)]
+#[derive(Clone, Debug, PartialEq)]
 pub struct TrackTables {
     pub id: u64,
     pub subtype: u64,
@@ -95,7 +95,7 @@ pub struct MovieTables {
 }
 
 /// A track whose tables do not contradict each other, with its samples and chunks written out.
-#[derive(Clone, Debug)]
+#[derive(Clone, Debug, PartialEq)]
 pub struct Track {
     pub tables: TrackTables,
     pub samples: Vec<Sample>,
@@ -105,7 +105,7 @@ pub struct Track {
 }
 
 /// A movie of such tracks.
-#[derive(Clone, Debug)]
+#[derive(Clone, Debug, PartialEq)]
 pub struct Movie {
     pub scale: u64,
     pub profile: Option<Vec<Record>>,
