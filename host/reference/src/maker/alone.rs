@@ -85,7 +85,7 @@ fn place_chunks(random: &mut Random, moov: &mut Node, track: usize, bytes: &[u64
     end
 }
 
-/// Both tables, neither, one twice, one named as the other, or an empty one.
+/// Both tables, neither, one twice, an empty one beside it, one named as the other, or of another version.
 fn spoil_offset_tables(random: &mut Random, film: &mut Node) {
     let mut stbls = containers(film);
     stbls.retain(|place| at(film, place).kind == *b"stbl");
