@@ -268,6 +268,13 @@ pub fn stco(offsets: &[u32]) -> Node {
     table("stco", offsets.len(), offsets)
 }
 
+/// The table in place of stco whose offsets have 64 bits.
+pub fn co64(offsets: &[u64]) -> Node {
+    let mut node = table("co64", offsets.len(), &[]);
+    node.body.extend(offsets.iter().flat_map(|offset| offset.to_be_bytes()));
+    node
+}
+
 pub fn stss(samples: &[u32]) -> Node {
     table("stss", samples.len(), samples)
 }

@@ -1,5 +1,6 @@
 //! Films and slips for comparing the library with the reference, each following from a seed alone: valid ones of every kind, ones that cross a rule
 //! of document 01 by a little or just don't, ones with several faults, and ones damaged at random. What a film is refused for, the reference says.
+pub mod alone;
 pub mod damage;
 pub mod dressing;
 pub mod edits;
@@ -100,7 +101,12 @@ pub fn film(random: &mut Random) -> Vec<u8> {
         return any_bytes(random);
     }
     let faults = faults(random);
-    let mut film = if random.once_in(100) { near_w(random) } else { tables_with(random, &faults) };
+    let film = if random.once_in(100) { near_w(random) } else { tables_with(random, &faults) };
+    spoiled_bytes(random, film, &faults)
+}
+
+/// The bytes of a film that is laid out, with the faults that do not ask for its tables.
+fn spoiled_bytes(random: &mut Random, mut film: Node, faults: &Faults) -> Vec<u8> {
     for _ in 0..faults.tree {
         if random.once_in(2) {
             tree::spoil_size(random, &mut film);

@@ -1,5 +1,5 @@
 //! The movie, from document 01: the atom tree, the refusals of a file, the sample tables, the questions and the features; from document 02 the
-//! highest rate over a second, strict reading, the entries looked at and the averages with edits.
+//! highest rate over a second, strict reading, the entries looked at, the averages with edits, the moov lent alone and stepping.
 //!
 //! Nothing here is quick or clever. The tree is built whole, each refusal is a function of its own, and the tables
 //! are written out sample by sample before a question is asked. Sums are taken in 64 and 128 bits, where nothing wraps.
@@ -7,15 +7,19 @@ pub mod atoms;
 pub mod explain;
 pub mod fault;
 pub mod features;
+pub mod lent;
 pub mod peaks;
 pub mod questions;
 pub mod refusals;
+pub mod steps;
 pub mod tables;
 
 pub use explain::{explain, explain_strictly};
+pub use lent::{Film, MoovAlone};
 pub use questions::{
     feature, listing, media_time, peak, sample, sample_at, sample_bytes, stored_profile, stretch, track_list,
     write_slip, MediaTime,
 };
 pub use refusals::{refusal, strict_refusal};
+pub use steps::{start_at, step, Position, Step};
 pub use tables::Sample;

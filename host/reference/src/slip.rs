@@ -1,10 +1,23 @@
-//! The slip, from document 01, "The slip", and document 02, Ask 5.
+//! The slip, from document 01, "The slip", and document 02, Asks 5 and 9.
 //!
 //! Nothing here is quick or clever: the bytes are cut into pieces after each byte without the top bit, each piece is
 //! compared with the writing of the number that it counts, and each number is asked for its rule.
 
-/// Numbers of a slip are below this.
+/// Numbers of a slip of form 1 are below this.
 pub const LIMIT: u128 = 1 << 32;
+
+/// Which numbers a form has: those below a limit, which are written in so many bytes at most.
+#[derive(Clone, Copy, Debug, PartialEq)]
+pub struct Width {
+    pub limit: u128,
+    pub most_bytes: usize,
+}
+
+/// "is 2^32 or more, has the top bit set on its fifth byte"
+pub const FORM_1: Width = Width { limit: LIMIT, most_bytes: 5 };
+
+/// "form 2 has numbers below 2^64 in up to ten bytes"; "Ask 5's 2^32 and fifth byte become 2^64 and tenth"
+pub const FORM_2: Width = Width { limit: 1 << 64, most_bytes: 10 };
 
 /// The most pairs that a slip may have.
 pub const MOST_PAIRS: u128 = 1_048_576;
@@ -43,15 +56,20 @@ pub fn cut(bytes: &[u8]) -> (Vec<Vec<u8>>, Vec<u8>) {
     (pieces, piece)
 }
 
-/// The number below 2^32 whose writing a piece is, if it is one's.
+/// The number of form 1 whose writing a piece is, if it is one's.
 pub fn value(piece: &[u8]) -> Option<u128> {
+    value_within(FORM_1, piece)
+}
+
+/// The number of that width whose writing a piece is, if it is one's.
+pub fn value_within(width: Width, piece: &[u8]) -> Option<u128> {
     let mut sum: u128 = 0;
     let mut unit: u128 = 1;
     for byte in piece.iter().take(18) {
         sum += unit * u128::from(byte % 128);
         unit *= 128;
     }
-    if sum < LIMIT && writing(sum) == piece {
+    if sum < width.limit && writing(sum) == piece {
         Some(sum)
     } else {
         None
@@ -69,18 +87,23 @@ pub enum Number {
     Short(usize),
 }
 
-/// The number at a place. No byte mends five that have the top bit set, so they are broken and not cut short.
+/// The number of form 1 at a place.
 pub fn number_at(bytes: &[u8], at: usize) -> Number {
+    number_within(FORM_1, bytes, at)
+}
+
+/// The number of that width at a place. No byte mends the most bytes if all have the top bit set, so they are broken and not cut short.
+pub fn number_within(width: Width, bytes: &[u8], at: usize) -> Number {
     if at >= bytes.len() {
         return Number::Short(bytes.len());
     }
     let (pieces, remaining) = cut(&bytes[at..]);
     match pieces.first() {
-        Some(piece) => match value(piece) {
+        Some(piece) => match value_within(width, piece) {
             Some(n) => Number::Good(n, at + piece.len()),
             None => Number::Broken(at),
         },
-        None if remaining.len() >= 5 => Number::Broken(at),
+        None if remaining.len() >= width.most_bytes => Number::Broken(at),
         None => Number::Short(bytes.len()),
     }
 }
@@ -92,9 +115,14 @@ pub struct Cursor {
     pub count: u64,
 }
 
-/// What stands at a cursor, and the cursor after it: past a good number, and otherwise the same.
+/// What stands at a cursor, as a number of form 1, and the cursor after it: past a good number, and otherwise the same.
 pub fn next_number(bytes: &[u8], cursor: Cursor) -> (Number, Cursor) {
-    let read = number_at(bytes, cursor.at);
+    next_within(FORM_1, bytes, cursor)
+}
+
+/// The same for numbers of that width.
+pub fn next_within(width: Width, bytes: &[u8], cursor: Cursor) -> (Number, Cursor) {
+    let read = number_within(width, bytes, cursor.at);
     let after = match read {
         Number::Good(_, past) => Cursor { at: past, count: cursor.count.saturating_add(1) },
         _ => cursor,
@@ -102,21 +130,21 @@ pub fn next_number(bytes: &[u8], cursor: Cursor) -> (Number, Cursor) {
     (read, after)
 }
 
-/// A slip's numbers without its pairs.
+/// A slip's numbers without its pairs, of 32 bits or, as the reader of both forms answers them, of 64.
 #[derive(Clone, Copy, Debug, PartialEq, Default)]
-pub struct Head {
-    pub id: u32,
-    pub scale: u32,
-    pub a: u32,
-    pub b: u32,
-    pub pairs: u32,
+pub struct Head<N = u32> {
+    pub id: N,
+    pub scale: N,
+    pub a: N,
+    pub b: N,
+    pub pairs: N,
 }
 
-/// Whether a number keeps document 01's rule for it. So many stand before it in the slip, the form first.
+/// Whether a number keeps document 01's rule for it, where the form may be up to the last. So many stand before it in the slip, the form first.
 /// "the form is 1, ID and scale are not 0, a < b, there are 1 to 1,048,576 pairs"
-fn keeps(before: &[u128], n: u128) -> bool {
+fn keeps(last_form: u128, before: &[u128], n: u128) -> bool {
     match before.len() {
-        0 => n == 1,
+        0 => (1..=last_form).contains(&n),
         1 | 2 => n != 0,
         // "b at or below a is b's fault"
         4 => n > before[3],
@@ -130,46 +158,91 @@ fn all_there(numbers: &[u128]) -> bool {
     numbers.len() >= 6 && u128::try_from(numbers.len()).unwrap() == 6 + 2 * numbers[5]
 }
 
-/// Every number of a slip, in order, the form first; or the place of its first fault, from left to right: "the first byte of the first number
-/// that breaks a rule, the slip's length if it ends early, or the first surplus byte".
-fn accepted(bytes: &[u8]) -> Result<Vec<u128>, usize> {
+/// The width of the number after these. "The form itself is always read by form 1's limits"
+fn width_after(before: &[u128]) -> Width {
+    match before.first() {
+        Some(2) => FORM_2,
+        _ => FORM_1,
+    }
+}
+
+/// The form in which numbers are written. "It is written only if some number is 2^32 or more"
+fn form_for(numbers: &[u128]) -> u128 {
+    if numbers.iter().any(|n| *n >= LIMIT) {
+        2
+    } else {
+        1
+    }
+}
+
+/// Every number of a slip whose form is up to the last, in order, the form first; or the place of its first fault, from left to right: "the first
+/// byte of the first number that breaks a rule, the slip's length if it ends early, or the first surplus byte".
+fn accepted(last_form: u128, bytes: &[u8]) -> Result<Vec<u128>, usize> {
     let (pieces, remaining) = cut(bytes);
     let mut numbers = Vec::new();
     let mut place = 0;
     for piece in &pieces {
-        match value(piece) {
-            Some(n) if !all_there(&numbers) && keeps(&numbers, n) => numbers.push(n),
+        match value_within(width_after(&numbers), piece) {
+            Some(n) if !all_there(&numbers) && keeps(last_form, &numbers, n) => numbers.push(n),
             // A surplus byte, a number that is not so written, or one that breaks its rule.
             _ => return Err(place),
         }
         place += piece.len();
     }
     match (all_there(&numbers), remaining.len()) {
+        // "without one it is malformed at place 0, if no other rule is broken"
+        (true, 0) if numbers[0] != form_for(&numbers) => Err(0),
         (true, 0) => Ok(numbers),
-        // "the first surplus byte"; "has the top bit set on its fifth byte"
-        (true, _) | (false, 5..) => Err(place),
+        // "the first surplus byte"
+        (true, _) => Err(place),
+        // "has the top bit set on its fifth byte"
+        (false, length) if length >= width_after(&numbers).most_bytes => Err(place),
         // "the slip's length if it ends early"
         (false, _) => Err(bytes.len()),
     }
 }
 
-/// Reads a slip. Answers the refusal, 0 for none; the numbers after the form, 0 on refusal; and the place, 0 but with 17. The pairs go to the room.
-/// "in slip reading 17, then 16"; "lent buffers keep their contents"; "an accepted answer fills the first places and leaves the rest".
-pub fn read_slip(bytes: &[u8], room: &mut [u32]) -> (u32, Head, usize) {
-    let numbers = match accepted(bytes) {
+/// Reads a slip whose form is up to the last. "in slip reading 17, then 16"; "lent buffers keep their contents"; "an accepted answer fills the first
+/// places and leaves the rest".
+fn read_up_to<N>(last_form: u128, bytes: &[u8], room: &mut [N]) -> (u32, Head<N>, usize)
+where
+    N: TryFrom<u128, Error: std::fmt::Debug> + Copy + Default,
+{
+    let numbers = match accepted(last_form, bytes) {
         Ok(numbers) => numbers,
         Err(place) => return (MALFORMED, Head::default(), place),
     };
-    let mut short = Vec::new();
+    let mut answered = Vec::new();
     for n in numbers {
-        short.push(u32::try_from(n).unwrap());
+        answered.push(N::try_from(n).unwrap());
     }
-    let pairs = &short[6..];
+    let pairs = &answered[6..];
     if room.len() < pairs.len() {
         return (NO_ROOM, Head::default(), 0);
     }
     room[..pairs.len()].copy_from_slice(pairs);
-    (0, Head { id: short[1], scale: short[2], a: short[3], b: short[4], pairs: short[5] }, 0)
+    (0, Head { id: answered[1], scale: answered[2], a: answered[3], b: answered[4], pairs: answered[5] }, 0)
+}
+
+/// Reads a slip of form 1. Answers the refusal, 0 for none; the numbers after the form, 0 on refusal; and the place, 0 but with 17. The pairs go to
+/// the room. "the old reader refuses form 2 by 17"
+pub fn read_slip(bytes: &[u8], room: &mut [u32]) -> (u32, Head, usize) {
+    read_up_to(1, bytes, room)
+}
+
+/// The same for a slip of form 1 or 2. "The new reader gives for a form 1 slip what the old one gave"
+pub fn read_any_slip(bytes: &[u8], room: &mut [u64]) -> (u32, Head<u64>, usize) {
+    read_up_to(2, bytes, room)
+}
+
+/// The slip of these numbers, in the form that they need: "every set of numbers still has a single slip".
+pub fn slip_writing(head: Head<u64>, pairs: &[(u64, u64)]) -> Vec<u8> {
+    let mut numbers = [head.id, head.scale, head.a, head.b, head.pairs].map(u128::from).to_vec();
+    for (offset, length) in pairs {
+        numbers.extend([*offset, *length].map(u128::from));
+    }
+    numbers.insert(0, form_for(&numbers));
+    numbers.into_iter().flat_map(writing).collect()
 }
 
 /// Stores bytes at a place where they fit whole and answers the place past them; otherwise stores none and answers the place.

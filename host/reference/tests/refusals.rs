@@ -158,7 +158,7 @@ fn number_6() {
             ctts: None,
             stsc: leaf(stsc(&[])),
             stsz: leaf(stsz(&Sizes::Common(1, 0))),
-            stco: leaf(stco(&vec![0; usize::try_from(n).unwrap()])),
+            chunk_offsets: leaf(stco(&vec![0; usize::try_from(n).unwrap()])),
             stss: None,
         };
         MovieLeaves { moov: Place { kind: *b"moov", at: 0 }, prfl: None, mvhd: leaf(mvhd(1, 1)), tracks: vec![track] }

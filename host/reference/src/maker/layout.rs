@@ -46,7 +46,7 @@ fn laid_out(random: &mut Random, moov: Node, bytes: usize) -> Node {
 }
 
 /// Where a chunk of so many bytes may begin in a file of that length: one after another, anywhere, at the beginning, or just before the end.
-fn offset(random: &mut Random, style: usize, bytes: u64, length: u64, next: &mut u64) -> u64 {
+pub fn offset(random: &mut Random, style: usize, bytes: u64, length: u64, next: &mut u64) -> u64 {
     let last = length.saturating_sub(bytes);
     let in_order = (*next).min(last);
     *next = in_order + bytes;

@@ -9,6 +9,23 @@ fn number(random: &mut Random) -> u32 {
     random.one(&[0, 1, 127, end - 1, end, u32::MAX, any, any >> 16])
 }
 
+/// A number of form 2, at an end or any, and as often one that form 1 has too.
+fn wide_number(random: &mut Random) -> u64 {
+    let end = 1 << random.one(&[32, 35, 42, 49, 56, 63]);
+    let (narrow, any) = (u64::from(number(random)), random.bits());
+    random.one(&[narrow, narrow, narrow, end - 1, end, u64::MAX, any])
+}
+
+/// The numbers of a slip of form 2, the form first. It is accepted if one of them is great.
+fn wide_numbers(random: &mut Random) -> Vec<u64> {
+    let pairs = 1 + random.below(4);
+    let (id, scale, b) = (wide_number(random).max(1), wide_number(random).max(1), wide_number(random).max(1));
+    let a = random.bits() % b;
+    let mut list = vec![2, id, scale, random.one(&[a, 0, b - 1]), b, u64::try_from(pairs).unwrap()];
+    list.extend((0..2 * pairs).map(|_| wide_number(random)));
+    list
+}
+
 /// The numbers of a slip that is accepted, the form first.
 fn numbers(random: &mut Random) -> Vec<u64> {
     let pairs = if random.once_in(20) { 127 + random.below(3) } else { 1 + random.below(5) };
@@ -29,7 +46,7 @@ fn spoil_numbers(random: &mut Random, list: &mut Vec<u64>) {
         0 => list[0] = random.one(&[0, 2, 127, 129, 1 << 31]),
         1 => list[1] = 0,
         2 => list[2] = 0,
-        3 => list[3] = random.one(&[list[4], list[4] + 1]),
+        3 => list[3] = random.one(&[list[4], list[4].saturating_add(1)]),
         4 => list[4] = random.one(&[0, list[3], list[3] + 1]),
         5 => list[5] = random.one(&[0, list[5] + 1, list[5] - 1, most, most + 1, list[5] + (1 << 31), (1 << 32) - 1]),
         6 => list.truncate(random.below(list.len())),
@@ -40,7 +57,7 @@ fn spoil_numbers(random: &mut Random, list: &mut Vec<u64>) {
     }
 }
 
-/// A number that is not written as it should be: with a group too many, or not below 2^32.
+/// A number that is not written as it should be: with a group too many, or not below 2^32; in form 2 that may be right.
 fn wrong_writing(random: &mut Random, n: u64) -> Vec<u8> {
     let mut bytes = writing(u128::from(n));
     match random.below(4) {
@@ -49,7 +66,10 @@ fn wrong_writing(random: &mut Random, n: u64) -> Vec<u8> {
             bytes.extend(vec![128; random.one(&[0, 0, 1, 3, 5])]);
             bytes.push(0);
         }
-        1 => bytes = writing(u128::from(random.one(&[1 << 32, (1 << 32) + 1, (1 << 32) + n, (1 << 35) - 1, 1 << 35]))),
+        1 => {
+            let above = n.saturating_add(1 << 32);
+            bytes = writing(u128::from(random.one(&[1 << 32, (1 << 32) + 1, above, (1 << 35) - 1, 1 << 35])));
+        }
         2 => bytes = vec![random.one(&[128, 255, 129]); random.one(&[4, 5, 6, 10])],
         _ => bytes = writing(u128::from(random.one(&[1 << 42, 1 << 63, u64::MAX])) << random.one(&[0, 1, 40])),
     }
@@ -58,6 +78,15 @@ fn wrong_writing(random: &mut Random, n: u64) -> Vec<u8> {
 
 /// A slip: as it should be, with wrong numbers, with a number wrongly written, cut short, with surplus bytes, or any bytes.
 pub fn slip(random: &mut Random) -> Vec<u8> {
+    slip_with(random, numbers)
+}
+
+/// The same in form 2.
+pub fn wide_slip(random: &mut Random) -> Vec<u8> {
+    slip_with(random, wide_numbers)
+}
+
+fn slip_with(random: &mut Random, numbers: fn(&mut Random) -> Vec<u64>) -> Vec<u8> {
     let which = random.below(10);
     let mut list = numbers(random);
     if which == 0 || which == 1 {

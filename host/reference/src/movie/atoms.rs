@@ -154,9 +154,14 @@ impl Leaf {
         8 + u64::try_from(self.body.len()).unwrap()
     }
 
-    /// The number of 32 bits at a place. "Offsets count from the atom's first byte".
+    /// The number of so many bytes at a place. "Offsets count from the atom's first byte".
+    pub fn number_of(&self, width: usize, at: usize) -> u64 {
+        big_endian(&self.body, at - 8, width)
+    }
+
+    /// The number of 32 bits at a place.
     pub fn number(&self, at: usize) -> u64 {
-        big_endian(&self.body, at - 8, 4)
+        self.number_of(4, at)
     }
 
     /// The same bits as a signed number.
@@ -171,7 +176,7 @@ impl Leaf {
 
     /// The number of 16 bits at a place.
     pub fn short(&self, at: usize) -> u64 {
-        big_endian(&self.body, at - 8, 2)
+        self.number_of(2, at)
     }
 }
 
@@ -189,15 +194,17 @@ pub struct TrackLeaves {
     pub ctts: Option<Leaf>,
     pub stsc: Leaf,
     pub stsz: Leaf,
-    pub stco: Leaf,
+    /// stco, or the co64 in its place.
+    pub chunk_offsets: Leaf,
     pub stss: Option<Leaf>,
 }
 
 impl TrackLeaves {
     /// The read leaves.
     pub fn read(&self) -> Vec<&Leaf> {
-        let TrackLeaves { prfl: _, tkhd, elst, mdhd, hdlr, dref, stsd, stts, ctts, stsc, stsz, stco, stss } = self;
-        let mut all = vec![tkhd, mdhd, hdlr, dref, stsd, stts, stsc, stsz, stco];
+        let TrackLeaves { prfl: _, tkhd, elst, mdhd, hdlr, dref, stsd, stts, ctts, stsc, stsz, chunk_offsets, stss } =
+            self;
+        let mut all = vec![tkhd, mdhd, hdlr, dref, stsd, stts, stsc, stsz, chunk_offsets];
         for optional in [elst, ctts, stss] {
             all.extend(optional);
         }
@@ -259,7 +266,8 @@ fn track(trak: &Atom) -> Option<TrackLeaves> {
         ctts: one(stbl, b"ctts").map(leaf),
         stsc: leaf(one(stbl, b"stsc")?),
         stsz: leaf(one(stbl, b"stsz")?),
-        stco: leaf(one(stbl, b"stco")?),
+        // A whole file has one stco. Document 02: "Chunk offsets may then come from 'co64' ... in place of stco, exactly one of the two".
+        chunk_offsets: leaf(one(stbl, b"stco").or_else(|| one(stbl, b"co64"))?),
         stss: one(stbl, b"stss").map(leaf),
     })
 }

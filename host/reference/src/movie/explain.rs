@@ -2,6 +2,7 @@
 //! refusals, in their order.
 use super::atoms::{visit, TOP};
 use super::fault::Refused;
+use super::lent::Film;
 use super::refusals::{read_movie, read_tables, Reading};
 
 /// The reference writes all out, and takes some 64 bytes for each atom and each sample, which a file can state in far fewer. No film of a few days
@@ -58,7 +59,8 @@ fn explain_as(file: &[u8], reading: Reading) -> Option<Refused> {
     if seen.atoms > MOST_ATOMS || seen.moov_bytes > MOST_MOOV_BYTES {
         return None;
     }
-    let (found, tables) = match read_tables(file) {
+    let film = file.lent();
+    let (found, tables) = match read_tables(film) {
         Ok(read) => read,
         Err(refused @ (2..=3, _)) if !seen.is_movie => return Some(of_no_movie(file, refused)),
         Err(refused) => return Some(refused),
@@ -66,5 +68,5 @@ fn explain_as(file: &[u8], reading: Reading) -> Option<Refused> {
     if tables.tracks.iter().map(|track| track.sizes.len()).sum::<usize>() > MOST_SAMPLES {
         return None;
     }
-    read_movie(&found, tables, file.len(), reading).err()
+    read_movie(&found, tables, film.length, reading).err()
 }

@@ -57,6 +57,11 @@ pub fn trak_name(at: usize, trak: &Atom) -> String {
     track_name(at, tkhd.map_or(&[], |tkhd| tkhd.body))
 }
 
+/// The four characters of an atom's type.
+pub fn name(kind: &[u8; 4]) -> String {
+    String::from_utf8_lossy(kind).into_owned()
+}
+
 /// So many things.
 pub fn many(n: u64, one: &str, more: &str) -> String {
     format!("{n} {}", if n == 1 { one } else { more })

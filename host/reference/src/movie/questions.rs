@@ -1,12 +1,14 @@
 //! "Questions": each takes the file and, except the track list, a track ID.
 //!
 //! "Order: file refusal, 14, 15 or 18, then 16". The questions of a `Movie` answer a number or what is asked. The public functions below
-//! take the file and answer the number, 0 for none, and the numbers asked: "Numbers returned with a refusal are all 0 and lent buffers keep
-//! their contents. An accepted answer fills the first places and leaves the rest."
+//! take the film, lent in either way, and answer the number, 0 for none, and the numbers asked: "Numbers returned with a refusal are all 0 and
+//! lent buffers keep their contents. An accepted answer fills the first places and leaves the rest."
 use super::features::{computed, peak_of};
+use super::lent::Film;
 use super::refusals::{in_media_scale, read, read_strictly};
 use super::tables::{Movie, Record, Sample, Track};
-use crate::slip::writing;
+use crate::slip::{slip_writing, Head};
+use std::fmt::Debug;
 
 pub const NO_TRACK: u32 = 14;
 pub const OUTSIDE: u32 = 15;
@@ -53,7 +55,7 @@ impl Movie {
         for track in &self.tracks {
             let tables = &track.tables;
             let edits = tables.edits.as_ref().map_or(0, |edits| edits.len());
-            let (n, c) = (tables.sizes.len(), tables.stco.len());
+            let (n, c) = (tables.sizes.len(), tables.chunk_offsets.len());
             let stored = tables.mdhd_duration;
             list.push([tables.id, tables.subtype, tables.scale, track.total, long(n), long(c), long(edits), stored]);
         }
@@ -149,30 +151,27 @@ impl Movie {
 
     /// "1 (the form), track ID, scale, a, b, number of pairs, pairs"; "Slip writing takes a stretch question." Asked of a movie that was read strictly.
     pub fn slip(&self, id: u32, a: u32, b: u32) -> Result<Vec<u8>, u32> {
-        let stretch = self.stretch(id, u64::from(a), u64::from(b))?;
+        let (a, b) = (u64::from(a), u64::from(b));
+        let pairs = self.stretch(id, a, b)?.pairs;
         let scale = self.track(id)?.tables.scale;
-        let count = u64::try_from(stretch.pairs.len()).unwrap();
-        let mut numbers = vec![1, u64::from(id), scale, u64::from(a), u64::from(b), count];
-        for (offset, length) in stretch.pairs {
-            numbers.extend([offset, length]);
-        }
-        Ok(numbers.into_iter().flat_map(|n| writing(u128::from(n))).collect())
+        let count = u64::try_from(pairs.len()).unwrap();
+        Ok(slip_writing(Head { id: u64::from(id), scale, a, b, pairs: count }, &pairs))
     }
 }
 
 /// A list in the first places of the lent numbers. "the lent room is shorter than the answer"
-fn fill(room: &mut [u32], list: &[u64]) -> Result<(), u32> {
+fn fill<N: TryFrom<u64, Error: Debug>>(room: &mut [N], list: &[u64]) -> Result<(), u32> {
     if room.len() < list.len() {
         return Err(NO_ROOM);
     }
     for (place, n) in room.iter_mut().zip(list) {
-        *place = u32::try_from(*n).unwrap();
+        *place = N::try_from(*n).unwrap();
     }
     Ok(())
 }
 
 /// The number, and zeros with it where something is refused.
-fn answered<T: Default>(answer: Result<T, u32>) -> (u32, T) {
+pub fn answered<T: Default>(answer: Result<T, u32>) -> (u32, T) {
     match answer {
         Ok(numbers) => (0, numbers),
         Err(number) => (number, T::default()),
@@ -180,31 +179,31 @@ fn answered<T: Default>(answer: Result<T, u32>) -> (u32, T) {
 }
 
 /// The count of tracks.
-pub fn track_list(file: &[u8], room: &mut [u32]) -> (u32, u64) {
-    answered(read(file).and_then(|movie| {
+pub fn track_list(film: &(impl Film + ?Sized), room: &mut [u32]) -> (u32, u64) {
+    answered(read(film).and_then(|movie| {
         let list = movie.track_list();
         fill(room, &list.concat())?;
         Ok(u64::try_from(list.len()).unwrap())
     }))
 }
 
-pub fn sample(file: &[u8], id: u32, n: u32) -> (u32, Sample) {
-    answered(read(file).and_then(|movie| movie.sample(id, n)))
+pub fn sample(film: &(impl Film + ?Sized), id: u32, n: u32) -> (u32, Sample) {
+    answered(read(film).and_then(|movie| movie.sample(id, n)))
 }
 
-/// The offset and the length. "on refusal the empty beginning of the file"
+/// The offset and the length. "on refusal the empty beginning of the file"; document 02: "sample bytes aren't offered" where the moov is lent alone
 pub fn sample_bytes(file: &[u8], id: u32, n: u32) -> (u64, u64) {
     let (_, sample) = sample(file, id, n);
     (sample.offset, sample.size)
 }
 
 /// The sample's number, and the position of its stts entry.
-pub fn sample_at(file: &[u8], id: u32, t: u32) -> (u32, (u64, u64)) {
-    answered(read(file).and_then(|movie| movie.sample_at(id, u64::from(t))))
+pub fn sample_at(film: &(impl Film + ?Sized), id: u32, t: u32) -> (u32, (u64, u64)) {
+    answered(read(film).and_then(|movie| movie.sample_at(id, u64::from(t))))
 }
 
-pub fn media_time(file: &[u8], id: u32, t: u32) -> MediaTime {
-    match read(file).and_then(|movie| movie.media_time(id, u64::from(t))) {
+pub fn media_time(film: &(impl Film + ?Sized), id: u32, t: u32) -> MediaTime {
+    match read(film).and_then(|movie| movie.media_time(id, u64::from(t))) {
         Ok(Some(media_time)) => MediaTime::At(media_time),
         Ok(None) => MediaTime::NothingShown,
         Err(number) => MediaTime::Refused(number),
@@ -212,8 +211,8 @@ pub fn media_time(file: &[u8], id: u32, t: u32) -> MediaTime {
 }
 
 /// The number of pairs and the total of bytes.
-pub fn stretch(file: &[u8], id: u32, a: u32, b: u32, room: &mut [u32]) -> (u32, (u64, u64)) {
-    answered(read(file).and_then(|movie| {
+pub fn stretch<F: Film + ?Sized>(film: &F, id: u32, a: u32, b: u32, room: &mut [F::Number]) -> (u32, (u64, u64)) {
+    answered(read(film).and_then(|movie| {
         let stretch = movie.stretch(id, u64::from(a), u64::from(b))?;
         let list: Vec<u64> = stretch.pairs.iter().flat_map(|(offset, length)| [*offset, *length]).collect();
         fill(room, &list)?;
@@ -222,8 +221,8 @@ pub fn stretch(file: &[u8], id: u32, a: u32, b: u32, room: &mut [u32]) -> (u32, 
 }
 
 /// The count of records.
-pub fn stored_profile(file: &[u8], id: u32, room: &mut [u32]) -> (u32, u64) {
-    answered(read(file).and_then(|movie| {
+pub fn stored_profile(film: &(impl Film + ?Sized), id: u32, room: &mut [u32]) -> (u32, u64) {
+    answered(read(film).and_then(|movie| {
         let records = movie.stored_profile(id)?;
         let list: Vec<u64> = records.iter().flat_map(|record| [record.part_id, record.code, record.value]).collect();
         fill(room, &list)?;
@@ -231,18 +230,18 @@ pub fn stored_profile(file: &[u8], id: u32, room: &mut [u32]) -> (u32, u64) {
     }))
 }
 
-pub fn feature(file: &[u8], id: u32, code: u32) -> (u32, u32) {
-    answered(read(file).and_then(|movie| movie.feature(id, code)))
+pub fn feature(film: &(impl Film + ?Sized), id: u32, code: u32) -> (u32, u32) {
+    answered(read(film).and_then(|movie| movie.feature(id, code)))
 }
 
 /// The number of the first sample, and how many there are.
-pub fn peak(file: &[u8], id: u32, code: u32) -> (u32, (u64, u64)) {
-    answered(read(file).and_then(|movie| movie.peak(id, code)))
+pub fn peak(film: &(impl Film + ?Sized), id: u32, code: u32) -> (u32, (u64, u64)) {
+    answered(read(film).and_then(|movie| movie.peak(id, code)))
 }
 
 /// The slip's length in bytes. "The slip writer needs refusal 11 as proof that a file was closed properly and asks the strict way"
-pub fn write_slip(file: &[u8], id: u32, a: u32, b: u32, room: &mut [u8]) -> (u32, u64) {
-    answered(read_strictly(file).and_then(|movie| {
+pub fn write_slip(film: &(impl Film + ?Sized), id: u32, a: u32, b: u32, room: &mut [u8]) -> (u32, u64) {
+    answered(read_strictly(film).and_then(|movie| {
         let slip = movie.slip(id, a, b)?;
         if room.len() < slip.len() {
             return Err(NO_ROOM);

@@ -1,13 +1,16 @@
 //! "Refusals of a file": a function for each number, and their order. Where a clause applies it says why, in words.
+mod alone;
 mod contradictions;
 mod counts;
 mod edits;
 mod references;
 mod sizes;
 
-use super::atoms::{leaves, tree, Leaf, MovieLeaves, TrackLeaves};
+use super::atoms::{leaves, tree, Atom, Leaf, MovieLeaves, TrackLeaves};
 use super::fault::{in_tracks, many, Fault, Refused};
+use super::lent::{Film, Lent, Way};
 use super::tables::{movie_tables, written_out, Movie, MovieTables, Track};
+pub use alone::{not_one_moov, refused_1_alone};
 pub use contradictions::refused_9;
 pub use counts::refused_3;
 pub use edits::{in_media_scale, refused_13};
@@ -44,7 +47,7 @@ fn over_records(prfl: &Option<Leaf>) -> Option<Fault> {
 
 fn track_over(track: &TrackLeaves) -> Option<Fault> {
     over(&track.stsz, 16, "samples", 1_048_576)
-        .or_else(|| over(&track.stco, 12, "chunks", 1_048_576))
+        .or_else(|| over(&track.chunk_offsets, 12, "chunks", 1_048_576))
         .or_else(|| over(track.elst.as_ref()?, 12, "edits", 256))
         .or_else(|| over(&track.stsd, 12, "descriptions", 64))
         .or_else(|| over(&track.dref, 12, "data references", 64))
@@ -103,20 +106,20 @@ pub fn refused_11(movie: &Movie) -> Option<Fault> {
 }
 
 fn chunk_past_end(track: &Track, length: u64) -> Option<Fault> {
-    let mut bytes = vec![0; track.chunks.len()];
+    let mut bytes: Vec<u64> = vec![0; track.chunks.len()];
     for sample in &track.samples {
         bytes[usize::try_from(sample.chunk - 1).unwrap()] += sample.size;
     }
-    let i = track.chunks.iter().zip(&bytes).position(|(chunk, bytes)| chunk.offset + bytes > length)?;
-    let (offset, has) = (track.chunks[i].offset, many(bytes[i], "byte", "bytes"));
-    let end = offset + bytes[i];
+    // An offset of co64 plus the sizes need not fit 64 bits.
+    let end = |i: usize| u128::from(track.chunks[i].offset) + u128::from(bytes[i]);
+    let i = (0..bytes.len()).find(|i| end(*i) > u128::from(length))?;
+    let (offset, has, end) = (track.chunks[i].offset, many(bytes[i], "byte", "bytes"), end(i));
     let words = format!("chunk {} begins at {offset}, has {has} and ends at {end}, the file at {length}", i + 1);
-    Some(Fault::of(b"stco", words))
+    Some(Fault::of(&track.tables.offset_table, words))
 }
 
 /// "a chunk's offset plus the sizes of its samples passes the file's end"
-pub fn refused_12(movie: &Movie, length: usize) -> Option<Fault> {
-    let length = u64::try_from(length).unwrap();
+pub fn refused_12(movie: &Movie, length: u64) -> Option<Fault> {
     in_tracks(&movie.tracks, |track| chunk_past_end(track, length))
 }
 
@@ -125,13 +128,29 @@ fn refuse(number: u32, why: Option<String>) -> Result<(), Refused> {
     why.map_or(Ok(()), |words| Err((number, words)))
 }
 
-/// The leaves and the tables of a file that is not refused 1 to 9. "The answer is the lowest number that applies; each condition is judged on files that
-/// pass all lower ones."
-pub fn read_tables(file: &[u8]) -> Result<(MovieLeaves, MovieTables), Refused> {
-    refuse(1, refused_1(file.len()))?;
+/// The atoms of a film that is not refused 1 or 2.
+fn read_tree(film: Lent) -> Result<Vec<Atom>, Refused> {
     // "an atom's size is wrong, passes its parent's end, or 1 to 7 bytes (under 16 for a 64-bit size) remain"
-    let tree = tree(file).map_err(|words| (2, words))?;
-    refuse(3, refused_3(&tree))?;
+    let tree = || tree(film.bytes).map_err(|words| (2, words));
+    match film.way {
+        Way::WholeFile => {
+            refuse(1, refused_1(film.bytes.len()))?;
+            tree()
+        }
+        Way::MoovAlone => {
+            refuse(1, refused_1_alone(film.bytes.len(), film.length))?;
+            let tree = tree()?;
+            refuse(2, not_one_moov(&tree))?;
+            Ok(tree)
+        }
+    }
+}
+
+/// The leaves and the tables of a film that is not refused 1 to 9. "The answer is the lowest number that applies; each condition is judged on files that
+/// pass all lower ones."
+pub fn read_tables(film: Lent) -> Result<(MovieLeaves, MovieTables), Refused> {
+    let tree = read_tree(film)?;
+    refuse(3, refused_3(&tree, film.way))?;
     let found = leaves(&tree).unwrap();
     let refuse = |number, fault: Option<Fault>| refuse(number, fault.map(|fault| fault.said(&found)));
     refuse(4, refused_4(&found))?;
@@ -152,7 +171,7 @@ pub enum Reading {
 }
 
 /// The movie of these tables, written out, if it is not refused 10 to 13 or 19.
-pub fn read_movie(found: &MovieLeaves, tables: MovieTables, length: usize, reading: Reading) -> Result<Movie, Refused> {
+pub fn read_movie(found: &MovieLeaves, tables: MovieTables, length: u64, reading: Reading) -> Result<Movie, Refused> {
     let movie = written_out(tables);
     let refuse = |number, fault: Option<Fault>| refuse(number, fault.map(|fault| fault.said(found)));
     refuse(10, refused_10(&movie))?;
@@ -166,27 +185,27 @@ pub fn read_movie(found: &MovieLeaves, tables: MovieTables, length: usize, readi
     Ok(movie)
 }
 
-fn read_as(file: &[u8], reading: Reading) -> Result<Movie, u32> {
-    let movie = read_tables(file).and_then(|(found, tables)| read_movie(&found, tables, file.len(), reading));
+fn read_as(film: Lent, reading: Reading) -> Result<Movie, u32> {
+    let movie = read_tables(film).and_then(|(found, tables)| read_movie(&found, tables, film.length, reading));
     movie.map_err(|(number, _)| number)
 }
 
-/// A file that is not refused by default, or the number.
-pub fn read(file: &[u8]) -> Result<Movie, u32> {
-    read_as(file, Reading::Default)
+/// A film that is not refused by default, or the number.
+pub fn read(film: &(impl Film + ?Sized)) -> Result<Movie, u32> {
+    read_as(film.lent(), Reading::Default)
 }
 
-/// A file that is not refused where strict reading is asked for, or the number.
-pub fn read_strictly(file: &[u8]) -> Result<Movie, u32> {
-    read_as(file, Reading::Strict)
+/// A film that is not refused where strict reading is asked for, or the number.
+pub fn read_strictly(film: &(impl Film + ?Sized)) -> Result<Movie, u32> {
+    read_as(film.lent(), Reading::Strict)
 }
 
-/// The number with which a file is refused by default, 0 for none.
-pub fn refusal(file: &[u8]) -> u32 {
-    read(file).err().unwrap_or(0)
+/// The number with which a film is refused by default, 0 for none.
+pub fn refusal(film: &(impl Film + ?Sized)) -> u32 {
+    read(film).err().unwrap_or(0)
 }
 
-/// The number with which a file is refused where strict reading is asked for, 0 for none.
-pub fn strict_refusal(file: &[u8]) -> u32 {
-    read_strictly(file).err().unwrap_or(0)
+/// The number with which a film is refused where strict reading is asked for, 0 for none.
+pub fn strict_refusal(film: &(impl Film + ?Sized)) -> u32 {
+    read_strictly(film).err().unwrap_or(0)
 }

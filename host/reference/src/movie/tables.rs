@@ -61,7 +61,7 @@ pub struct Sample {
 }
 
 /// The tables of a track as they stand in the file. The sizes are N numbers, also where there is a common size.
-#[derive(Clone, Debug)]
+#[derive(Clone, Debug, PartialEq)]
 pub struct TrackTables {
     pub id: u64,
     pub subtype: u64,
@@ -77,7 +77,9 @@ pub struct TrackTables {
     pub ctts: Option<Vec<(u64, i64)>>,
     pub stsc: Vec<Run>,
     pub sizes: Vec<u64>,
-    pub stco: Vec<u64>,
+    pub chunk_offsets: Vec<u64>,
+    /// The type of the table that has them, stco or co64.
+    pub offset_table: [u8; 4],
     pub stss: Option<Vec<u64>>,
     pub edits: Option<Vec<Edit>>,
     /// Nothing where there is no profile.
@@ -93,7 +95,7 @@ pub struct MovieTables {
 }
 
 /// A track whose tables do not contradict each other, with its samples and chunks written out.
-#[derive(Clone, Debug)]
+#[derive(Clone, Debug, PartialEq)]
 pub struct Track {
     pub tables: TrackTables,
     pub samples: Vec<Sample>,
@@ -103,7 +105,7 @@ pub struct Track {
 }
 
 /// A movie of such tracks.
-#[derive(Clone, Debug)]
+#[derive(Clone, Debug, PartialEq)]
 pub struct Movie {
     pub scale: u64,
     pub profile: Option<Vec<Record>>,
@@ -196,6 +198,20 @@ fn sizes(stsz: &Leaf) -> Vec<u64> {
     (0..n).map(|i| if common == 0 { stsz.number(20 + 4 * i) } else { common }).collect()
 }
 
+/// How wide an offset is: in stco "16+4n", in co64 "(16+8n)".
+pub fn offset_width(table: &Leaf) -> usize {
+    if table.place.kind == *b"co64" {
+        8
+    } else {
+        4
+    }
+}
+
+fn chunk_offsets(table: &Leaf) -> Vec<u64> {
+    let width = offset_width(table);
+    places(table.number(12), width).into_iter().map(|at| table.number_of(width, at)).collect()
+}
+
 /// "Version not 0: there is none. Otherwise ... n at 12, each record being reserved, part-ID, feature code and value."
 fn profile(prfl: &Option<Leaf>) -> Option<Vec<Record>> {
     let prfl = prfl.as_ref()?;
@@ -231,7 +247,8 @@ fn track_tables(track: &TrackLeaves) -> TrackTables {
         ctts: track.ctts.as_ref().map(|t| places(t.number(12), 8).into_iter().map(|at| shift(t, at)).collect()),
         stsc: places(track.stsc.number(12), 12).into_iter().map(|at| run(&track.stsc, at)).collect(),
         sizes: sizes(&track.stsz),
-        stco: places(track.stco.number(12), 4).into_iter().map(|at| track.stco.number(at)).collect(),
+        chunk_offsets: chunk_offsets(&track.chunk_offsets),
+        offset_table: track.chunk_offsets.place.kind,
         stss: track.stss.as_ref().map(|t| places(t.number(12), 4).into_iter().map(|at| t.number(at)).collect()),
         edits: track.elst.as_ref().map(|t| places(t.number(12), 12).into_iter().map(|at| edit(t, at)).collect()),
         profile: profile(&track.prfl),
@@ -254,11 +271,11 @@ pub fn chunks(track: &TrackTables) -> Vec<Chunk> {
     for (i, run) in track.stsc.iter().enumerate() {
         let past = match track.stsc.get(i + 1) {
             Some(next) => next.first_chunk,
-            None => u64::try_from(track.stco.len()).unwrap() + 1,
+            None => u64::try_from(track.chunk_offsets.len()).unwrap() + 1,
         };
         for chunk in run.first_chunk..past {
             dealt.push(Chunk {
-                offset: track.stco[usize::try_from(chunk - 1).unwrap()],
+                offset: track.chunk_offsets[usize::try_from(chunk - 1).unwrap()],
                 samples: run.samples_per_chunk,
                 description_id: run.description_id,
             });
@@ -324,7 +341,8 @@ fn samples(track: &TrackTables) -> Vec<Sample> {
                 size: track.sizes[n],
             });
             decode_time += durations[n];
-            offset += track.sizes[n];
+            // What reaches 2^64 passes the end of every file, and is refused 12 before a question is asked.
+            offset = offset.saturating_add(track.sizes[n]);
         }
     }
     each

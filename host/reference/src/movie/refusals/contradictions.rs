@@ -1,5 +1,5 @@
 //! Refusal 9: the sample tables of a track contradict each other.
-use crate::movie::fault::{in_tracks, many, Fault};
+use crate::movie::fault::{in_tracks, many, name, Fault};
 use crate::movie::tables::{chunks, MovieTables, TrackTables};
 
 fn samples(n: u64) -> String {
@@ -34,10 +34,11 @@ fn miscounted(track: &TrackTables, n: u64) -> Option<Fault> {
 /// "C is 0 with stsc not empty or N not 0"
 fn without_chunks(track: &TrackTables, n: u64) -> Option<Fault> {
     if n != 0 {
-        return Some(Fault::of(b"stco", format!("counts 0 chunks, stsz {}", samples(n))));
+        return Some(Fault::of(&track.offset_table, format!("counts 0 chunks, stsz {}", samples(n))));
     }
     let entries = u64::try_from(track.stsc.len()).unwrap();
-    (entries != 0).then(|| Fault::of(b"stsc", format!("has {}, stco 0 chunks", many(entries, "entry", "entries"))))
+    let words = || format!("has {}, {} 0 chunks", many(entries, "entry", "entries"), name(&track.offset_table));
+    (entries != 0).then(|| Fault::of(b"stsc", words()))
 }
 
 /// Which number, counted from 0, is not above the one before it.
@@ -46,20 +47,22 @@ fn not_rising(numbers: &[u64]) -> Option<usize> {
 }
 
 /// "C is above 0 and stsc is empty, doesn't start at chunk 1, isn't strictly rising, or passes C"
-fn with_chunks(first_chunks: &[u64], c: u64) -> Option<Fault> {
+fn with_chunks(track: &TrackTables, c: u64) -> Option<Fault> {
+    let first_chunks: Vec<u64> = track.stsc.iter().map(|run| run.first_chunk).collect();
+    let table = name(&track.offset_table);
     let fault = |words| Some(Fault::of(b"stsc", words));
     let Some(first) = first_chunks.first() else {
-        return fault(format!("has 0 entries, stco {}", chunks_in_words(c)));
+        return fault(format!("has 0 entries, {table} {}", chunks_in_words(c)));
     };
     if *first != 1 {
         return fault(format!("entry 1 begins at chunk {first}, and must at chunk 1"));
     }
-    if let Some(i) = not_rising(first_chunks) {
+    if let Some(i) = not_rising(&first_chunks) {
         let [before, this] = [first_chunks[i - 1], first_chunks[i]];
         return fault(format!("entry {} begins at chunk {this}, entry {i} at chunk {before}", i + 1));
     }
     let i = first_chunks.iter().position(|first| *first > c)?;
-    fault(format!("entry {} begins at chunk {}, stco has {}", i + 1, first_chunks[i], chunks_in_words(c)))
+    fault(format!("entry {} begins at chunk {}, {table} has {}", i + 1, first_chunks[i], chunks_in_words(c)))
 }
 
 fn wrong_entry(track: &TrackTables) -> Option<Fault> {
@@ -98,9 +101,8 @@ fn wrong_syncs(stss: &[u64], n: u64) -> Option<Fault> {
 
 fn contradiction(track: &TrackTables) -> Option<Fault> {
     let n = u64::try_from(track.sizes.len()).unwrap();
-    let c = u64::try_from(track.stco.len()).unwrap();
-    let first_chunks: Vec<u64> = track.stsc.iter().map(|run| run.first_chunk).collect();
-    let chunks = || if c == 0 { without_chunks(track, n) } else { with_chunks(&first_chunks, c) };
+    let c = u64::try_from(track.chunk_offsets.len()).unwrap();
+    let chunks = || if c == 0 { without_chunks(track, n) } else { with_chunks(track, c) };
     miscounted(track, n)
         .or_else(chunks)
         .or_else(|| wrong_entry(track))

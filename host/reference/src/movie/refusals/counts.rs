@@ -1,13 +1,11 @@
 //! Refusal 3: the atoms that must be there, and those that may be there once.
+use super::alone::not_one_offset_table;
 use crate::movie::atoms::{of_kind, Atom, Place, TOP};
-use crate::movie::fault::trak_name;
+use crate::movie::fault::{name, trak_name};
+use crate::movie::lent::Way;
 
 /// Atoms that other films have in place of one that is read.
 const IN_PLACE: [(&[u8; 4], &[u8; 4]); 3] = [(b"stco", b"co64"), (b"stsz", b"stz2"), (b"mvhd", b"cmov")];
-
-fn name(kind: &[u8; 4]) -> String {
-    String::from_utf8_lossy(kind).into_owned()
-}
 
 fn absent(kind: &[u8; 4], parent: &Place, atoms: &[Atom]) -> String {
     let other =
@@ -36,39 +34,47 @@ fn inside(parent: &Atom, kind: &[u8; 4], wrong: impl Fn(&Atom) -> Option<String>
     of_kind(&parent.children, kind).into_iter().find_map(wrong)
 }
 
-fn wrong_mdia(mdia: &Atom) -> Option<String> {
+fn wrong_stbl(stbl: &Atom, way: Way) -> Option<String> {
+    // "stsd, stts, stsc, stsz and stco in stbl"; "ctts and stss in stbl"
+    let tables: [&[u8; 4]; 5] = [b"stsd", b"stts", b"stsc", b"stsz", b"stco"];
+    let optional: [&[u8; 4]; 2] = [b"ctts", b"stss"];
+    match way {
+        Way::WholeFile => wrong_in(stbl, &tables, &optional),
+        Way::MoovAlone => wrong_in(stbl, &tables[..4], &optional).or_else(|| not_one_offset_table(stbl)),
+    }
+}
+
+fn wrong_mdia(mdia: &Atom, way: Way) -> Option<String> {
     // "mdhd, hdlr and minf in mdia"
     let wrong = wrong_in(mdia, &[b"mdhd", b"hdlr", b"minf"], &[]);
     // "stbl in minf"; document 02: "one 'dinf' container in minf, one read leaf 'dref' in it"
     let wrong = wrong.or_else(|| inside(mdia, b"minf", |minf| wrong_in(minf, &[b"stbl", b"dinf"], &[])));
     let in_dinf = |dinf: &Atom| wrong_in(dinf, &[b"dref"], &[]);
     let wrong = wrong.or_else(|| inside(mdia, b"minf", |minf| inside(minf, b"dinf", in_dinf)));
-    // "stsd, stts, stsc, stsz and stco in stbl"; "ctts and stss in stbl"
-    let tables: [&[u8; 4]; 5] = [b"stsd", b"stts", b"stsc", b"stsz", b"stco"];
-    let in_stbl = |stbl: &Atom| wrong_in(stbl, &tables, &[b"ctts", b"stss"]);
-    wrong.or_else(|| inside(mdia, b"minf", |minf| inside(minf, b"stbl", in_stbl)))
+    wrong.or_else(|| inside(mdia, b"minf", |minf| inside(minf, b"stbl", |stbl| wrong_stbl(stbl, way))))
 }
 
-fn wrong_trak(trak: &Atom) -> Option<String> {
+fn wrong_trak(trak: &Atom, way: Way) -> Option<String> {
     // "tkhd and mdia in trak"; "edts in trak"
     wrong_in(trak, &[b"tkhd", b"mdia"], &[b"edts"])
         // "elst in edts"
         .or_else(|| inside(trak, b"edts", |edts| wrong_in(edts, &[b"elst"], &[])))
-        .or_else(|| inside(trak, b"mdia", wrong_mdia))
+        .or_else(|| inside(trak, b"mdia", |mdia| wrong_mdia(mdia, way)))
 }
 
-fn wrong_moov(moov: &Atom) -> Option<String> {
+fn wrong_moov(moov: &Atom, way: Way) -> Option<String> {
     // "mvhd in moov"
     if let Some(wrong) = wrong_in(moov, &[b"mvhd"], &[]) {
         return Some(wrong);
     }
     let traks = of_kind(&moov.children, b"trak");
-    let said = |(at, trak): (usize, &&Atom)| Some(format!("{}: {}", trak_name(at, trak), wrong_trak(trak)?));
+    let said = |(at, trak): (usize, &&Atom)| Some(format!("{}: {}", trak_name(at, trak), wrong_trak(trak, way)?));
     traks.iter().enumerate().find_map(said)
 }
 
 /// "an atom is absent or occurs too often"
-pub fn refused_3(file: &[Atom]) -> Option<String> {
+pub fn refused_3(file: &[Atom], way: Way) -> Option<String> {
+    let moovs = of_kind(file, b"moov");
     // "moov in the file"
-    wrong_count(TOP, file, &[b"moov"], &[]).or_else(|| of_kind(file, b"moov").into_iter().find_map(wrong_moov))
+    wrong_count(TOP, file, &[b"moov"], &[]).or_else(|| moovs.into_iter().find_map(|moov| wrong_moov(moov, way)))
 }

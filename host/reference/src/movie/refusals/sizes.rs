@@ -1,7 +1,7 @@
 //! Refusal 5: the sizes of the leaves that are read.
 use crate::movie::atoms::{Leaf, MovieLeaves, TrackLeaves};
 use crate::movie::fault::{in_tracks, many, Fault};
-use crate::movie::tables::{code, descriptions, references};
+use crate::movie::tables::{code, descriptions, offset_width, references};
 
 /// The leaf has another size; the words say which it must have.
 fn wrong(leaf: &Leaf, must_have: &str) -> Option<Fault> {
@@ -83,6 +83,11 @@ fn not_profile_size(prfl: &Leaf) -> Option<Fault> {
     }
 }
 
+/// "stco, stss | 16+4n"; document 02: "'co64' (16+8n)"
+fn not_offset_table_size(table: &Leaf) -> Option<Fault> {
+    not_table_size(table, u64::try_from(offset_width(table)).unwrap())
+}
+
 fn wrong_track_size(track: &TrackLeaves) -> Option<Fault> {
     let optional = |leaf: &Option<Leaf>, width: u64| leaf.as_ref().and_then(|leaf| not_table_size(leaf, width));
     track
@@ -98,7 +103,7 @@ fn wrong_track_size(track: &TrackLeaves) -> Option<Fault> {
         .or_else(|| optional(&track.ctts, 8))
         .or_else(|| not_table_size(&track.stsc, 12))
         .or_else(|| not_stsz_size(&track.stsz))
-        .or_else(|| not_table_size(&track.stco, 4))
+        .or_else(|| not_offset_table_size(&track.chunk_offsets))
         .or_else(|| optional(&track.stss, 4))
         .or_else(|| not_stsd_size(&track.stsd, track.hdlr.number(16)))
 }
