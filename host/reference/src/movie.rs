@@ -1,9 +1,10 @@
 //! The movie, from document 01: the atom tree, the refusals of a file, the sample tables, the questions and the features; from document 02 the
-//! highest rate over a second, strict reading, the entries looked at and the averages with edits.
+//! highest rate over a second, strict reading, the entries looked at, the averages with edits and the judging of a stored profile.
 //!
 //! Nothing here is quick or clever. The tree is built whole, each refusal is a function of its own, and the tables
 //! are written out sample by sample before a question is asked. Sums are taken in 64 and 128 bits, where nothing wraps.
 pub mod atoms;
+pub mod claims;
 pub mod explain;
 pub mod fault;
 pub mod features;
@@ -12,6 +13,7 @@ pub mod questions;
 pub mod refusals;
 pub mod tables;
 
+pub use claims::profile_fault;
 pub use explain::{explain, explain_strictly};
 pub use questions::{
     feature, listing, media_time, peak, sample, sample_at, sample_bytes, stored_profile, stretch, track_list,

@@ -172,7 +172,7 @@ fn fill(room: &mut [u32], list: &[u64]) -> Result<(), u32> {
 }
 
 /// The number, and zeros with it where something is refused.
-fn answered<T: Default>(answer: Result<T, u32>) -> (u32, T) {
+pub fn answered<T: Default>(answer: Result<T, u32>) -> (u32, T) {
     match answer {
         Ok(numbers) => (0, numbers),
         Err(number) => (number, T::default()),
