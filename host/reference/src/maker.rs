@@ -9,6 +9,7 @@ pub mod layout;
 pub mod limits;
 pub mod movies;
 pub mod places;
+pub mod quay;
 pub mod random;
 pub mod slips;
 pub mod tables;

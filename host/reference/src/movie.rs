@@ -1,5 +1,6 @@
 //! The movie, from document 01: the atom tree, the refusals of a file, the sample tables, the questions and the features; from document 02 the
-//! highest rate over a second, strict reading, the entries looked at, the averages with edits and the judging of a stored profile.
+//! highest rate over a second, strict reading, the entries looked at, the averages with edits, the judging of a stored profile
+//! and the quay film profile.
 //!
 //! Nothing here is quick or clever. The tree is built whole, each refusal is a function of its own, and the tables
 //! are written out sample by sample before a question is asked. Sums are taken in 64 and 128 bits, where nothing wraps.
@@ -9,12 +10,14 @@ pub mod explain;
 pub mod fault;
 pub mod features;
 pub mod peaks;
+pub mod quay;
 pub mod questions;
 pub mod refusals;
 pub mod tables;
 
 pub use claims::profile_fault;
 pub use explain::{explain, explain_strictly};
+pub use quay::quay_fault;
 pub use questions::{
     feature, listing, media_time, peak, sample, sample_at, sample_bytes, stored_profile, stretch, track_list,
     write_slip, MediaTime,
