@@ -117,11 +117,13 @@ pub fn quay(random: &mut Random) -> Vec<u8> {
     let begin = random.up_to(2000);
     let ends: Vec<u32> = tracks.iter_mut().map(|track| place_chunks(random, track, begin)).collect();
     for rule in rules {
-        let place = random.below(tracks.len().max(1));
+        if tracks.is_empty() {
+            break;
+        }
+        let place = random.below(tracks.len());
         match rule {
-            1 if !tracks.is_empty() => spoil_tracks(random, &mut tracks),
-            2.. if !tracks.is_empty() => spoil(random, &mut tracks[place], rule),
-            _ => (),
+            1 => spoil_tracks(random, &mut tracks),
+            _ => spoil(random, &mut tracks[place], rule),
         }
     }
     let end = ends.into_iter().max().unwrap();
