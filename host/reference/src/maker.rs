@@ -1,6 +1,7 @@
 //! Films and slips for comparing the library with the reference, each following from a seed alone: valid ones of every kind, ones that cross a rule
 //! of document 01 by a little or just don't, ones with several faults, and ones damaged at random. What a film is refused for, the reference says.
 pub mod alone;
+pub mod claims;
 pub mod damage;
 pub mod dressing;
 pub mod edits;
@@ -9,6 +10,7 @@ pub mod layout;
 pub mod limits;
 pub mod movies;
 pub mod places;
+pub mod quay;
 pub mod random;
 pub mod slips;
 pub mod tables;

@@ -63,11 +63,11 @@ fn frame_rate(track: &Track) -> Option<u32> {
     quotient(65536 * u128::from(track.tables.scale), least_duration(track))
 }
 
-fn is_video(track: &Track) -> bool {
+pub fn is_video(track: &Track) -> bool {
     track.tables.subtype == code(b"vide")
 }
 
-fn is_sound(track: &Track) -> bool {
+pub fn is_sound(track: &Track) -> bool {
     track.tables.subtype == code(b"soun")
 }
 

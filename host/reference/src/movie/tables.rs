@@ -71,6 +71,8 @@ pub struct TrackTables {
     pub pictures: Vec<Picture>,
     pub descriptions: u64,
     /// As many as descriptions.
+    pub formats: Vec<u64>,
+    /// As many as descriptions.
     pub reference_indices: Vec<u64>,
     pub references: Vec<Reference>,
     pub stts: Vec<(u64, u64)>,
@@ -173,6 +175,11 @@ fn all_references(dref: &Leaf) -> Vec<Reference> {
     references(dref).unwrap().iter().map(|(begin, _)| reference(dref, *begin)).collect()
 }
 
+/// "each: size (at least 16), format"
+fn formats(stsd: &Leaf) -> Vec<u64> {
+    descriptions(stsd).unwrap().iter().map(|(begin, _)| stsd.number(usize::try_from(*begin).unwrap() + 4)).collect()
+}
+
 /// "Each description's reference index (16 bits at 14, counted from 1)"
 fn reference_indices(stsd: &Leaf) -> Vec<u64> {
     descriptions(stsd).unwrap().iter().map(|(begin, _)| stsd.short(usize::try_from(*begin).unwrap() + 14)).collect()
@@ -241,6 +248,7 @@ fn track_tables(track: &TrackLeaves) -> TrackTables {
         mdhd_duration: track.mdhd.number(24),
         pictures: pictures(&track.hdlr, &track.stsd),
         descriptions: track.stsd.number(12),
+        formats: formats(&track.stsd),
         reference_indices: reference_indices(&track.stsd),
         references: all_references(&track.dref),
         stts: places(track.stts.number(12), 8).into_iter().map(|at| pair(&track.stts, at)).collect(),
