@@ -1,8 +1,6 @@
 // The byte ranges of some samples, chunk after chunk: one pass over the entries of stsc, stco and stsz that they touch. Samples are named by their index,
 // `from` up to, not including, `stop`. The functions that walk have a place by value, so that each use of the pairs is a loop of its own and no list of
 // pairs is kept.
-pub mod written;
-
 use bigendian::after;
 use bigendian::u32_at;
 use chunks::ChunkCursor;
@@ -52,7 +50,7 @@ fn larger(a: u32, b: u32) -> u32
 }
 
 // Before the chunk of the sample with an index.
-fn start_place(stsc: &[u8], chunks: u32, from: u32) -> ChunkPosition
+pub fn start_place(stsc: &[u8], chunks: u32, from: u32) -> ChunkPosition
     requires { ⌜ length (now stsc) < 2 ^ 32 ⌝ }
     ensures { λ r. ⌜ StartsAt (now (stsc .entry)) chunks from r ⌝ }
 {
@@ -67,7 +65,7 @@ fn start_place(stsc: &[u8], chunks: u32, from: u32) -> ChunkPosition
 }
 
 // Before the next chunk.
-fn next_place(stsc: &[u8], chunks: u32, p: ChunkPosition) -> ChunkPosition
+pub fn next_place(stsc: &[u8], chunks: u32, p: ChunkPosition) -> ChunkPosition
     requires { ⌜ (p .begin < 2 ^ 32) × (p .chunk < 2 ^ 63) ⌝ }
     ensures { λ r. ⌜ r ≡ placeAfter (now (stsc .entry)) chunks p ⌝ }
 {
@@ -83,7 +81,7 @@ fn next_place(stsc: &[u8], chunks: u32, p: ChunkPosition) -> ChunkPosition
 }
 
 // Whether no sample below `stop` lies ahead.
-fn is_past(p: ChunkPosition, stop: u32) -> bool
+pub fn is_past(p: ChunkPosition, stop: u32) -> bool
     ensures { λ r. ⌜ r ≡ (eqb (p .cursor .remaining) 0 || leb stop (p .begin)) ⌝ }
 {
     let c = p.cursor;
@@ -104,7 +102,7 @@ fn bytes_before(stsz: &[u8], begin: u32, first: u32) -> u64
 }
 
 // The pair of the chunk at a place.
-fn pair_at(stsz: &[u8], stco: &[u8], p: ChunkPosition, from: u32, stop: u32) -> Pair
+pub fn pair_at(stsz: &[u8], stco: &[u8], p: ChunkPosition, from: u32, stop: u32) -> Pair
     requires { ⌜ p .begin < stop ⌝ }
     ensures { λ r. ⌜ r ≡ pairOf from stop (p .begin) (p .cursor .per) (getD (chunkOffsets (now (stco .entry))) (p .chunk) 0) (sizes (now (stsz .entry))) ⌝ }
 {

@@ -1,4 +1,4 @@
--- `pairs::written::written_len` meets its contract: the loop keeps what `Measuring` says.
+-- `slip_pairs::written_len` meets its contract: the loop keeps what `Measuring` says.
 -- Assumes nothing.
 use borrow.Author.Needs.{needs}
 use mathlib.Core.Path.{sym, _∙_}
@@ -6,11 +6,11 @@ use mathlib.Core.List.{[]}
 use borrow.Author.Tests.{not-true, not-false}
 use lib.ListN.{length}
 use Rattle.chunks.specs.Cursors.{ahead}
 use Rattle.pairs.proofs.Walking.{begins-low, at-less}
 use Rattle.pairs.proofs.Counting.{place-fits}
-use Rattle.pairs.proofs.Streaming.{Measuring, measuring-start, measuring-end, measure-fits, measuring-turn}
-use Rattle.pairs.proofs.written.written_len.Statement.{statement}
-use Rattle.pairs.proofs.written.written_len.Tie as tie
+use Rattle.slip_pairs.proofs.Streaming.{Measuring, measuring-start, measuring-end, measure-fits, measuring-turn}
+use Rattle.slip_pairs.proofs.written_len.Statement.{statement}
+use Rattle.slip_pairs.proofs.written_len.Tie as tie
 
 abbrev Inv-loop : tie.InvT-loop
 Inv-loop stsc stsz stco chunks from stop p₀ n₀ p n = Measuring stsc stsz stco chunks from stop p n

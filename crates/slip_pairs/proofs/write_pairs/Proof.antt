@@ -1,4 +1,4 @@
--- `pairs::written::write_pairs` meets its contract: the loop keeps what `Writing` says.
+-- `slip_pairs::write_pairs` meets its contract: the loop keeps what `Writing` says.
 -- Assumes nothing.
 use borrow.Author.Needs.{needs}
 use mathlib.Core.Path.{sym, _∙_}
@@ -6,11 +6,11 @@ use mathlib.Core.List.{[]}
 use borrow.Author.Tests.{not-true, not-false}
 use lib.ListN.{length}
 use Rattle.chunks.specs.Cursors.{ahead}
 use Rattle.pairs.proofs.Walking.{begins-low, at-less}
 use Rattle.pairs.proofs.Counting.{place-fits}
-use Rattle.pairs.proofs.Streaming.{Writing, writing-start, writing-end, writing-turn}
-use Rattle.pairs.proofs.written.write_pairs.Statement.{statement}
-use Rattle.pairs.proofs.written.write_pairs.Tie as tie
+use Rattle.slip_pairs.proofs.Streaming.{Writing, writing-start, writing-end, writing-turn}
+use Rattle.slip_pairs.proofs.write_pairs.Statement.{statement}
+use Rattle.slip_pairs.proofs.write_pairs.Tie as tie
 
 abbrev Inv-loop : tie.InvT-loop
 Inv-loop stsc stsz stco chunks from stop out₀ at p₀ k₀ out p k = Writing stsc stsz stco chunks from stop out₀ at p out k

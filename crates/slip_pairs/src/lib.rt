@@ -1,17 +1,17 @@
 // The numbers of the pairs as a slip writes them, one pair after the other.
-use super::is_past;
-use super::next_place;
-use super::pair_at;
-use super::start_place;
 use leb128::number_len;
 use leb128::put_number;
+use pairs::is_past;
+use pairs::next_place;
+use pairs::pair_at;
+use pairs::start_place;
 ghost use mathlib.Core.Path.{_≡_};
 ghost use Prim.Native.Nat.{_+_, _≤_, _<_, _^_};
 ghost use lib.ListN.{length};
 ghost use lib.Seq.{sets};
 ghost use Rattle.leb128.specs.Numbers.{writes};
 ghost use Rattle.pairs.specs.Pairs.{flat};
 ghost use Rattle.pairs.specs.Walks.{pairsBetween};
 
 // In how many bytes they are written.
 pub fn written_len(
