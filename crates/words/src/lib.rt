@@ -5,7 +5,7 @@ use bigendian::after;
 use bigendian::u32_at;
 use bigendian::u64_at;
 ghost use mathlib.Core.Path.{_≡_};
-ghost use Prim.Native.Nat.{_*_, _-_, _/_, _^_, _≤_, _<_, min};
+ghost use Prim.Native.Nat.{_+_, _*_, _-_, _/_, _^_, _≤_, _<_, min};
 ghost use lib.Dec.{eqb};
 ghost use lib.ListN.{length, getD, take};
 ghost use Rattle.lists.specs.Lists.{sum, between};
@@ -107,6 +107,16 @@ pub fn all_bytes(stsz: &[u8]) -> u64
         return sum_words(after(stsz, 20));
     }
     u32_at(stsz, 16) as u64 * every as u64
+}
+
+// The sum; the largest number of 64 bits where it is above that.
+pub fn saturating_sum(a: u64, b: u64) -> u64
+    ensures { λ r. ⌜ r ≡ min (a + b) 18446744073709551615 ⌝ }
+{
+    if b <= 18446744073709551615 - a {
+        return a + b;
+    }
+    18446744073709551615
 }
 
 // Whether the numbers of a table of chunk offsets have 64 bits.
