@@ -1,20 +1,21 @@
--- `pairs::put_pairs` meets its contract: the loop keeps what `Walked` says, some chunks a turn.
+-- `narrow_pairs::put_pairs` meets its contract: the loop keeps what `Walked` says, some chunks a turn.
 -- Assumes nothing.
 use borrow.Author.Needs.{needs}
+use Prim.Native.Nat.{_^_}
 use mathlib.Core.Path.{sym, _∙_}
 use mathlib.Core.List.{[]}
 use native.Mathlib.Omega.{arith}
 use borrow.Author.Tests.{not-true, not-false}
 use lib.ListN.{length}
 use Rattle.chunks.specs.Cursors.{ahead}
 use Rattle.pairs.proofs.Walking.{some-remain, begins-low, past-less}
 use Rattle.pairs.proofs.Counting.{place-fits, step-fits}
 use Rattle.pairs.proofs.Filling.{Walked, walked-start, walked-end, step-at, step-room, step-total, step-turn}
-use Rattle.pairs.proofs.put_pairs.Statement.{statement}
-use Rattle.pairs.proofs.put_pairs.Tie as tie
+use Rattle.narrow_pairs.proofs.put_pairs.Statement.{statement}
+use Rattle.narrow_pairs.proofs.put_pairs.Tie as tie
 
 abbrev Inv-loop : tie.InvT-loop
-Inv-loop stsc stsz stco chunks from stop room₀ p₀ at₀ total₀ room p at total = Walked stsc stsz stco chunks from stop room₀ p room at total
+Inv-loop stsc stsz stco chunks from stop room₀ p₀ at₀ total₀ room p at total = Walked (2 ^ 32) stsc stsz stco chunks from stop room₀ p room at total
 
 abbrev μ-loop : tie.MeasureT-loop
 μ-loop stsc stsz stco chunks from stop room₀ p₀ at₀ total₀ room p at total = length (ahead stsc chunks (p .cursor))

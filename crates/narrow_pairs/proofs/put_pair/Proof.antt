@@ -1,12 +1,12 @@
--- `pairs::put_pair` meets its contract: two stores, one place after the other.
+-- `narrow_pairs::put_pair` meets its contract: two stores, one place after the other.
 -- Assumes nothing.
 use borrow.Author.Needs.{needs}
 use Prim.Native.Nat.{suc, _+_}
 use mathlib.Core.Path.{_≡_}
 use native.Mathlib.Omega.{arith}
 use lib.ListN.{length-set}
-use Rattle.pairs.proofs.put_pair.Statement.{statement}
-use Rattle.pairs.proofs.put_pair.Tie as tie
+use Rattle.narrow_pairs.proofs.put_pair.Statement.{statement}
+use Rattle.narrow_pairs.proofs.put_pair.Tie as tie
 
 cast-room : tie.Need-cast-room
 cast-room c = search needs
