@@ -19,7 +19,7 @@ use Rattle.pairs.proofs.Walking.{at-end, at-past, at-once, from-start}
 
 -- ---- some pairs and the rest
 
-flat-append : (qs l : List Pair) → flat (qs ++ l) ≡ flat qs ++ flat l
+pub flat-append : (qs l : List Pair) → flat (qs ++ l) ≡ flat qs ++ flat l
 flat-append [] l = refl
 flat-append (q ∷ qs) l = ap (λ r. q .offset ∷ q .length ∷ r) (flat-append qs l)
 
@@ -31,7 +31,7 @@ lengths-append : (qs l : List Pair) → sum (lengthsOf (qs ++ l)) ≡ sum (lengt
 lengths-append [] l = omega arith
 lengths-append (q ∷ qs) l = omega (arith, lengths-append qs l)
 
-fitting-append : (b : ℕ) (qs l : List Pair) → Fitting b (qs ++ l) → Fitting b qs × Fitting b l
+pub fitting-append : (b : ℕ) (qs l : List Pair) → Fitting b (qs ++ l) → Fitting b qs × Fitting b l
 fitting-append b [] l f = (tt, f)
 fitting-append b (q ∷ qs) l f = let r = fitting-append b qs l (f .2) in ((f .0, f .1, r .0), r .1)
 
