@@ -5,7 +5,7 @@ use Prim.Native.Nat.{_-_, _≤_}
 use mathlib.Core.Path.{_≡_, refl, sym, ap, _∙_}
 use native.Mathlib.Omega.{arith}
 use denote.Ref.{now}
-use lib.ListN.{length, length-drop}
+use lib.ListN.{length, take, drop, length-drop}
 use Rattle.bigendian.proofs.Parts.{rest as part-rest}
 use Rattle.chunks.specs.Cursors.{readied}
 use Rattle.chunks.proofs.Cursors.{ready-stop, ready-end, ready-next}
@@ -88,7 +88,7 @@ loop-again c =
     let t = c .before .before .before .before .before .before in
     let l = t .before .before .before .before .before .loop in
     let s = now (t .before .before .before .before .before .before .before .args .stsc) in (
-      ready-next _ _ (l .r) (part-rest (l .r .at) s) (t .if3 .left) (t .before .before .before .if1 .taken) (part-rest 12 _)
+      ready-next _ _ (l .r) (part-rest (l .r .at) s) (t .if3 .left) (t .before .before .before .if1 .taken) (part-rest 12 (take (length s - l .r .at) (drop (l .r .at) s)))
           (c .before .before .before .before .before .u32-at .ensures) (c .before .before .before .first-of .ensures .0) (c .before .before .span .ensures) (c .before .u32-at2 .ensures) (c .u32-at3 .ensures)
           ∙ l .inv .0,
       λ h. omega (arith, c .before .before .span .ensures, c .before .before .before .first-of .ensures .1),
