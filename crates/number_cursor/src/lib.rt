@@ -1,13 +1,14 @@
 // The cursor over a slip's numbers, document 01's "reading place": it moves past each number and counts the numbers read.
-use super::number::NumberRead;
-use super::number::number_at;
+use leb128::NumberRead;
+use leb128::number_at;
 ghost use mathlib.Core.Path.{_≡_};
-ghost use Rattle.leb128.specs.Reading.{countedUp, stepAt};
+ghost use Rattle.number_cursor.specs.Cursors.{countedUp, stepAt};
 
-// A place in the bytes, and how many numbers were read before it.
+// A place in the bytes, how many numbers were read before it, and whether numbers may be 2^32 or more.
 pub struct Cursor {
     pub at: usize,
     pub count: usize,
+    pub wide: bool,
 }
 
 // What was read at a cursor, and the cursor after it.
@@ -32,12 +33,14 @@ fn read_at(bytes: &[u8], cursor: Cursor) -> Step
     ensures { λ r. ⌜ r ≡ stepAt (now (bytes .entry)) cursor ⌝ }
 {
     let at = cursor.at;
-    let read = number_at(bytes, at);
+    let wide = cursor.wide;
+    let read = number_at(bytes, at, wide);
     match read {
         NumberRead::Good(_, next) => Step {
             cursor: Cursor {
                 at: next,
                 count: counted(cursor.count),
+                wide,
             },
             read,
         },

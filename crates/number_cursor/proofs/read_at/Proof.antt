@@ -1,10 +1,10 @@
--- `leb128::cursor::read_at` meets its contract: a case for each answer of `number_at`.
+-- `number_cursor::read_at` meets its contract: a case for each answer of `number_at`.
 -- Assumes nothing.
 use borrow.Author.Needs.{needs}
 use mathlib.Core.Path.{sym}
-use Rattle.leb128.proofs.Readings.{step-good, step-broken, step-short}
-use Rattle.leb128.proofs.cursor.read_at.Statement.{statement}
-use Rattle.leb128.proofs.cursor.read_at.Tie as tie
+use Rattle.number_cursor.proofs.Steps.{step-good, step-broken, step-short}
+use Rattle.number_cursor.proofs.read_at.Statement.{statement}
+use Rattle.number_cursor.proofs.read_at.Tie as tie
 
 number-at-requires : tie.Need-number-at-requires
 number-at-requires c κs = search needs

@@ -1,4 +1,4 @@
--- `leb128::advance` meets its contract: a walk of its MIR, by hand. The borrow of the place is opened and the place is copied out; `read_at` is called on the
+-- `number_cursor::advance` meets its contract: a walk of its MIR, by hand. The borrow of the place is opened and the place is copied out; `read_at` is called on the
 -- bytes and that copy; the place that it answered is stored, and the borrow is closed at it. All that the proof knows of `read_at` is that it meets its contract.
 -- Assumes nothing.
 use mathlib.Core.Path.{_≡_, refl, ap}
@@ -42,23 +42,23 @@ use denote.Triple.Table.{entered, cited}
 use denote.Triple.Clauses.{ensured, lasts}
 use denote.Triple.Walked.{says, Stays, stay-ref, stay-none-slice, walkOf, goes-ref, goes-none-slice, Walks, ends-at, walked, walk-meets}
 use denote.Exit.{yes}
-use Rattle.leb128.specs.Reading.{stepAt}
-use Rattle.leb128.specs.declared.cursor.Cursor.{Cursor}
-use Rattle.leb128.specs.declared.cursor.Step.{Step}
-use Rattle.leb128.proofs.cursor.Cursor as T
-use Rattle.leb128.proofs.cursor.Cursor.Laws as T′
-use Rattle.leb128.proofs.cursor.Step as S
-use Rattle.leb128.proofs.cursor.Step.Laws as S′
+use Rattle.number_cursor.specs.Cursors.{stepAt}
+use Rattle.number_cursor.specs.declared.Cursor.{Cursor}
+use Rattle.number_cursor.specs.declared.Step.{Step}
+use Rattle.number_cursor.proofs.Cursor as T
+use Rattle.number_cursor.proofs.Cursor.Laws as T′
+use Rattle.number_cursor.proofs.Step as S
+use Rattle.number_cursor.proofs.Step.Laws as S′
 use Rattle.leb128.proofs.number.NumberRead as E
 use Rattle.leb128.proofs.number.NumberRead.Laws as E′
-use Rattle.leb128.proofs.cursor.read_at as read-at
-use Rattle.leb128.proofs.cursor.read_at.Symbol as read-at-def
-use Rattle.leb128.proofs.cursor.read_at.Symbol.{name as #read-at}
-use Rattle.leb128.proofs.cursor.read_at.Met as read-at-thm
-use Rattle.leb128.proofs.cursor.advance.Key.{name as #advance}
-use Rattle.leb128.proofs.cursor.advance as advance
-use Rattle.leb128.proofs.cursor.advance.Statement as stated
-use Rattle.leb128.proofs.cursor.advance.Code as code
+use Rattle.number_cursor.proofs.read_at as read-at
+use Rattle.number_cursor.proofs.read_at.Symbol as read-at-def
+use Rattle.number_cursor.proofs.read_at.Symbol.{name as #read-at}
+use Rattle.number_cursor.proofs.read_at.Met as read-at-thm
+use Rattle.number_cursor.proofs.advance.Key.{name as #advance}
+use Rattle.number_cursor.proofs.advance as advance
+use Rattle.number_cursor.proofs.advance.Statement as stated
+use Rattle.number_cursor.proofs.advance.Code as code
 
 abbrev stayed : Stays (advance.ended .signature .params) (advance.ended .kept)
 stayed = (stay-ref (0 ∷ []) tt (plain (λ _. T.the-row)), (stay-none-slice (1 ∷ []) tt (plain (λ _. u8)) yes, tt))
@@ -176,4 +176,4 @@ advance-spec 𝓤 H 𝓜 𝓖 𝓡 =
     entered 𝓤 H (tripleOf 𝓤 H (𝓖 .A) advance.signature (advance.spec 𝓤 H (𝓖 .A) (𝓜 .mem) (𝓡 .run)))
     (tables 𝓤 H 𝓜 𝓡 code.env .C) (tables 𝓤 H 𝓜 𝓡 code.env .Λ) #advance code.function (code.unfolded 𝓤 H 𝓜 𝓡)
     (advance-meets 𝓤 H (𝓖 .A) (givenOf 𝓤 H 𝓜 𝓖) (𝓜 .mem) (𝓡 .run) (tablesOf 𝓤 H 𝓜 (tables 𝓤 H 𝓜 𝓡 code.env))
-    (cited 𝓤 H (ReadAt 𝓤 H (𝓖 .A) (𝓜 .mem) (𝓡 .run)) 𝓜 𝓡 code.env #read-at read-at-def.routine code.calls-leb128·cursor·read-at (read-at-thm.met 𝓤 H 𝓜 𝓖 𝓡)))
+    (cited 𝓤 H (ReadAt 𝓤 H (𝓖 .A) (𝓜 .mem) (𝓡 .run)) 𝓜 𝓡 code.env #read-at read-at-def.routine code.calls-number-cursor·read-at (read-at-thm.met 𝓤 H 𝓜 𝓖 𝓡)))

@@ -1,4 +1,4 @@
--- `leb128::next_number` meets its contract: a walk of its MIR, by hand. The place is kept in a local, which is lent to `advance` for a lifetime that is made for the
+-- `number_cursor::next_number` meets its contract: a walk of its MIR, by hand. The place is kept in a local, which is lent to `advance` for a lifetime that is made for the
 -- call; the lifetime is ended, the local comes back at the place that `advance` left, and the answer is put together. All that the proof knows of `advance` is
 -- that it meets its contract.
 -- Assumes nothing.
@@ -43,24 +43,24 @@ use denote.Triple.Table.{entered, cited}
 use denote.Triple.Clauses.{ensured, lasts}
 use denote.Triple.Walked.{says, Stays, stay-none, stay-none-slice, walkOf, goes-none, goes-none-slice, Walks, ends-at, walked, walk-meets}
 use denote.Exit.{yes}
-use Rattle.leb128.specs.Reading.{stepAt}
+use Rattle.number_cursor.specs.Cursors.{stepAt}
 use Rattle.leb128.specs.declared.number.NumberRead.{NumberRead}
-use Rattle.leb128.specs.declared.cursor.Cursor.{Cursor}
-use Rattle.leb128.specs.declared.cursor.Step.{Step}
-use Rattle.leb128.proofs.cursor.Cursor as T
-use Rattle.leb128.proofs.cursor.Cursor.Laws as T′
-use Rattle.leb128.proofs.cursor.Step as S
-use Rattle.leb128.proofs.cursor.Step.Laws as S′
+use Rattle.number_cursor.specs.declared.Cursor.{Cursor}
+use Rattle.number_cursor.specs.declared.Step.{Step}
+use Rattle.number_cursor.proofs.Cursor as T
+use Rattle.number_cursor.proofs.Cursor.Laws as T′
+use Rattle.number_cursor.proofs.Step as S
+use Rattle.number_cursor.proofs.Step.Laws as S′
 use Rattle.leb128.proofs.number.NumberRead as E
 use Rattle.leb128.proofs.number.NumberRead.Laws as E′
-use Rattle.leb128.proofs.cursor.advance as advance
-use Rattle.leb128.proofs.cursor.advance.Symbol as advance-def
-use Rattle.leb128.proofs.cursor.advance.Symbol.{name as #advance}
-use Rattle.leb128.proofs.cursor.advance.Met as advance-thm
-use Rattle.leb128.proofs.cursor.next_number.Key.{name as #next-number}
-use Rattle.leb128.proofs.cursor.next_number as next-number
-use Rattle.leb128.proofs.cursor.next_number.Statement as stated
-use Rattle.leb128.proofs.cursor.next_number.Code as code
+use Rattle.number_cursor.proofs.advance as advance
+use Rattle.number_cursor.proofs.advance.Symbol as advance-def
+use Rattle.number_cursor.proofs.advance.Symbol.{name as #advance}
+use Rattle.number_cursor.proofs.advance.Met as advance-thm
+use Rattle.number_cursor.proofs.next_number.Key.{name as #next-number}
+use Rattle.number_cursor.proofs.next_number as next-number
+use Rattle.number_cursor.proofs.next_number.Statement as stated
+use Rattle.number_cursor.proofs.next_number.Code as code
 
 abbrev stayed : Stays (next-number.ended .signature .params) (next-number.ended .kept)
 stayed = (stay-none-slice (0 ∷ []) tt (plain (λ _. u8)) yes, (stay-none (λ _. T.the-row) yes, tt))
@@ -188,4 +188,4 @@ next-number-spec 𝓤 H 𝓜 𝓖 𝓡 =
     entered 𝓤 H (tripleOf 𝓤 H (𝓖 .A) next-number.signature (next-number.spec 𝓤 H (𝓖 .A) (𝓜 .mem) (𝓡 .run)))
     (tables 𝓤 H 𝓜 𝓡 code.env .C) (tables 𝓤 H 𝓜 𝓡 code.env .Λ) #next-number code.function (code.unfolded 𝓤 H 𝓜 𝓡)
     (next-number-meets 𝓤 H (𝓖 .A) (givenOf 𝓤 H 𝓜 𝓖) (𝓜 .mem) (𝓡 .run) (tablesOf 𝓤 H 𝓜 (tables 𝓤 H 𝓜 𝓡 code.env))
-    (cited 𝓤 H (Advance 𝓤 H (𝓖 .A) (𝓜 .mem) (𝓡 .run)) 𝓜 𝓡 code.env #advance advance-def.routine code.calls-leb128·cursor·advance (advance-thm.met 𝓤 H 𝓜 𝓖 𝓡)))
+    (cited 𝓤 H (Advance 𝓤 H (𝓖 .A) (𝓜 .mem) (𝓡 .run)) 𝓜 𝓡 code.env #advance advance-def.routine code.calls-number-cursor·advance (advance-thm.met 𝓤 H 𝓜 𝓖 𝓡)))

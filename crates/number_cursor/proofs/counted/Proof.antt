@@ -1,10 +1,10 @@
--- `leb128::cursor::counted` meets its contract, by the two cases of its test.
+-- `number_cursor::counted` meets its contract, by the two cases of its test.
 -- Assumes nothing.
 use borrow.Author.Needs.{needs}
 use borrow.Author.Tests.{lt-ltb, le-ltb}
-use Rattle.leb128.specs.Reading.{countedUp}
-use Rattle.leb128.proofs.cursor.counted.Statement.{statement}
-use Rattle.leb128.proofs.cursor.counted.Tie as tie
+use Rattle.number_cursor.specs.Cursors.{countedUp}
+use Rattle.number_cursor.proofs.counted.Statement.{statement}
+use Rattle.number_cursor.proofs.counted.Tie as tie
 
 add-result : tie.Need-add-result
 add-result c = search needs
