@@ -1,5 +1,4 @@
 pub mod Examples
-pub mod Runs
 pub mod Slips
 pub mod Rests
 pub mod Faults
