@@ -4,3 +4,4 @@ pub mod Rests
 pub mod Faults
 pub mod Found
 pub mod Promises
+pub mod Readers
