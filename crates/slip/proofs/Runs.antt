@@ -144,27 +144,29 @@ unfolding valuesFrom
 length-values k top bs zero at = refl
 length-values k top bs (suc c) at = ap suc (length-values k top bs c (nextOf at (readAt k top bs at)))
 
--- the values of a run that has all its numbers are those
-pub run-values : (k top : ℕ) (bs : List ℕ) (c i prev at : ℕ) (ns : List ℕ) (end : ℕ) → run k top bs c i prev at ≡ all ns end → valuesFrom k top bs c at ≡ ns
-unfolding run ruled prepend valuesFrom
-run-values k top bs zero i prev at ns end e = let p : [] ≡ ns = cc in p
-run-values k top bs (suc c) i prev at ns end e = go (readAt k top bs at) refl e (λ n next ms fin. run-values k top bs c (i + 1) n next ms fin)
-  where
-    IH : Type 0
-    IH = (n next : ℕ) (ms : List ℕ) (fin : ℕ) → run k top bs c (i + 1) n next ≡ all ms fin → valuesFrom k top bs c next ≡ ms
+-- the values of a run that has all its numbers are those, also as they are read by other limits, if these take each good number as it is
+module _ (k top k′ top′ : ℕ) (bs : List ℕ) (wider : (at n next : ℕ) → readAt k top bs at ≡ Good n next → readAt k′ top′ bs at ≡ Good n next) where
+  pub run-values : (c i prev at : ℕ) (ns : List ℕ) (end : ℕ) → run k top bs c i prev at ≡ all ns end → valuesFrom k′ top′ bs c at ≡ ns
+  unfolding run ruled prepend valuesFrom
+  run-values zero i prev at ns end e = let p : [] ≡ ns = cc in p
+  run-values (suc c) i prev at ns end e = go (readAt k top bs at) refl e (λ n next ms fin. run-values c (i + 1) n next ms fin)
+    where
+      IH : Type 0
+      IH = (n next : ℕ) (ms : List ℕ) (fin : ℕ) → run k top bs c (i + 1) n next ≡ all ms fin → valuesFrom k′ top′ bs c next ≡ ms
 
-    tail : (n next : ℕ) (u : NumberRun) → run k top bs c (i + 1) n next ≡ u → prepend n u ≡ all ns end → IH → n ∷ valuesFrom k top bs c next ≡ ns
-    tail n next (all ms fin) f e′ ih = let p : n ∷ ms ≡ ns = cc in ap (λ (l : List ℕ). n ∷ l) (ih n next ms fin f) ∙ p
-    tail n next (stopped x) f e′ ih = absurd (let z : _≡_ {A = ℕ} 0 1 = cc in omega arith)
+      tail : (n next : ℕ) (u : NumberRun) → run k top bs c (i + 1) n next ≡ u → prepend n u ≡ all ns end → IH → n ∷ valuesFrom k′ top′ bs c next ≡ ns
+      tail n next (all ms fin) f e′ ih = let p : n ∷ ms ≡ ns = cc in ap (λ (l : List ℕ). n ∷ l) (ih n next ms fin f) ∙ p
+      tail n next (stopped x) f e′ ih = absurd (let z : _≡_ {A = ℕ} 0 1 = cc in omega arith)
 
-    test : (n next : ℕ) (f : Bool) → cond f (prepend n (run k top bs c (i + 1) n next)) (stopped at) ≡ all ns end → IH → n ∷ valuesFrom k top bs c next ≡ ns
-    test n next true e′ ih = tail n next (run k top bs c (i + 1) n next) refl e′ ih
-    test n next false e′ ih = absurd (let z : _≡_ {A = ℕ} 0 1 = cc in omega arith)
+      test : (n next : ℕ) (f : Bool) → cond f (prepend n (run k top bs c (i + 1) n next)) (stopped at) ≡ all ns end → IH → n ∷ valuesFrom k′ top′ bs c next ≡ ns
+      test n next true e′ ih = tail n next (run k top bs c (i + 1) n next) refl e′ ih
+      test n next false e′ ih = absurd (let z : _≡_ {A = ℕ} 0 1 = cc in omega arith)
 
-    go : (r : NumberRead) → readAt k top bs at ≡ r → ruled (allowed i prev) at (λ n next. run k top bs c (i + 1) n next) r ≡ all ns end → IH → valueOf (readAt k top bs at) ∷ valuesFrom k top bs c (nextOf at (readAt k top bs at)) ≡ ns
-    go (Good n next) q e′ ih = rw q (test n next (allowed i prev n) e′ ih)
-    go (Broken x) q e′ ih = absurd (let z : _≡_ {A = ℕ} 0 1 = cc in omega arith)
-    go (Short x) q e′ ih = absurd (let z : _≡_ {A = ℕ} 0 1 = cc in omega arith)
+      go : (r : NumberRead) → readAt k top bs at ≡ r → ruled (allowed i prev) at (λ n next. run k top bs c (i + 1) n next) r ≡ all ns end → IH
+          → valueOf (readAt k′ top′ bs at) ∷ valuesFrom k′ top′ bs c (nextOf at (readAt k′ top′ bs at)) ≡ ns
+      go (Good n next) q e′ ih = rw (wider at n next q) (test n next (allowed i prev n) e′ ih)
+      go (Broken x) q e′ ih = absurd (let z : _≡_ {A = ℕ} 0 1 = cc in omega arith)
+      go (Short x) q e′ ih = absurd (let z : _≡_ {A = ℕ} 0 1 = cc in omega arith)
 
 -- a value is below the limit
 pub value-below : (k top : ℕ) (bs : List ℕ) (at : ℕ) → 0 < top → top ≤ 128 → ((x : ℕ) → getD bs x 0 < 256) → valueOf (readAt k top bs at) < limit k top

@@ -1,6 +1,6 @@
 -- How the code steps through a slip, number by number. Nobody has to believe these definitions: they are what the private functions of the crate
 -- promise one another, and `proofs/Found.antt` shows that they come to what `specs/Slip.antt` says.
-use mathlib.Core.Bool.{Bool, cond}
+use mathlib.Core.Bool.{Bool, cond, _&&_}
 use mathlib.Core.List.{List, [], _∷_}
 use Prim.Native.Nat.{ℕ, zero, suc, _+_, _*_}
 use lib.Dec.{eqb}
@@ -70,11 +70,19 @@ afterHead k top bs (stopped p) = Malformed p
 unfoldable pub restIn : ℕ → ℕ → List ℕ → ℕ → SlipScan
 restIn k top bs from = afterHead k top bs (run k top bs 5 1 0 from)
 
--- the form, and what follows it
-unfoldable pub byForm : List ℕ → NumberRead → SlipScan
-byForm bs (Good n next) = cond (eqb n 1) (restIn 4 16 bs next) (Malformed 0)
-byForm bs (Broken p) = Malformed p
-byForm bs (Short p) = Malformed p
+-- what follows form 2: the rest with numbers below 2 ^ 64, where it is none with numbers below 2 ^ 32
+unfoldable pub widened : SlipScan → SlipScan → SlipScan
+widened (Slip h at) wide = Malformed 0
+widened (Malformed p) wide = wide
 
-unfoldable pub scanIn : List ℕ → SlipScan
-scanIn bs = byForm bs (readAt 4 16 bs 0)
+unfoldable pub wideIn : List ℕ → ℕ → SlipScan
+wideIn bs from = widened (restIn 4 16 bs from) (restIn 9 2 bs from)
+
+-- the form, and what follows it
+unfoldable pub byForm : Bool → List ℕ → NumberRead → SlipScan
+byForm any bs (Good n next) = cond (eqb n 1) (restIn 4 16 bs next) (cond (any && eqb n 2) (wideIn bs next) (Malformed 0))
+byForm any bs (Broken p) = Malformed p
+byForm any bs (Short p) = Malformed p
+
+unfoldable pub scanIn : Bool → List ℕ → SlipScan
+scanIn any bs = byForm any bs (readAt 4 16 bs 0)

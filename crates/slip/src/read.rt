@@ -1,15 +1,17 @@
 // Reading a slip: one pass over its numbers to check them, one to fill the lent room.
 use super::Head;
-use leb128::Cursor;
 use leb128::NumberRead;
-use leb128::next_number;
 use leb128::number_at;
+use number_cursor::Cursor;
+use number_cursor::next_number;
 ghost use mathlib.Core.Path.{_≡_};
+ghost use mathlib.Core.Bool.{true, false};
 ghost use mathlib.Core.List.{_++_};
 ghost use Prim.Native.Nat.{_≤_, _<_};
 ghost use lib.ListN.{length, drop};
+ghost use Rattle.leb128.specs.Reading.{moreOf, topOf};
 ghost use Rattle.slip.specs.Slip.{allowed, Reads};
-ghost use Rattle.slip.specs.Steps.{run, checkedOf, valueOf, nextOf, valuesFrom, restIn, scanIn};
+ghost use Rattle.slip.specs.Steps.{run, checkedOf, valueOf, nextOf, valuesFrom, restIn, wideIn, scanIn};
 
 // Whether the number that i numbers stand before, the form among them, may be n after the number prev.
 fn rule_allows(i: usize, prev: u64, n: u64) -> bool
@@ -43,10 +45,10 @@ enum Checked {
     Stopped(usize),
 }
 
-// Checks c numbers from a cursor. Its count says which numbers of the slip they are.
+// Checks c numbers from a cursor, of its width. Its count says which numbers of the slip they are.
 fn check_numbers(bytes: &[u8], c: usize, from: Cursor) -> Checked
     requires { ⌜ from .count ≤ from .at ⌝ }
-    ensures { λ r. ⌜ r ≡ checkedOf (run 4 16 (now (bytes .entry)) c (from .count) 0 (from .at)) ⌝ }
+    ensures { λ r. ⌜ r ≡ checkedOf (run (moreOf (from .wide)) (topOf (from .wide)) (now (bytes .entry)) c (from .count) 0 (from .at)) ⌝ }
 {
     let mut rest = c;
     let mut prev: u64 = 0;
@@ -100,7 +102,7 @@ fn next_of(at: usize, r: NumberRead) -> usize
     }
 }
 
-// Stores the values of n numbers from a place in the first places of the room.
+// Stores the values of n numbers below 2^32 from a place in the first places of the room.
 fn fill_numbers(bytes: &[u8], at: usize, room: &mut [u32], n: usize)
     requires { ⌜ n ≤ length (now room) ⌝ }
     ensures { λ _. ⌜ now (room .exit) ≡ valuesFrom 4 16 (now (bytes .entry)) n at ++ drop n (now (room .entry)) ⌝ }
@@ -108,8 +110,23 @@ fn fill_numbers(bytes: &[u8], at: usize, room: &mut [u32], n: usize)
     let mut j = 0;
     let mut p = at;
     while j < n {
-        let r = number_at(bytes, p);
+        let r = number_at(bytes, p, false);
         room[j] = value_of(r) as u32;
+        p = next_of(p, r);
+        j += 1;
+    }
+}
+
+// The same of numbers below 2^64.
+fn fill_wide(bytes: &[u8], at: usize, room: &mut [u64], n: usize)
+    requires { ⌜ n ≤ length (now room) ⌝ }
+    ensures { λ _. ⌜ now (room .exit) ≡ valuesFrom 9 2 (now (bytes .entry)) n at ++ drop n (now (room .entry)) ⌝ }
+{
+    let mut j = 0;
+    let mut p = at;
+    while j < n {
+        let r = number_at(bytes, p, true);
+        room[j] = value_of(r);
         p = next_of(p, r);
         j += 1;
     }
@@ -121,18 +138,24 @@ enum SlipScan {
     Malformed(usize),
 }
 
-// Finds out whether what follows the form, from a place on, is the rest of a slip.
-fn find_rest(bytes: &[u8], from: usize) -> SlipScan
+// Finds out whether what follows the form, from a place on, is the rest of a slip whose numbers are of that width.
+fn find_rest(bytes: &[u8], from: usize, wide: bool) -> SlipScan
     requires { ⌜ 0 < from ⌝ }
-    ensures { λ r. ⌜ r ≡ restIn 4 16 (now (bytes .entry)) from ⌝ }
+    ensures { λ r. ⌜ r ≡ restIn (moreOf wide) (topOf wide) (now (bytes .entry)) from ⌝ }
 {
-    match check_numbers(bytes, 5, Cursor { at: from, count: 1 }) {
+    let start = Cursor {
+        at: from,
+        count: 1,
+        wide,
+    };
+    match check_numbers(bytes, 5, start) {
         Checked::Stopped(p) => SlipScan::Malformed(p),
         Checked::All(at) => {
-            let mut head = [0u32; 5];
-            fill_numbers(bytes, from, &mut head, 5);
+            let mut head = [0u64; 5];
+            fill_wide(bytes, from, &mut head, 5);
             let pairs = head[4];
-            match check_numbers(bytes, 2 * (pairs as usize), Cursor { at, count: 6 }) {
+            let past_head = Cursor { at, count: 6, wide };
+            match check_numbers(bytes, 2 * (pairs as usize), past_head) {
                 Checked::Stopped(p) => SlipScan::Malformed(p),
                 Checked::All(end) => {
                     if end == bytes.len() {
@@ -159,16 +182,38 @@ fn find_rest(bytes: &[u8], from: usize) -> SlipScan
     }
 }
 
-// Finds out whether bytes are a slip: the form first, which says how the rest is read.
-fn find_slip(bytes: &[u8]) -> SlipScan
-    ensures { λ r. ⌜ r ≡ scanIn (now (bytes .entry)) ⌝ }
+// What follows form 2: numbers below 2^64 that are not all below 2^32, so that form 1 cannot have them.
+fn find_wide(bytes: &[u8], from: usize) -> SlipScan
+    requires { ⌜ 0 < from ⌝ }
+    ensures { λ r. ⌜ r ≡ wideIn (now (bytes .entry)) from ⌝ }
 {
-    let s = next_number(bytes, Cursor { at: 0, count: 0 });
+    match find_rest(bytes, from, false) {
+        SlipScan::Slip(_, _) => SlipScan::Malformed(0),
+        SlipScan::Malformed(_) => find_rest(bytes, from, true),
+    }
+}
+
+// Finds out whether bytes are a slip, where any is set also one of form 2: the form first, which says how the rest is read.
+fn find_slip(bytes: &[u8], any: bool) -> SlipScan
+    ensures { λ r. ⌜ r ≡ scanIn any (now (bytes .entry)) ⌝ }
+{
+    let start = Cursor {
+        at: 0,
+        count: 0,
+        wide: false,
+    };
+    let s = next_number(bytes, start);
     let read = s.read;
     match read {
         NumberRead::Good(form, next) => {
             if form == 1 {
-                return find_rest(bytes, next);
+                return find_rest(bytes, next, false);
+            }
+            if !any {
+                return SlipScan::Malformed(0);
+            }
+            if form == 2 {
+                return find_wide(bytes, next);
             }
             SlipScan::Malformed(0)
         }
@@ -177,18 +222,18 @@ fn find_slip(bytes: &[u8]) -> SlipScan
     }
 }
 
-// The answer of `read_slip`: the slip's numbers; or refusal 17, the slip is malformed, with the place where it goes wrong; or 16, the room is shorter than its pairs.
+// The answer of reading a slip: the slip's numbers; or refusal 17, the slip is malformed, with the place where it goes wrong; or 16, the room is shorter than its pairs.
 pub enum SlipRead {
     Accepted(Head),
     Malformed(usize),
     NoRoom,
 }
 
-// Reads a slip: its numbers, and its pairs in the first places of the room. A refusal leaves the room as it is.
+// Reads a slip of form 1: its numbers, and its pairs in the first places of the room. A refusal leaves the room as it is.
 pub fn read_slip(bytes: &[u8], room: &mut [u32]) -> SlipRead
-    ensures { λ r. ⌜ Reads (now (bytes .entry)) (now (room .entry)) r (now (room .exit)) ⌝ }
+    ensures { λ r. ⌜ Reads false (now (bytes .entry)) (now (room .entry)) r (now (room .exit)) ⌝ }
 {
-    match find_slip(bytes) {
+    match find_slip(bytes, false) {
         SlipScan::Malformed(place) => SlipRead::Malformed(place),
         SlipScan::Slip(head, at) => {
             let n = 2 * (head.pairs as usize);
@@ -196,6 +241,23 @@ pub fn read_slip(bytes: &[u8], room: &mut [u32]) -> SlipRead
                 return SlipRead::NoRoom;
             }
             fill_numbers(bytes, at, room, n);
+            SlipRead::Accepted(head)
+        }
+    }
+}
+
+// The same of a slip of either form.
+pub fn read_any_slip(bytes: &[u8], room: &mut [u64]) -> SlipRead
+    ensures { λ r. ⌜ Reads true (now (bytes .entry)) (now (room .entry)) r (now (room .exit)) ⌝ }
+{
+    match find_slip(bytes, true) {
+        SlipScan::Malformed(place) => SlipRead::Malformed(place),
+        SlipScan::Slip(head, at) => {
+            let n = 2 * (head.pairs as usize);
+            if room.len() < n {
+                return SlipRead::NoRoom;
+            }
+            fill_wide(bytes, at, room, n);
             SlipRead::Accepted(head)
         }
     }

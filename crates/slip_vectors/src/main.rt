@@ -7,7 +7,7 @@ mod writing;
 use bigendian::after;
 use bigendian::u32_at;
 use bigendian::u64_at;
-use leb128::Cursor;
+use number_cursor::Cursor;
 
 // The kinds of cases: a number read, a slip read, a number written, a slip written.
 const READ_NUMBER: u32 = 1;
@@ -30,7 +30,14 @@ fn answer(case: &[u8]) {
     match u32_at(case, 0) {
         READ_NUMBER => {
             let count = n as usize;
-            reading::number(body, Cursor { at, count });
+            reading::number(
+                body,
+                Cursor {
+                    at,
+                    count,
+                    wide: false,
+                },
+            );
         }
         READ_SLIP => reading::slip(body, room),
         WRITE_NUMBER => writing::number(n, at, room),

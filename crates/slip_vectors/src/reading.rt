@@ -1,13 +1,13 @@
 // Numbers and slips read.
 use super::show;
-use leb128::Cursor;
+use number_cursor::Cursor;
 
 // What stands at a cursor, by its place and by the cursor, and the cursor after it. `next_number` lends it to `advance`, so that the line shows both.
 pub fn number(bytes: &[u8], from: Cursor) {
     show::bytes(b":", bytes);
     show::cursor(b" from", from);
-    show::number_read(b": number_at", leb128::number_at(bytes, from.at));
-    let step = leb128::next_number(bytes, from);
+    show::number_read(b": number_at", leb128::number_at(bytes, from.at, from.wide));
+    let step = number_cursor::next_number(bytes, from);
     let read = step.read;
     show::number_read(b" next_number", read);
     show::cursor(b" to", step.cursor);

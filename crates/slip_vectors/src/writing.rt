@@ -28,11 +28,11 @@ const HEAD: usize = 20;
 
 fn head_in(numbers: &[u8]) -> Head {
     Head {
-        id: u32_at(numbers, 0),
-        scale: u32_at(numbers, 4),
-        a: u32_at(numbers, 8),
-        b: u32_at(numbers, 12),
-        pairs: u32_at(numbers, 16),
+        id: u32_at(numbers, 0) as u64,
+        scale: u32_at(numbers, 4) as u64,
+        a: u32_at(numbers, 8) as u64,
+        b: u32_at(numbers, 12) as u64,
+        pairs: u32_at(numbers, 16) as u64,
     }
 }
 
@@ -51,7 +51,7 @@ fn put_numbers(numbers: &[u8], from: usize, out: &mut [u8]) {
 fn slip_in(numbers: &[u8], out: &mut [u8]) {
     let head = head_in(numbers);
     show::field(b": head_len", slip::head_len(head) as u64);
-    let from = slip::put_head(out, head);
+    let from = slip::put_head(out, head, false);
     put_numbers(after(numbers, HEAD), from, out);
     show::bytes(b" bytes", out);
 }

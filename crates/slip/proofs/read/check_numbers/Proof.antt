@@ -6,17 +6,18 @@ use Prim.Native.Nat.{_≤_, _<_, _^_, _-_}
 use native.Mathlib.Omega.{arith}
 use borrow.Author.Tests.{not-true, not-false}
 use denote.Ref.{now}
-use lib.Dec.{lit<, lit≤}
 use Rattle.slip.specs.Steps.{run, checkedOf}
-use Rattle.leb128.specs.declared.cursor.Step.{Step}
-use Rattle.leb128.proofs.Readings.{read-next, step-moved, counted-one}
+use Rattle.number_cursor.specs.declared.Step.{Step}
+use Rattle.leb128.specs.Reading.{moreOf, topOf}
+use Rattle.leb128.proofs.Readings.{read-next, width}
+use Rattle.number_cursor.proofs.Steps.{step-moved, counted-one}
 use Rattle.slip.proofs.Runs.{check-none, check-good, check-fault, check-broken, check-short}
 use Rattle.slip.proofs.read.check_numbers.Statement.{statement}
 use Rattle.slip.proofs.read.check_numbers.Tie as tie
 
 abbrev Inv-loop : tie.InvT-loop
 Inv-loop bytes c rest₀ prev₀ p₀ rest prev p =
-    (checkedOf (run 4 16 bytes c (p₀ .count) 0 (p₀ .at)) ≡ checkedOf (run 4 16 bytes rest (p .count) prev (p .at))) × (p .count ≤ p .at)
+    (checkedOf (run (moreOf (p₀ .wide)) (topOf (p₀ .wide)) bytes c (p₀ .count) 0 (p₀ .at)) ≡ checkedOf (run (moreOf (p .wide)) (topOf (p .wide)) bytes rest (p .count) prev (p .at))) × (p .count ≤ p .at)
 
 abbrev μ-loop : tie.MeasureT-loop
 μ-loop bytes c rest₀ prev₀ p₀ rest prev p = rest
@@ -37,7 +38,7 @@ returns : tie.Need-returns Inv-loop μ-loop
 returns c =
     let a = c .before .before .before .before .before in
     let l = a .before .before .loop in
-    sym (l .inv .0 ∙ check-fault 4 16 _ _ _ _ _ (a .before .loop-test .taken) _ (ap (λ (t : Step). t .read) (a .next-number .ensures)) _ _ (c .before .before .before .read .given .1) (sym (c .before .rule-allows .ensures) ∙ not-true _ (c .if1 .taken)))
+    sym (l .inv .0 ∙ check-fault _ _ _ _ _ _ _ (a .before .loop-test .taken) _ (ap (λ (t : Step). t .read) (a .next-number .ensures)) _ _ (c .before .before .before .read .given .1) (sym (c .before .rule-allows .ensures) ∙ not-true _ (c .if1 .taken)))
 
 enum-known-read-2 : tie.Need-enum-known-read-2 Inv-loop μ-loop
 enum-known-read-2 c = search needs
@@ -46,7 +47,7 @@ returns-2 : tie.Need-returns-2 Inv-loop μ-loop
 returns-2 c =
     let a = c .before .before .before in
     let l = a .before .before .loop in
-    sym (l .inv .0 ∙ check-broken 4 16 _ _ _ _ _ (a .before .loop-test .taken) _ (ap (λ (t : Step). t .read) (a .next-number .ensures)) _ (c .before .read2 .given .1))
+    sym (l .inv .0 ∙ check-broken _ _ _ _ _ _ _ (a .before .loop-test .taken) _ (ap (λ (t : Step). t .read) (a .next-number .ensures)) _ (c .before .read2 .given .1))
 
 enum-known-read-3 : tie.Need-enum-known-read-3 Inv-loop μ-loop
 enum-known-read-3 c = search needs
@@ -55,7 +56,7 @@ returns-3 : tie.Need-returns-3 Inv-loop μ-loop
 returns-3 c =
     let a = c .before .before .before in
     let l = a .before .before .loop in
-    sym (l .inv .0 ∙ check-short 4 16 _ _ _ _ _ (a .before .loop-test .taken) _ (ap (λ (t : Step). t .read) (a .next-number .ensures)) _ (c .before .read3 .given .1))
+    sym (l .inv .0 ∙ check-short _ _ _ _ _ _ _ (a .before .loop-test .taken) _ (ap (λ (t : Step). t .read) (a .next-number .ensures)) _ (c .before .read3 .given .1))
 
 sub-rest : tie.Need-sub-rest Inv-loop μ-loop
 sub-rest c = search needs
@@ -71,10 +72,11 @@ loop-again c =
     let g = c .before .before .before .before .read .given .1 in
     let read = ap (λ (t : Step). t .read) (a .next-number .ensures) in
     let m = step-moved _ (l .p) (a .next-number .result) (a .next-number .ensures) _ _ g in
-    let past = read-next 16 (now (s .before .args .bytes)) (l .p .at) 4 _ _ (lit< tt) (lit≤ tt) (λ i. s .shared-slice-known .given i .fits) (sym read ∙ g) in
+    let w = width (l .p .wide) in
+    let past = read-next (topOf (l .p .wide)) (now (s .before .args .bytes)) (l .p .at) (moreOf (l .p .wide)) _ _ (w .some) (w .seven) (λ i. s .shared-slice-known .given i .fits) (sym read ∙ g) in
     let few : l .p .count < 2 ^ 64 - 1 = omega (arith, l .inv .1, past, s .before .good) in
     let one = counted-one (l .p .count) few in (
-      rw (m .0, m .1, one) (l .inv .0 ∙ check-good 4 16 _ _ _ _ _ (a .before .loop-test .taken) _ read _ _ g (sym (c .before .before .rule-allows .ensures) ∙ not-false _ (c .before .if1 .left))),
+      rw (m .0, m .1, m .2, one) (l .inv .0 ∙ check-good _ _ _ _ _ _ _ (a .before .loop-test .taken) _ read _ _ g (sym (c .before .before .rule-allows .ensures) ∙ not-false _ (c .before .if1 .left))),
       omega (arith, m .0, m .1, one, l .inv .1, past),
     )
 
@@ -82,7 +84,7 @@ returns-4 : tie.Need-returns-4 Inv-loop μ-loop
 returns-4 c =
     let l = c .before .loop in
     let z : l .rest ≡ 0 = omega arith in
-    sym (l .inv .0 ∙ check-none 4 16 _ _ _ _ _ z)
+    sym (l .inv .0 ∙ check-none _ _ _ _ _ _ _ z)
 
 pub check-numbers-spec : {M : Type 1} → statement M
 check-numbers-spec =

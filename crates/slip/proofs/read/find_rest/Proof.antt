@@ -1,30 +1,44 @@
 -- `slip::read::find_rest` meets its contract: a case for each answer of the two checks.
 -- Assumes nothing.
 use borrow.Author.Needs.{needs}
-use mathlib.Core.Path.{sym, _∙_}
-use Prim.Native.Nat.{_<_, _^_}
+use mathlib.Core.Path.{_≡_, sym, _∙_}
+use Prim.Native.Nat.{ℕ, _≤_, _<_}
 use native.Mathlib.Omega.{arith}
 use denote.Ref.{now}
-use lib.Dec.{lit<, lit≤}
+use lib.Dec.{lit<}
 use lib.ListN.{getD}
-use Rattle.slip.proofs.Found.{filled-at, rest-head, rest-stopped, rest-surplus, rest-whole}
-use Rattle.leb128.proofs.Groups.{limit32}
-use Rattle.slip.proofs.Runs.{values-below, checked-long}
+use Rattle.leb128.specs.Reading.{moreOf, topOf, readAt}
+use Rattle.leb128.specs.declared.number.NumberRead.the-variants.{Good}
+use Rattle.leb128.proofs.Readings.{width}
+use Rattle.slip.proofs.Rests.{head-few}
+use Rattle.slip.proofs.Found.{as-wide, filled-at, rest-head, rest-stopped, rest-surplus, rest-whole}
+use Rattle.slip.proofs.Runs.{checked-long}
 use Rattle.slip.proofs.read.find_rest.Statement.{statement}
 use Rattle.slip.proofs.read.find_rest.Tie as tie
 
--- the number of pairs fits
-few : (c : tie.After-head2) → getD (c .before .fill-numbers .last .1 .1 .0) 4 0 < 2 ^ 32
+-- the bytes are bytes, and a number that is good is good by the wider limits too
+module _ (b : tie.After-check-numbers) where
+  are : (x : ℕ) → getD (now (b .before .before .args .bytes)) x 0 < 256
+  are i = b .before .shared-slice-known .given i .fits
+
+  wider : (x n next : ℕ) → readAt (moreOf (b .before .before .args .wide)) (topOf (b .before .before .args .wide)) (now (b .before .before .args .bytes)) x ≡ Good n next
+      → readAt 9 2 (now (b .before .before .args .bytes)) x ≡ Good n next
+  wider = as-wide (now (b .before .before .args .bytes)) are (b .before .before .args .wide)
+
+-- the number of pairs is small
+few : (c : tie.After-head2) → getD (c .before .fill-wide .last .1 .1 .0) 4 0 ≤ 1048576
 few c =
     let f = c .before in
-    let b = f .before .before .before .before .before in
+    let t = f .before .before .before in
+    let b = t .before .before in
     let bs = now (b .before .before .args .bytes) in
+    let wide = b .before .before .args .wide in
     let from = b .before .before .args .from in
+    let w = width wide in
     omega (
       arith,
-      filled-at 4 16 bs from (f .fill-numbers .last .1 .1 .0) _ (f .fill-numbers .ensures) 4 (lit< tt),
-      values-below 4 16 bs 5 from 4 (lit< tt) (lit≤ tt) (λ i. b .before .shared-slice-known .given i .fits),
-      limit32,
+      filled-at 9 2 bs from (f .fill-wide .last .1 .1 .0) _ (f .fill-wide .ensures) 4 (lit< tt),
+      head-few (moreOf wide) (topOf wide) 9 2 bs from _ (w .seven) (w .some) (w .ten) (wider b) (are b) (sym (t .at .given .1) ∙ b .check-numbers .ensures),
     )
 
 check-numbers-requires : tie.Need-check-numbers-requires
@@ -36,17 +50,14 @@ enum-known-p c = search needs
 enum-known-at : tie.Need-enum-known-at
 enum-known-at c = search needs
 
-slice-aggregate-fill-numbers : tie.Need-slice-aggregate-fill-numbers
-slice-aggregate-fill-numbers c = search needs
+slice-aggregate-fill-wide : tie.Need-slice-aggregate-fill-wide
+slice-aggregate-fill-wide c = search needs
 
-fill-numbers-requires : tie.Need-fill-numbers-requires
-fill-numbers-requires c κs = search needs
+fill-wide-requires : tie.Need-fill-wide-requires
+fill-wide-requires c κs = search needs
 
 array-read-pairs : tie.Need-array-read-pairs
 array-read-pairs c = search needs
-
-cast-check-numbers : tie.Need-cast-check-numbers
-cast-check-numbers c = omega (arith, few c)
 
 mul-check-numbers : tie.Need-mul-check-numbers
 mul-check-numbers c = omega (arith, few c)
@@ -55,9 +66,10 @@ check-numbers-requires-2 : tie.Need-check-numbers-requires-2
 check-numbers-requires-2 c κs =
     let t = c .before .before .before .before in
     let b = t .before .before in
+    let w = width (b .before .before .args .wide) in
     omega (
       arith,
-      checked-long 4 16 (now (b .before .before .args .bytes)) 5 1 0 (b .before .before .args .from) _ (lit< tt) (lit≤ tt) (lit≤ tt) (λ i. b .before .shared-slice-known .given i .fits) (sym (t .at .given .1) ∙ b .check-numbers .ensures),
+      checked-long (moreOf (b .before .before .args .wide)) (topOf (b .before .before .args .wide)) (now (b .before .before .args .bytes)) 5 1 0 (b .before .before .args .from) _ (w .some) (w .seven) (w .ten) (are b) (sym (t .at .given .1) ∙ b .check-numbers .ensures),
       b .before .before .pre,
     )
 
@@ -80,28 +92,28 @@ array-read-b : tie.Need-array-read-b
 array-read-b c = search needs
 
 returns : tie.Need-returns
-returns c = sym (rest-head 4 16 _ _ _ (c .before .before .before .check-numbers .ensures) _ (c .before .p .given .1))
+returns c = sym (rest-head _ _ _ _ _ (c .before .before .before .check-numbers .ensures) _ (c .before .p .given .1))
 
 returns-2 : tie.Need-returns-2
 returns-2 c =
     let s = c .before .before .before in
     let f = s .before .before in
     let t = f .before .before .before in
-    sym (rest-stopped 4 16 _ _ _ _ (t .before .before .check-numbers .ensures) (t .at .given .1) _ _ (f .fill-numbers .ensures) _ (s .check-numbers2 .ensures) _ (c .before .p2 .given .1))
+    sym (rest-stopped _ _ 9 2 _ (wider (t .before .before)) _ _ _ (t .before .before .check-numbers .ensures) (t .at .given .1) _ _ (f .fill-wide .ensures) _ (s .check-numbers2 .ensures) _ (c .before .p2 .given .1))
 
 returns-3 : tie.Need-returns-3
 returns-3 c =
     let s = c .before .before .before .before in
     let f = s .before .before in
     let t = f .before .before .before in
-    sym (rest-whole 4 16 _ _ _ _ (t .before .before .check-numbers .ensures) (t .at .given .1) _ _ (f .fill-numbers .ensures) _ (s .check-numbers2 .ensures) _ (c .before .before .end .given .1) (c .if1 .taken))
+    sym (rest-whole _ _ 9 2 _ (wider (t .before .before)) _ _ _ (t .before .before .check-numbers .ensures) (t .at .given .1) _ _ (f .fill-wide .ensures) _ (s .check-numbers2 .ensures) _ (c .before .before .end .given .1) (c .if1 .taken))
 
 returns-4 : tie.Need-returns-4
 returns-4 c =
     let s = c .before .before .before .before in
     let f = s .before .before in
     let t = f .before .before .before in
-    sym (rest-surplus 4 16 _ _ _ _ (t .before .before .check-numbers .ensures) (t .at .given .1) _ _ (f .fill-numbers .ensures) _ (s .check-numbers2 .ensures) _ (c .before .before .end .given .1) (c .if1 .left))
+    sym (rest-surplus _ _ 9 2 _ (wider (t .before .before)) _ _ _ (t .before .before .check-numbers .ensures) (t .at .given .1) _ _ (f .fill-wide .ensures) _ (s .check-numbers2 .ensures) _ (c .before .before .end .given .1) (c .if1 .left))
 
 pub find-rest-spec : {M : Type 1} → statement M
 find-rest-spec =
@@ -110,10 +122,9 @@ find-rest-spec =
     check-numbers-requires
     enum-known-p
     enum-known-at
-    slice-aggregate-fill-numbers
-    fill-numbers-requires
+    slice-aggregate-fill-wide
+    fill-wide-requires
     array-read-pairs
-    cast-check-numbers
     mul-check-numbers
     check-numbers-requires-2
     enum-known-p-2
