@@ -7,7 +7,8 @@ use Prim.Native.Nat.{ℕ}
 use Rattle.leb128.specs.Numbers.{groups, groupsIn, writes, value, onto, cut, same, written, values, unended, cutShort}
 use Rattle.slip_head.specs.Bytes.{anyWide, formOf, slipBytes}
 use Rattle.slip_head.specs.declared.Head.{Head}
-use Rattle.slip.specs.Slip.{allowed, wanted, faultFrom, wideFault, restFault, slipFault, Outcome, accepted, malformed, outcomeOf, slipIn}
+use Rattle.slip_scan.specs.Rules.{allowed}
+use Rattle.slip.specs.Slip.{wanted, faultFrom, wideFault, restFault, slipFault, Outcome, accepted, malformed, outcomeOf, slipIn}
 
 abbrev worked : Head
 worked = record { id = 1; scale = 600; a = 24; b = 73; pairs = 2 }

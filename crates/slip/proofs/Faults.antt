@@ -17,11 +17,12 @@ use Rattle.leb128.specs.declared.number.NumberRead.the-variants.{Good, Broken, 
 use Rattle.leb128.proofs.Pieces.{cut-none, IsNumber, piece-good, piece-broken, piece-short}
 use Rattle.slip_head.specs.Bytes.{afterForm}
 use Rattle.slip_head.proofs.Forms.{below-narrow, widen, rules-at, all-below, but-count}
-use Rattle.slip.specs.Slip.{allowed, wanted, Fault, at, faultFrom, wideFault, restFault, slipFault}
-use Rattle.slip.specs.Steps.{NumberRun, all, stopped, prepend, ruled, run, afterPairs, afterHead, restIn, widened, wideIn, byForm, scanIn, valuesFrom}
-use Rattle.slip.specs.declared.read.SlipScan.{SlipScan}
-use Rattle.slip.specs.declared.read.SlipScan.the-variants.{Slip, Malformed}
-use Rattle.slip.proofs.Runs.{run-ran}
+use Rattle.slip_scan.specs.Rules.{allowed}
+use Rattle.slip.specs.Slip.{wanted, Fault, at, faultFrom, wideFault, restFault, slipFault}
+use Rattle.slip_scan.specs.Steps.{NumberRun, all, stopped, prepend, ruled, run, afterPairs, afterHead, restIn, widened, wideIn, byForm, scanIn, valuesFrom}
+use Rattle.slip_scan.specs.declared.SlipScan.{SlipScan}
+use Rattle.slip_scan.specs.declared.SlipScan.the-variants.{Slip, Malformed}
+use Rattle.slip_scan.proofs.Runs.{run-ran}
 use Rattle.slip.proofs.Slips.{rules-none}
 use Rattle.slip.proofs.Rests.{rest-only}
 

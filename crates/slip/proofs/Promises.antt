@@ -15,8 +15,8 @@ use Rattle.slip_head.specs.Bytes.{afterForm, headNumbers, anyWide, formFor, sli
 use Rattle.slip_head.specs.declared.Head.{Head}
 use Rattle.slip_head.proofs.Writes.{put-slip}
 use Rattle.slip.specs.Slip.{Outcome, accepted, malformed, slipIn, boundOf, IsSlip, slipReadNumbers, numbersFor, roomFor, Reads}
-use Rattle.slip.specs.declared.read.SlipRead.{SlipRead}
-use Rattle.slip.specs.declared.read.SlipRead.the-variants.{Accepted, Malformed, NoRoom}
+use Rattle.slip.specs.declared.SlipRead.{SlipRead}
+use Rattle.slip.specs.declared.SlipRead.the-variants.{Accepted, Malformed, NoRoom}
 use Rattle.slip.proofs.Slips.{slip-read, slip-only}
 use Rattle.leb128.proofs.Puts.{Put}
 

@@ -15,29 +15,12 @@ use Rattle.leb128.specs.Reading.{limit, readAt}
 use Rattle.leb128.specs.declared.number.NumberRead.the-variants.{Good}
 use Rattle.slip_head.specs.Bytes.{afterForm, Rules}
 use Rattle.slip_head.specs.declared.Head.{Head}
-use Rattle.slip.specs.Slip.{allowed}
-use Rattle.slip.specs.Steps.{NumberRun, all, stopped, run, checkedOf, valuesFrom, afterPairs, afterHead, restIn}
-use Rattle.slip.specs.declared.read.Checked.the-variants.{All}
-use Rattle.slip.specs.declared.read.SlipScan.{SlipScan}
-use Rattle.slip.specs.declared.read.SlipScan.the-variants.{Slip, Malformed}
-use Rattle.slip.proofs.Runs.{Allowed, Ran, run-ran, run-values, pairs-below, checked-all}
-
--- the five numbers that follow the form, before the pairs
-abbrev head : Head → List ℕ
-head h = h .id ∷ h .scale ∷ h .a ∷ h .b ∷ h .pairs ∷ []
-
--- a head of five numbers
-abbrev headOf : List ℕ → Head
-headOf ns = record { id = getD ns 0 0; scale = getD ns 1 0; a = getD ns 2 0; b = getD ns 3 0; pairs = getD ns 4 0 }
-
-five : (ns : List ℕ) → length ns ≡ 5 → ns ≡ head (headOf ns)
-five [] e = absurd (omega arith)
-five (x₀ ∷ []) e = absurd (omega arith)
-five (x₀ ∷ x₁ ∷ []) e = absurd (omega arith)
-five (x₀ ∷ x₁ ∷ x₂ ∷ []) e = absurd (omega arith)
-five (x₀ ∷ x₁ ∷ x₂ ∷ x₃ ∷ []) e = absurd (omega arith)
-five (x₀ ∷ x₁ ∷ x₂ ∷ x₃ ∷ x₄ ∷ []) e = refl
-five (x₀ ∷ x₁ ∷ x₂ ∷ x₃ ∷ x₄ ∷ x₅ ∷ ns) e = absurd (omega arith)
+use Rattle.slip_scan.specs.Rules.{allowed}
+use Rattle.slip_scan.specs.Steps.{NumberRun, all, stopped, run, valuesFrom, afterPairs, afterHead, restIn}
+use Rattle.slip_scan.specs.declared.SlipScan.{SlipScan}
+use Rattle.slip_scan.specs.declared.SlipScan.the-variants.{Slip, Malformed}
+use Rattle.slip_scan.proofs.Runs.{Allowed, Ran, run-ran, run-values, pairs-below}
+use Rattle.slip_scan.proofs.Rest.{head, headOf, five}
 
 -- numbers that are allowed by their place keep the rules of document 01
 allowed-rules : (bound : ℕ) (h : Head) (pairs : List ℕ) → Allowed bound 1 0 (head h) → length pairs ≡ 2 * h .pairs → Below bound pairs → Rules bound h pairs
@@ -109,15 +92,3 @@ module _ (k top k′ top′ : ℕ) (t : top ≤ 128) where
       go₁ : (u : NumberRun) → run k top bs 5 1 0 from ≡ u → afterHead k top bs u ≡ Slip h at → Goal
       go₁ (all ns at′) f e′ = go₂ ns at′ (run-ran k top bs 5 1 0 from ns at′ p t nine are f) (run k top bs (2 * getD ns 4 0) 6 0 at′) refl e′
       go₁ (stopped x) f e′ = absurd (let z : _≡_ {A = ℕ} 0 1 = cc in omega arith)
-
--- five numbers that were checked: the number of pairs is small
-pub head-few : (k top k′ top′ : ℕ) (bs : List ℕ) (from at : ℕ) → top ≤ 128 → 0 < top → k ≤ 9 → ((x n next : ℕ) → readAt k top bs x ≡ Good n next → readAt k′ top′ bs x ≡ Good n next)
-    → ((x : ℕ) → getD bs x 0 < 256) → All at ≡ checkedOf (run k top bs 5 1 0 from) → getD (valuesFrom k′ top′ bs 5 from) 4 0 ≤ 1048576
-unfolding allowed
-head-few k top k′ top′ bs from at t p nine wider are e =
-    let r = checked-all (run k top bs 5 1 0 from) at e in
-    let s = run-ran k top bs 5 1 0 from (r .0) at p t nine are (r .1) in
-    let w = five (r .0) (s .count) in
-    let a = subst (Allowed (limit k top) 1 0) w (s .are) in
-    let l = leb-true (getD (r .0) 4 0) 1048576 (and-both (ltb 0 (getD (r .0) 4 0)) (leb (getD (r .0) 4 0) 1048576) (a .2 .2 .2 .2 .1) .1) in
-    omega (arith, l, ap (λ (x : List ℕ). getD x 4 0) (run-values k top k′ top′ bs wider 5 1 0 from (r .0) at (r .1)))

@@ -1,26 +1,18 @@
 -- Document 01, "The slip", and document 02, Asks 5 and 9: what a slip is, where bytes go wrong that are none, and what reading one answers.
 use mathlib.Core.Path.{_≡_}
-use mathlib.Core.Bool.{Bool, true, cond, _&&_}
+use mathlib.Core.Bool.{Bool, cond, _&&_}
 use mathlib.Core.List.{List, [], _∷_, _++_}
 use Prim.Native.Nat.{ℕ, suc, _+_, _*_, _^_}
-use lib.Dec.{ltb, leb, eqb}
+use lib.Dec.{ltb, eqb}
 use lib.ListN.{length, getD, drop}
 use Rattle.leb128.specs.Numbers.{value, cut, written, values, cutShort}
 use Rattle.slip_head.specs.declared.Head.{Head}
 use Rattle.slip_head.specs.Bytes.{anyWide, slipBytes, Rules}
-use Rattle.slip.specs.declared.read.SlipRead.{SlipRead}
-use Rattle.slip.specs.declared.read.SlipRead.the-variants.{Accepted, Malformed, NoRoom}
+use Rattle.slip_scan.specs.Rules.{allowed}
+use Rattle.slip.specs.declared.SlipRead.{SlipRead}
+use Rattle.slip.specs.declared.SlipRead.the-variants.{Accepted, Malformed, NoRoom}
 
 -- ---- where bytes go wrong, number after number
-
--- the rule of the number n that stands at index i past the form, whose index is 0; prev is the number before it. "ID and scale are not 0,
--- a < b, there are 1 to 1,048,576 pairs"; "b at or below a is b's fault". A number of a pair, and a, may be any
-unfoldable pub allowed : ℕ → ℕ → ℕ → Bool
-allowed i prev n =
-    cond (leb 6 i) true
-    (cond (ltb i 3) (ltb 0 n)
-    (cond (eqb i 4) (ltb prev n)
-    (cond (eqb i 5) (ltb 0 n && leb n 1048576) true)))
 
 -- how many numbers there are in all, once the number n at index i is read: "number of pairs, pairs", each pair two numbers
 unfoldable pub wanted : ℕ → ℕ → ℕ → ℕ
