@@ -1,4 +1,4 @@
-// The slip of a stretch of media time.
+// The slip of a stretch of media time, for a caller in another language: its bytes in lent room, its length in a lent place.
 use edits::MediaTime;
 use hand::hand;
 use hand::or_short;
@@ -9,7 +9,7 @@ use structure::source::Source;
 ghost use Rattle.stretch.specs.Slips.{slipOfStretch};
 ghost use Rattle.hand.specs.Places.{Fills};
 ghost use Rattle.hand.specs.Times.{media};
-ghost use Rattle.host_stretches.specs.Numbers.{ofSlipWriting};
+ghost use Rattle.host_written_slips.specs.Numbers.{ofSlipWriting};
 
 // Writes the slip of a track's stretch from a to b into the bytes, and in one place its length.
 pub fn hand_written_slip(

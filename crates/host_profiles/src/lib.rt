@@ -1,4 +1,4 @@
-// The stored profile of a movie or of one of its tracks.
+// The stored profile of a movie or of one of its tracks, for a caller in another language: records in lent room, their number in a lent place.
 use hand::hand;
 use hand::or_short;
 use profiles::ProfileAnswer;
@@ -7,7 +7,7 @@ use profiles::stored_profile;
 use structure::source::Source;
 ghost use Rattle.profiles.specs.Profiles.{profileNumbers};
 ghost use Rattle.hand.specs.Places.{Fills};
-ghost use Rattle.host_tracks.specs.Numbers.{ofProfile};
+ghost use Rattle.host_profiles.specs.Numbers.{ofProfile};
 
 // The stored profile of a track, or for ID 0 of the movie: three numbers for each record in the room, and in one place how many records.
 pub fn hand_profile(

@@ -1,12 +1,12 @@
--- `host_stretches::stretches::hand_stretch` meets its contract: too few places, or case by case of the answer.
+-- `host_stretches::hand_stretch` meets its contract: too few places, or case by case of the answer.
 -- Assumes nothing.
 use borrow.Author.Needs.{needs}
 use mathlib.Core.Path.{refl}
 use Rattle.hand.proofs.Answered.{too-few, fills, of-case}
 use Rattle.stretch.specs.Stretches.{stretchRefusal, stretchNumbers}
 use Rattle.host_stretches.proofs.Judged.{stretch-judged}
-use Rattle.host_stretches.proofs.stretches.hand_stretch.Statement.{statement}
-use Rattle.host_stretches.proofs.stretches.hand_stretch.Tie as tie
+use Rattle.host_stretches.proofs.hand_stretch.Statement.{statement}
+use Rattle.host_stretches.proofs.hand_stretch.Tie as tie
 
 whole-requires : tie.Need-whole-requires
 whole-requires c κs = search needs

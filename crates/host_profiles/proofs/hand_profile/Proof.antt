@@ -1,12 +1,12 @@
--- `host_tracks::profile::hand_profile` meets its contract: too few places, or case by case of the answer.
+-- `host_profiles::hand_profile` meets its contract: too few places, or case by case of the answer.
 -- Assumes nothing.
 use borrow.Author.Needs.{needs}
 use mathlib.Core.Path.{refl}
 use Rattle.hand.proofs.Answered.{too-few, fills, of-case}
 use Rattle.profiles.specs.Profiles.{profileRefusal, profileAnswerNumbers}
-use Rattle.host_tracks.proofs.Judged.{profile-judged}
-use Rattle.host_tracks.proofs.profile.hand_profile.Statement.{statement}
-use Rattle.host_tracks.proofs.profile.hand_profile.Tie as tie
+use Rattle.host_profiles.proofs.Judged.{profile-judged}
+use Rattle.host_profiles.proofs.hand_profile.Statement.{statement}
+use Rattle.host_profiles.proofs.hand_profile.Tie as tie
 
 id-refusal-requires : tie.Need-id-refusal-requires
 id-refusal-requires c κs = search needs

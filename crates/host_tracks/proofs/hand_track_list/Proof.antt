@@ -1,12 +1,12 @@
--- `host_tracks::tracks::hand_track_list` meets its contract: too few places, or case by case of the answer.
+-- `host_tracks::hand_track_list` meets its contract: too few places, or case by case of the answer.
 -- Assumes nothing.
 use borrow.Author.Needs.{needs}
 use mathlib.Core.Path.{refl}
 use Rattle.hand.proofs.Answered.{too-few, fills, of-case}
 use Rattle.track_list.specs.TrackList.{listRefusal, trackListNumbers}
 use Rattle.host_tracks.proofs.Judged.{list-judged}
-use Rattle.host_tracks.proofs.tracks.hand_track_list.Statement.{statement}
-use Rattle.host_tracks.proofs.tracks.hand_track_list.Tie as tie
+use Rattle.host_tracks.proofs.hand_track_list.Statement.{statement}
+use Rattle.host_tracks.proofs.hand_track_list.Tie as tie
 
 refusal-requires : tie.Need-refusal-requires
 refusal-requires c κs = search needs

@@ -1,12 +1,12 @@
--- `host_stretches::slips::hand_written_slip` meets its contract: too few places, or case by case of the answer.
+-- `host_written_slips::hand_written_slip` meets its contract: too few places, or case by case of the answer.
 -- Assumes nothing.
 use borrow.Author.Needs.{needs}
 use mathlib.Core.Path.{refl}
 use Rattle.hand.proofs.Answered.{too-few, fills, of-case}
 use Rattle.stretch.specs.Slips.{slipRefusal, slipNumbers}
-use Rattle.host_stretches.proofs.Judged.{slip-judged}
-use Rattle.host_stretches.proofs.slips.hand_written_slip.Statement.{statement}
-use Rattle.host_stretches.proofs.slips.hand_written_slip.Tie as tie
+use Rattle.host_written_slips.proofs.Judged.{slip-judged}
+use Rattle.host_written_slips.proofs.hand_written_slip.Statement.{statement}
+use Rattle.host_written_slips.proofs.hand_written_slip.Tie as tie
 
 whole-requires : tie.Need-whole-requires
 whole-requires c κs = search needs
