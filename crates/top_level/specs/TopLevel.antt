@@ -1,0 +1,1 @@
+-- The walk over a whole file, step after step.
