@@ -1,32 +1,28 @@
--- `host_top_level::walk_in` meets its contract: TODO.
+-- `host_top_level::walk_in` meets its contract: each field is what its callee answers.
 -- Assumes nothing.
 use borrow.Author.Needs.{needs}
+use Rattle.host_top_level.specs.Numbers.{walkIn}
 use Rattle.host_top_level.proofs.walk_in.Statement.{statement}
 use Rattle.host_top_level.proofs.walk_in.Tie as tie
 
--- src/lib.rt:22:17
 value-at-requires : tie.Need-value-at-requires
 value-at-requires c κs = search needs
 
--- src/lib.rt:23:16
 value-at-requires-2 : tie.Need-value-at-requires-2
 value-at-requires-2 c κs = search needs
 
--- src/lib.rt:24:16
 value-at-requires-3 : tie.Need-value-at-requires-3
 value-at-requires-3 c κs = search needs
 
--- src/lib.rt:25:13
 value-at-requires-4 : tie.Need-value-at-requires-4
 value-at-requires-4 c κs = search needs
 
--- src/lib.rt:26:15
 value-at-requires-5 : tie.Need-value-at-requires-5
 value-at-requires-5 c κs = search needs
 
--- src/lib.rt:18:1
 returns : tie.Need-returns
-returns c = ?
+unfolding walkIn
+returns c = cc
 
 pub walk-in-spec : {M : Type 1} → statement M
 walk-in-spec =
