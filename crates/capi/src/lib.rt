@@ -2,15 +2,15 @@
 // the values that documents 01 and 02 name into lent places, in its order. Each is one call: a function that is exported must stand in this crate.
 use host_features::hand_feature;
 use host_features::hand_peak;
+use host_profiles::hand_profile;
 use host_samples::hand_sample;
 use host_samples::hand_sample_bytes;
 use host_slips::hand_read_slip;
-use host_stretches::slips::hand_written_slip;
-use host_stretches::stretches::hand_stretch;
+use host_stretches::hand_stretch;
 use host_times::hand_media_time;
 use host_times::hand_sample_at;
-use host_tracks::profile::hand_profile;
-use host_tracks::tracks::hand_track_list;
+use host_tracks::hand_track_list;
+use host_written_slips::hand_written_slip;
 use structure::source::Source;
 ghost use mathlib.Core.Bool.{false};
 ghost use Rattle.slip.specs.Slip.{slipIn};
@@ -22,11 +22,13 @@ ghost use Rattle.stretch.specs.Slips.{slipOfStretch};
 ghost use Rattle.profiles.specs.Profiles.{profileNumbers};
 ghost use Rattle.hand.specs.Places.{Answers, SignedAnswers, Fills};
 ghost use Rattle.hand.specs.Times.{media};
-ghost use Rattle.host_tracks.specs.Numbers.{ofTrackList, ofProfile};
+ghost use Rattle.host_tracks.specs.Numbers.{ofTrackList};
 ghost use Rattle.host_samples.specs.Numbers.{ofSample, ofSampleBytes};
 ghost use Rattle.host_features.specs.Numbers.{ofFeature, ofPeak};
 ghost use Rattle.host_times.specs.Numbers.{ofSampleAt, ofMediaTime};
-ghost use Rattle.host_stretches.specs.Numbers.{ofStretch, ofSlipWriting};
+ghost use Rattle.host_stretches.specs.Numbers.{ofStretch};
+ghost use Rattle.host_written_slips.specs.Numbers.{ofSlipWriting};
+ghost use Rattle.host_profiles.specs.Numbers.{ofProfile};
 ghost use Rattle.host_slips.specs.Numbers.{ofSlipReading, pairsOf};
 
 // Lists the tracks of a film: eight numbers for each in the room, and in one place how many tracks.
