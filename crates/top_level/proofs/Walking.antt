@@ -26,8 +26,7 @@ use Rattle.top_level.specs.TopLevel.{headerAt, onBy, walk, walked, moovP
 use Rattle.top_level.proofs.Steps.{past-moov, past-other, step-long, step-end, step-stop, step-on}
 use Rattle.top_level.proofs.Ahead.{ahead-top}
 use Rattle.top_level.proofs.Passing.{passed, passed-next, none}
-use Rattle.top_level.proofs.Alone.{one-moov}
-use Rattle.top_level.proofs.Places.{First, first-stands}
+use Rattle.top_level.proofs.Places.{First, first-stands, moov-alone}
 
 -- what the atoms of t say, from the walk w before them
 said : List ℕ → Walk → Next
@@ -224,7 +223,7 @@ module _ (s : List ℕ) (at size : ℕ) (e : walked s ≡ Found at size) where
   there = rw (← told .2, ← told .3) (stands .there)
 
   by-itself : OneMoov (take size (drop at s))
-  by-itself = rw there (one-moov (the s) (stands .size) (stands .whole) (stands .kind))
+  by-itself = let n = only-found .1 in rw there (moov-alone s (omega arith))
 
 pub finds : (s : List ℕ) → Finds s
 finds s = record { says = says s; inside = fits s; moov-there = there s; alone = by-itself s }
