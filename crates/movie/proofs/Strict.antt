@@ -47,7 +47,7 @@ none-judged w [] q = refl
 none-judged w (t ∷ ts) q = rw (not-judged w t q) (none-judged w ts q)
 
 strict-already : (w : Source) → w .strict ≡ true → strictly w ≡ w
-strict-already w q = ap (λ b. record { strict = b }) (sym q)
+strict-already w q = ap (λ b. record { strict = b; alone = w .alone; length = w .length }) (sym q)
 
 module _ (w : Source) (len : ℕ) (m : List ℕ) (k : ℕ) (n : k ≡ 11 → ⊥) where
   tables-same : tablesRefusal (strictly w) len m ≡ k → tablesRefusal w len m ≡ k
