@@ -17,7 +17,7 @@ use Rattle.runs.specs.Runs.{runsIn, runsOf, perSample}
 use Rattle.runs.specs.Cursors.{runAhead, RunStands, startRun, loadedRun, pastRun}
 use Rattle.runs.specs.declared.cursor.RunCursor.{RunCursor}
 use Rattle.runs.proofs.Turns.{runs-in, runs-none, runs-next}
-use Rattle.runs.proofs.Cursors.{split, run-start, run-past, run-cons}
+use Rattle.runs.proofs.Cursors.{run-start, run-past, run-cons}
 use Rattle.positions.specs.Runs.{soughtRunIn, soughtRun, shiftOf}
 
 -- ---- what the search keeps
@@ -53,6 +53,16 @@ module _ (s : List ℕ) where
 -- ---- what lies ahead
 
 module _ (s : List ℕ) where
+  -- the first entry of what a cursor has not read, and the rest
+  split : (at : ℕ) (e : Run) (es : List Run) → runsIn (drop at s) ≡ e ∷ es → runsIn (drop (at + 8) s) ≡ es
+  split at e es q = elim (decLt (length (drop at s)) 8) [
+    | yes l ↦ let n : runsIn (drop at s) ≡ [] = runs-none (drop at s) l in let z : _≡_ {A = ℕ} 0 1 = cc in absurd (omega arith)
+    | no l ↦
+        let n = runs-next (drop at s) (omega arith) in
+        let t : runsIn (drop 8 (drop at s)) ≡ es = cc in
+        ap runsIn (sym (drop-drop 8 at s)) ∙ t
+  ]
+
   further-end : (c : RunCursor) (k : ℕ) → runsIn (drop (c .at) s) ≡ [] → runAhead s (pastRun k c) ≡ drop k (runAhead s c)
   unfolding runAhead
   further-end c k q = elim (decLe k (c .count)) [
@@ -68,7 +78,7 @@ module _ (s : List ℕ) where
   further (e ∷ es) c k q = elim (decLt k (c .count)) [
     | yes l ↦ rw (lt-ltb k (c .count) l) (run-past s c k (omega arith))
     | no l ↦
-        let m = split s (c .at) e es q in
+        let m = split (c .at) e es q in
         let w = further es (loadedRun e c) (k - c .count) m in
         let z : c .count - c .count ≡ 0 = omega arith in
         let n : c .count + (k - c .count) ≡ k = omega arith in

@@ -55,7 +55,7 @@ pub record SameRun (s : List ℕ) (c r : RunCursor) : Type 0 where
 
 module _ (s : List ℕ) where
   -- the first entry of what a cursor has not read, and the rest
-  pub split : (at : ℕ) (e : Run) (es : List Run) → runsIn (drop at s) ≡ e ∷ es → runsIn (drop (at + 8) s) ≡ es
+  split : (at : ℕ) (e : Run) (es : List Run) → runsIn (drop at s) ≡ e ∷ es → runsIn (drop (at + 8) s) ≡ es
   split at e es q = elim (decLt (length (drop at s)) 8) [
     | yes l ↦ let n : runsIn (drop at s) ≡ [] = runs-none (drop at s) l in let z : _≡_ {A = ℕ} 0 1 = cc in absurd (omega arith)
     | no l ↦

@@ -54,7 +54,7 @@ abbrev pub samplesOf : List ℕ → ℕ
 samplesOf t = u32At (tableOf stsz t) 16
 
 abbrev pub chunksOf : List ℕ → ℕ
-chunksOf t = u32At (tableOf stco t) 12
+chunksOf t = u32At (offsetTable t) 12
 
 abbrev pub editsOf : List ℕ → ℕ
 editsOf t = u32At (elstOf t) 12

@@ -25,11 +25,10 @@ impl Source {
     pub fn of_moov(length: u64) -> Source
         ensures { λ r. ⌜ r ≡ moovAlone length ⌝ }
     {
-        Source {
-            strict: false,
-            alone: true,
-            length: length,
-        }
+        let mut source = Source::whole();
+        source.alone = true;
+        source.length = length;
+        source
     }
 
     // The same, with refusal 11 asked for.

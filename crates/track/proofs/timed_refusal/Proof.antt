@@ -24,7 +24,7 @@ over c = sym (c .is-over .ensures ∙ ap (λ (l : List ℕ). ltb 4294967295 (edi
 
 -- whether a chunk passes the file's end
 ends : (c : tie.After-chunks-end-within) → chunkPastEnd (c .before .before .before .before .before .before .before .before .before .before .before .before .args .len) (now (c .before .before .before .before .before .before .before .before .before .before .before .before .args .trak)) ≡ not (c .chunks-end-within .result)
-ends c = sym (chunk-past-end-by _ _ _ _ _ _ (c .before .before .table2 .ensures) (c .before .before .before .table .ensures) (c .before .table3 .ensures) (c .chunks-end-within .ensures))
+ends c = sym (chunk-past-end-by _ _ _ _ _ _ (c .before .before .table2 .ensures) (c .before .before .before .table .ensures) (c .before .offset-table .ensures) (c .chunks-end-within .ensures))
 
 -- whether the edit list is wrong
 shows : (c : tie.After-edits-ok) → wrongEdits (c .before .before .before .before .before .before .before .before .before .before .before .before .before .before .before .args .movie) (now (c .before .before .before .before .before .before .before .before .before .before .before .before .before .before .before .args .trak)) ≡ not (c .edits-ok .result)
@@ -64,8 +64,8 @@ table-requires c κs = search needs
 table-requires-2 : tie.Need-table-requires-2
 table-requires-2 c κs = search needs
 
-table-requires-3 : tie.Need-table-requires-3
-table-requires-3 c κs = search needs
+offset-table-requires : tie.Need-offset-table-requires
+offset-table-requires c κs = search needs
 
 chunks-end-within-requires : tie.Need-chunks-end-within-requires
 chunks-end-within-requires c κs =
@@ -115,7 +115,7 @@ timed-refusal-spec =
     returns-3
     table-requires
     table-requires-2
-    table-requires-3
+    offset-table-requires
     chunks-end-within-requires
     returns-4
     media-scale-requires

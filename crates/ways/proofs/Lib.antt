@@ -1,0 +1,3 @@
+mod Top
+mod Trees
+mod Shapes
