@@ -18,12 +18,12 @@ use Rattle.runs.specs.Runs.{perSample, compositionOffset}
 use Rattle.runs.specs.Cursors.{RunStands, readiedRun}
 use Rattle.runs.specs.declared.cursor.RunCursor.{RunCursor}
 use Rattle.runs.proofs.Cursors.{ready-stop, ready-end, run-same}
-use Rattle.words.specs.Words.{sizes, chunkOffsets, syncs, syncsAgree, listed}
+use Rattle.words.specs.Words.{sizes, chunkOffsets, syncs, listed}
 use Rattle.chunks.specs.Chunks.{perChunk, descriptionIds, offsetOf}
 use Rattle.positions.specs.Runs.{soughtRun, shiftOf}
 use Rattle.positions.specs.Syncs.{syncPlace, syncStep}
 use Rattle.positions.specs.Dealing.{DealtAt}
-use Rattle.positions.specs.Moving.{Bytes, StandsAt, needsEntries, readiedMoving, mayMove, pastMoving}
+use Rattle.positions.specs.Moving.{Bytes, StandsAt, Agrees, needsEntries, readiedMoving, mayMove, pastMoving}
 use Rattle.positions.specs.declared.dealt.Dealt.{Dealt}
 use Rattle.positions.specs.declared.moving.Moving.{Moving}
 use Rattle.positions.specs.declared.sync.SyncStep.{SyncStep}
@@ -96,16 +96,6 @@ needs-same stts ctts stsc offsets l m g e =
     }
 
 -- ---- before a sample
-
--- what tables have that do not contradict each other, of n samples
-pub record Agrees (x : Bytes) (n : ℕ) : Type 0 where
-  pub counted : length (perSample (x .stts)) ≡ n
-  pub total : sum (perSample (x .stts)) < 4294967296
-  pub full : length (perChunk (x .stsc) (u32At (x .offsets) 12)) ≡ u32At (x .offsets) 12
-  pub some : (c : ℕ) → c < u32At (x .offsets) 12 → 0 < getD (perChunk (x .stsc) (u32At (x .offsets) 12)) c 0
-  pub dealt : sum (perChunk (x .stsc) (u32At (x .offsets) 12)) ≡ n
-  pub low : (i : ℕ) → i < n → offsetOf (perChunk (x .stsc) (u32At (x .offsets) 12)) (chunkOffsets (x .offsets)) (sizes (x .stsz)) i < 2 ^ 63
-  pub syncs : syncsAgree (x .stss) n ≡ true
 
 -- what the places say of the sample with index k
 pub record Says (x : Bytes) (k : ℕ) (m : Moving) : Type 0 where

@@ -1,15 +1,16 @@
 -- The places in all tables of a track before one of its samples.
-use Prim.Native.Nat.{ℕ, _+_, _-_, _≤_}
+use Prim.Native.Nat.{ℕ, _+_, _-_, _<_, _^_}
 use mathlib.Core.Path.{_≡_}
-use mathlib.Core.Bool.{Bool, not, _&&_, _||_}
+use mathlib.Core.Bool.{Bool, true, not, _&&_, _||_}
 use mathlib.Core.List.{List}
-use lib.ListN.{drop}
+use lib.ListN.{length, getD, drop}
 use lib.Dec.{ltb, eqb}
 use Rattle.bigendian.specs.BigEndian.{u32At}
-use Rattle.lists.specs.Lists.{before}
+use Rattle.lists.specs.Lists.{sum, before}
 use Rattle.runs.specs.Runs.{perSample}
 use Rattle.runs.specs.Cursors.{runAhead, readiedRun, pastRun}
-use Rattle.words.specs.Words.{sizes, chunkOffsets}
+use Rattle.words.specs.Words.{sizes, chunkOffsets, syncsAgree}
+use Rattle.chunks.specs.Chunks.{perChunk, offsetOf}
 use Rattle.positions.specs.Dealing.{DealtAt, readiedDealt, pastDealt}
 use Rattle.positions.specs.Syncs.{SyncAt}
 use Rattle.positions.specs.declared.moving.Moving.{Moving}
@@ -31,6 +32,16 @@ pub record StandsAt (x : Bytes) (n k : ℕ) (m : Moving) : Type 0 where
   pub shifts : runAhead (x .ctts) (m .shifts) ≡ drop k (perSample (x .ctts))
   pub dealt : DealtAt (x .stsc) (u32At (x .offsets) 12) (chunkOffsets (x .offsets)) (sizes (x .stsz)) k (m .dealt)
   pub sync : SyncAt (x .stss) n k (m .sync)
+
+-- what the tables of an accepted track have, of n samples: this is asked between the crates' own functions
+pub record Agrees (x : Bytes) (n : ℕ) : Type 0 where
+  pub counted : length (perSample (x .stts)) ≡ n
+  pub total : sum (perSample (x .stts)) < 4294967296
+  pub full : length (perChunk (x .stsc) (u32At (x .offsets) 12)) ≡ u32At (x .offsets) 12
+  pub some : (c : ℕ) → c < u32At (x .offsets) 12 → 0 < getD (perChunk (x .stsc) (u32At (x .offsets) 12)) c 0
+  pub dealt : sum (perChunk (x .stsc) (u32At (x .offsets) 12)) ≡ n
+  pub low : (i : ℕ) → i < n → offsetOf (perChunk (x .stsc) (u32At (x .offsets) 12)) (chunkOffsets (x .offsets)) (sizes (x .stsz)) i < 2 ^ 63
+  pub syncs : syncsAgree (x .stss) n ≡ true
 
 -- ---- as the code has it. This need not be believed: the laws of `proofs/Moving.antt` are what callers go by
 

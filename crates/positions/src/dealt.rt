@@ -43,7 +43,7 @@ fn begin(stsc: &[u8], offsets: &[u8], chunks: u32, d: Dealt) -> Dealt
 }
 
 // At a sample: where the chunk begun has none left, the next one is begun.
-pub fn dealt_ready(stsc: &[u8], offsets: &[u8], chunks: u32, d: Dealt) -> Dealt
+pub(crate) fn dealt_ready(stsc: &[u8], offsets: &[u8], chunks: u32, d: Dealt) -> Dealt
     ensures { λ r. ⌜ r ≡ readiedDealt (now (stsc .entry)) (now (offsets .entry)) chunks d ⌝ }
 {
     if d.rest != 0 {
@@ -53,7 +53,7 @@ pub fn dealt_ready(stsc: &[u8], offsets: &[u8], chunks: u32, d: Dealt) -> Dealt
 }
 
 // Past a sample of that size.
-pub fn dealt_pass(d: Dealt, size: u32) -> Dealt
+pub(crate) fn dealt_pass(d: Dealt, size: u32) -> Dealt
     requires { ⌜ (0 < d .rest) × (d .offset < 2 ^ 63) ⌝ }
     ensures { λ r. ⌜ r ≡ pastDealt size d ⌝ }
 {
