@@ -23,12 +23,12 @@ use Rattle.track.proofs.Agreed.{agreed-tables}
 use Rattle.questions.specs.Asked.{askRefusal, trackAsked}
 use Rattle.questions.proofs.Asking.{asked}
 use Rattle.questions.specs.Samples.{sampleOf, sampleAnswer}
-use Rattle.questions.specs.Times.{atEntry, atAnswer}
+use Rattle.time_questions.specs.Times.{atEntry, atAnswer}
 use Rattle.pairs.proofs.Counting.{touched-length}
 use Rattle.stretch.specs.Stretches.{firstIn, pastIn, pairsIn, bytesIn, stretchPairs}
 use Rattle.questions.specs.declared.samples.Sample.{Sample}
 use Rattle.questions.specs.declared.samples.SampleAnswer.the-variants.{Found}
-use Rattle.questions.specs.declared.times.NumberAnswer.the-variants as number
+use Rattle.time_questions.specs.declared.NumberAnswer.the-variants as number
 use Rattle.theorems.specs.Entries.{mediaTotal}
 use Rattle.theorems.specs.Demand.{HasTime, partIn, sizeIn, howMany, added, NoZeroDuration, OfTrack, Demand3}
 use Rattle.theorems.proofs.Added.{sizes-added, parts-added, cut-at}

@@ -1,3 +1,4 @@
 mod Top
 mod Trees
 mod Shapes
+pub mod Agree
