@@ -2,15 +2,18 @@
 // the values that documents 01 and 02 name into lent places, in its order. Each is one call: a function that is exported must stand in this crate.
 use host_features::hand_feature;
 use host_features::hand_peak;
+use host_movie::hand_edits;
+use host_movie::hand_movie;
+use host_profiles::hand_profile;
 use host_samples::hand_sample;
 use host_samples::hand_sample_bytes;
 use host_slips::hand_read_slip;
-use host_stretches::slips::hand_written_slip;
-use host_stretches::stretches::hand_stretch;
+use host_stretches::hand_stretch;
 use host_times::hand_media_time;
 use host_times::hand_sample_at;
-use host_tracks::profile::hand_profile;
-use host_tracks::tracks::hand_track_list;
+use host_top_level::hand_step;
+use host_tracks::hand_track_list;
+use host_written_slips::hand_written_slip;
 use structure::source::Source;
 ghost use mathlib.Core.Bool.{false};
 ghost use Rattle.slip.specs.Slip.{slipIn};
@@ -20,13 +23,18 @@ ghost use Rattle.track_list.specs.TrackList.{trackLines};
 ghost use Rattle.stretch.specs.Stretches.{stretchPairs};
 ghost use Rattle.stretch.specs.Slips.{slipOfStretch};
 ghost use Rattle.profiles.specs.Profiles.{profileNumbers};
+ghost use Rattle.movie_times.specs.Entries.{editNumbers, editsAsked};
 ghost use Rattle.hand.specs.Places.{Answers, SignedAnswers, Fills};
 ghost use Rattle.hand.specs.Times.{media};
-ghost use Rattle.host_tracks.specs.Numbers.{ofTrackList, ofProfile};
+ghost use Rattle.host_tracks.specs.Numbers.{ofTrackList};
+ghost use Rattle.host_top_level.specs.Numbers.{ofStep};
+ghost use Rattle.host_movie.specs.Numbers.{ofMovie, ofEdits};
 ghost use Rattle.host_samples.specs.Numbers.{ofSample, ofSampleBytes};
 ghost use Rattle.host_features.specs.Numbers.{ofFeature, ofPeak};
 ghost use Rattle.host_times.specs.Numbers.{ofSampleAt, ofMediaTime};
-ghost use Rattle.host_stretches.specs.Numbers.{ofStretch, ofSlipWriting};
+ghost use Rattle.host_stretches.specs.Numbers.{ofStretch};
+ghost use Rattle.host_written_slips.specs.Numbers.{ofSlipWriting};
+ghost use Rattle.host_profiles.specs.Numbers.{ofProfile};
 ghost use Rattle.host_slips.specs.Numbers.{ofSlipReading, pairsOf};
 
 // Lists the tracks of a film: eight numbers for each in the room, and in one place how many tracks.
@@ -48,6 +56,31 @@ pub extern "C" fn chaldoref_profile(
     ensures { λ r. ⌜ Fills (ofProfile (now (file .entry)) wholeFile id (now (room .entry))) (now (places .entry)) (profileNumbers (now (file .entry)) id) (now (room .entry)) r (now (places .exit)) (now (room .exit)) ⌝ }
 {
     hand_profile(file, Source::whole(), id, room, places)
+}
+
+// One step of the walk over a file's top-level atoms, with up to 16 bytes of the file at the place told. In six places the walk's state: the file's length,
+// where to read next, moovs met, the place and the size of the moov, and 1 where it is found. Before the first step all but the length are 0.
+#[no_mangle]
+pub extern "C" fn chaldoref_top_level_step(header: &[u8], places: &mut [u64]) -> u32
+    ensures { λ r. ⌜ Answers (ofStep (now (header .entry)) (now (places .entry))) (now (places .entry)) r (now (places .exit)) ⌝ }
+{
+    hand_step(header, places)
+}
+
+// The movie's time scale and the duration that it states, in two places.
+#[no_mangle]
+pub extern "C" fn chaldoref_movie(file: &[u8], places: &mut [u64]) -> u32
+    ensures { λ r. ⌜ Answers (ofMovie (now (file .entry)) wholeFile) (now (places .entry)) r (now (places .exit)) ⌝ }
+{
+    hand_movie(file, Source::whole(), places)
+}
+
+// The edit list of a track: duration, media time (-1 where nothing is shown) and rate of each entry in the room, and in one place how many entries.
+#[no_mangle]
+pub extern "C" fn chaldoref_edits(file: &[u8], id: u32, room: &mut [i64], places: &mut [u64]) -> u32
+    ensures { λ r. ⌜ Fills (ofEdits (now (file .entry)) wholeFile id (now (room .entry))) (now (places .entry)) (editNumbers (editsAsked (now (file .entry)) id)) (now (room .entry)) r (now (places .exit)) (now (room .exit)) ⌝ }
+{
+    hand_edits(file, Source::whole(), id, room, places)
 }
 
 // Sample n of a track, in eight places: decode time, duration, composition time, sync (1 or 0), description ID, chunk, offset, size.

@@ -44,7 +44,7 @@ as-many (suc n) values = rw (ne-eqb (suc n) 0 (λ q. omega arith)) (zeros-length
 -- ---- a question that fills room
 
 -- the list is as the question's own refusal R leaves it, which is the first of its numbers
-pub fills-first : (ns : List ℕ) (R : ℕ) (refusal : ℕ) (values places list room : List ℕ) (r : ℕ) (after filled : List ℕ) → refusalIn ns ≡ R → ns ≡ refusal ∷ values
+pub fills-first : {A : Type 0} (ns : List ℕ) (R : ℕ) (refusal : ℕ) (values places : List ℕ) (list room : List A) (r : ℕ) (after : List ℕ) (filled : List A) → refusalIn ns ≡ R → ns ≡ refusal ∷ values
     → length values ≤ length places → Hands refusal values places r after → filled ≡ roomAfter R list room → Fills ns places list room r after filled
 unfolding noRoom
 fills-first ns R refusal values places list room r after filled j e h k d =
@@ -52,7 +52,7 @@ fills-first ns R refusal values places list room r after filled j e h k d =
     let w : refusal ≡ R = ap refusalIn (sym e) ∙ j in
     record { handed = handed ns refusal values places r after e k; listed = rw (z, w) d }
 
-pub fills : (ns : List ℕ) (R : ℕ) (vs : List ℕ) (refusal : ℕ) (values places list room : List ℕ) (r : ℕ) (after filled : List ℕ) → ns ≡ judged R vs → ns ≡ refusal ∷ values
+pub fills : {A : Type 0} (ns : List ℕ) (R : ℕ) (vs : List ℕ) (refusal : ℕ) (values places : List ℕ) (list room : List A) (r : ℕ) (after : List ℕ) (filled : List A) → ns ≡ judged R vs → ns ≡ refusal ∷ values
     → length values ≤ length places → Hands refusal values places r after → filled ≡ roomAfter R list room → Fills ns places list room r after filled
 fills ns R vs refusal values places list room r after filled j = fills-first ns R refusal values places list room r after filled (ap refusalIn j ∙ first-is R vs)
 
@@ -67,7 +67,7 @@ sixteen true = refl
 sixteen false = refl
 
 -- the room's own refusal is the same number
-then-short : (first : ℕ) (list room : List ℕ) → orElse first 16 ≡ orElse (orElse first (noRoom list room)) 16
+then-short : {A : Type 0} (first : ℕ) (list room : List A) → orElse first 16 ≡ orElse (orElse first (noRoom list room)) 16
 unfolding orElse noRoom
 then-short zero list room = sixteen (ltb (length room) (length list))
 then-short (suc n) list room = rw (else-first n (noRoom list room), else-first n 16)
@@ -77,7 +77,7 @@ unfolding orElse
 some-refusal zero e = omega arith
 some-refusal (suc n) e = let z = rw (else-first n 16) at e in omega arith
 
-pub too-few-first : (ns : List ℕ) (refusal first count : ℕ) (places list room : List ℕ) (r : ℕ) → refusalIn ns ≡ refusal → length (valuesIn ns) ≡ count
+pub too-few-first : {A : Type 0} (ns : List ℕ) (refusal first count : ℕ) (places : List ℕ) (list room : List A) (r : ℕ) → refusalIn ns ≡ refusal → length (valuesIn ns) ≡ count
     → refusal ≡ orElse first (noRoom list room) → length places < count → r ≡ orElse first 16 → Fills ns places list room r places room
 unfolding noRoom roomAfter
 too-few-first ns refusal first count places list room r n c d h q =
@@ -87,7 +87,7 @@ too-few-first ns refusal first count places list room r n c d h q =
       listed = rw (q, ne-eqb (orElse first 16) 0 (some-refusal first));
     }
 
-pub too-few : (ns : List ℕ) (refusal first : ℕ) (values places list room : List ℕ) (r : ℕ) → ns ≡ judged refusal values → refusal ≡ orElse first (noRoom list room)
+pub too-few : {A : Type 0} (ns : List ℕ) (refusal first : ℕ) (values places : List ℕ) (list room : List A) (r : ℕ) → ns ≡ judged refusal values → refusal ≡ orElse first (noRoom list room)
     → length places < length values → r ≡ orElse first 16 → Fills ns places list room r places room
 too-few ns refusal first values places list room r e =
     too-few-first ns refusal first (length values) places list room r (ap refusalIn e ∙ first-is refusal values) (ap (λ (x : List ℕ). length (valuesIn x)) e ∙ as-many refusal values)

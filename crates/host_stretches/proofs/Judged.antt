@@ -1,4 +1,4 @@
--- The numbers of a stretch and of its slip: each is given or refused, and its own refusal is the one before the room is looked at, then 16.
+-- The numbers of a stretch: it is given or refused, and its own refusal is the one before the room is looked at, then 16.
 -- Assumes nothing.
 use Prim.Native.Nat.{ℕ}
 use mathlib.Core.Path.{_≡_, refl}
@@ -11,11 +11,9 @@ use Rattle.movie.proofs.Answers.{gives}
 use Rattle.questions.specs.Asked.{trackAsked}
 use Rattle.stretch.specs.Stretches.{stretchPairs, bytesIn, stretchRefusal, stretchAsked, stretchNumbers}
 use Rattle.stretch.specs.declared.StretchAnswer.the-variants as stretches
-use Rattle.stretch.specs.Slips.{slipOfStretch, slipRefusal, slipAsked, slipNumbers}
-use Rattle.stretch.specs.declared.slips.SlipAnswer.the-variants as slips
 use Rattle.hand.specs.Times.{media}
 use Rattle.hand.proofs.Answered.{judged}
-use Rattle.host_stretches.specs.Numbers.{ofStretch, ofSlipWriting}
+use Rattle.host_stretches.specs.Numbers.{ofStretch}
 
 module _ (s : List ℕ) (id a b : ℕ) (room : List ℕ) where
   pub stretch-judged : ofStretch s id a b room
@@ -23,7 +21,3 @@ module _ (s : List ℕ) (id a b : ℕ) (room : List ℕ) where
   unfolding stretchNumbers
   stretch-judged =
       gives stretchNumbers (refusedWith 2) stretches.Refused (λ r. refl) (stretchAsked s id (media a) (media b)) (stretchRefusal s wholeFile id (media a) (media b) room) _ refl .numbers
-
-  pub slip-judged : ofSlipWriting s id a b room ≡ judged (slipRefusal s wholeFile id (media a) (media b) room) (length (slipOfStretch s id (media a) (media b)) ∷ [])
-  unfolding slipNumbers
-  slip-judged = gives slipNumbers (refusedWith 1) slips.Refused (λ r. refl) (slipAsked s id (media a) (media b)) (slipRefusal s wholeFile id (media a) (media b) room) _ refl .numbers

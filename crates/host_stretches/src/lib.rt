@@ -1,3 +1,34 @@
-// A stretch and the slip of one, for a caller in another language: pairs or slip in lent room, the values in lent places.
-pub mod slips;
-pub mod stretches;
+// The byte ranges of a stretch of media time, for a caller in another language: pairs in lent room, the values in lent places.
+use edits::MediaTime;
+use hand::hand;
+use hand::or_short;
+use stretch::StretchAnswer;
+use stretch::span_refusal;
+use stretch::stretch_of;
+use structure::source::Source;
+ghost use Rattle.pairs.specs.Pairs.{flat};
+ghost use Rattle.stretch.specs.Stretches.{stretchPairs};
+ghost use Rattle.hand.specs.Places.{Fills};
+ghost use Rattle.hand.specs.Times.{media};
+ghost use Rattle.host_stretches.specs.Numbers.{ofStretch};
+
+// The stretch of a track from a to b: a pair (offset, length) for each chunk touched in the room, and in two places how many pairs and the total of bytes.
+pub fn hand_stretch(
+    file: &[u8],
+    id: u32,
+    a: u32,
+    b: u32,
+    room: &mut [u32],
+    places: &mut [u64],
+) -> u32
+    ensures { λ r. ⌜ Fills (ofStretch (now (file .entry)) id a b (now (room .entry))) (now (places .entry)) (flat (stretchPairs (now (file .entry)) id (media a) (media b))) (now (room .entry)) r (now (places .exit)) (now (room .exit)) ⌝ }
+{
+    if places.len() < 2 {
+        let source = Source::whole();
+        return or_short(span_refusal(file, source, id, MediaTime(a), MediaTime(b)));
+    }
+    match stretch_of(file, id, MediaTime(a), MediaTime(b), room) {
+        StretchAnswer::Pairs(n, bytes) => hand(0, &[n as u64, bytes], places),
+        StretchAnswer::Refused(r) => hand(r, &[0, 0], places),
+    }
+}

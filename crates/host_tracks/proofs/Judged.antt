@@ -1,4 +1,4 @@
--- The numbers of the track list and of a profile: each is given or refused, and its own refusal is the one before the room is looked at, then 16.
+-- The numbers of the track list: it is given or refused, and its own refusal is the film's, then 16.
 -- Assumes nothing.
 use Prim.Native.Nat.{ℕ}
 use mathlib.Core.Path.{_≡_, refl}
@@ -10,15 +10,9 @@ use Rattle.movie.specs.Rooms.{refusedWith}
 use Rattle.movie.proofs.Answers.{gives}
 use Rattle.track_list.specs.TrackList.{listRefusal, listed, trackListNumbers}
 use Rattle.track_list.specs.declared.TrackList.the-variants as lists
-use Rattle.profiles.specs.Profiles.{keptOf, profileAsked, profileRefusal, profileCount, profileAnswerNumbers}
-use Rattle.profiles.specs.declared.ProfileAnswer.the-variants as profiles
 use Rattle.hand.proofs.Answered.{judged}
-use Rattle.host_tracks.specs.Numbers.{ofTrackList, ofProfile}
+use Rattle.host_tracks.specs.Numbers.{ofTrackList}
 
 pub list-judged : (s : List ℕ) (w : Source) (room : List ℕ) → ofTrackList s w room ≡ judged (listRefusal s w room) (length (tracksOf (moovOf s)) ∷ [])
 unfolding trackListNumbers
 list-judged s w room = gives trackListNumbers (refusedWith 1) lists.Refused (λ r. refl) (listed s) (listRefusal s w room) _ refl .numbers
-
-pub profile-judged : (s : List ℕ) (w : Source) (id : ℕ) (room : List ℕ) → ofProfile s w id room ≡ judged (profileRefusal s w id room) (length (keptOf (profileAsked s id)) ∷ [])
-unfolding profileAnswerNumbers
-profile-judged s w id room = gives profileAnswerNumbers (refusedWith 1) profiles.Refused (λ r. refl) (profileCount s id) (profileRefusal s w id room) _ refl .numbers

@@ -1,4 +1,4 @@
--- The track that is asked: where neither the file nor the ID is refused it is an accepted track of the file, and no longer than the file.
+-- The track that is asked: where neither the film nor the ID is refused it is an accepted track of the film, and no longer than the bytes lent.
 -- Assumes nothing.
 use Prim.Native.Nat.{ℕ, suc, _+_, _*_, _≤_, _<_, _^_}
 use mathlib.Core.Path.{_≡_, refl, sym, ap, _∙_}
@@ -16,17 +16,15 @@ use Rattle.atoms.specs.Kinds.{stsz, stts}
 use Rattle.words.specs.Words.{listed, sizes}
 use Rattle.words.proofs.Turns.{length-words, sizes-listed, sizes-common}
 use Rattle.structure.specs.declared.source.Source.{Source}
+use Rattle.structure.specs.Source.{lengthOf}
 use Rattle.structure.specs.Track.{idOf, scaleOf, tableOf, elstOf, samplesOf, editsOf}
 use Rattle.structure.specs.Movie.{moovOf, movieScale, tracksOf}
 use Rattle.structure.specs.Rows.{orElse}
 use Rattle.structure.proofs.Callers.{Each, track-at, none-else}
-use Rattle.structure.proofs.Shaped.{Shaped, MayEnter}
 use Rattle.structure.proofs.Lengths.{table-short, track-short}
+use Rattle.shape.proofs.Shaped.{Shaped, MayEnter}
 use Rattle.track.specs.Refusals.{totalIn, wrongEdits}
 use Rattle.track.proofs.Agreed.{agreed-tables}
-use Rattle.edits.proofs.Turns.{edits-few}
-use Rattle.edits.proofs.Sentences.{ok-all}
-use Rattle.features.specs.Features.{Computable, Averaged}
 use Rattle.movie.specs.Refusals.{filmRefusal}
 use Rattle.movie.specs.Tracks.{withId, hasTrack, trackWith}
 use Rattle.movie.proofs.Accepted.{Accepted, AcceptedFile, accepted}
@@ -56,7 +54,7 @@ with-each P id (t ∷ ts) h e = go (eqb (idOf t) id) refl (λ q. with-each P id 
 pub record AskedTrack (s : List ℕ) (w : Source) (id : ℕ) : Type 0 where
   pub file : AcceptedFile s w
   pub has : hasTrack id (moovOf s) ≡ true
-  pub track : Accepted w (movieScale (moovOf s)) (length s) (trackAsked s id)
+  pub track : Accepted w (movieScale (moovOf s)) (lengthOf w s) (trackAsked s id)
   pub short : length (trackAsked s id) ≤ length s
 
 pub asked : (s : List ℕ) (w : Source) (id : ℕ) → askRefusal s w id ≡ 0 → AskedTrack s w id
@@ -68,16 +66,11 @@ asked s w id e =
     record {
       file = f;
       has = h;
-      track = with-each (Accepted w (movieScale (moovOf s)) (length s)) id (tracksOf (moovOf s)) h (f .movie .tracks);
+      track = with-each (Accepted w (movieScale (moovOf s)) (lengthOf w s)) id (tracksOf (moovOf s)) h (f .movie .tracks);
       short = with-each (λ t. length t ≤ length s) id (tracksOf (moovOf s)) h (λ i g. rw (track-at (moovOf s) i) (track-short i s));
     }
 
 -- ---- the same, from what the code has
-
--- an edit list, where there is one, is as long as its entries
-entered-short : (a : List ℕ) → MayEnter 12 a → length a ≤ 16 + 12 * u32At a 12
-entered-short a (inl e) = omega (arith, ap length e)
-entered-short a (inr e) = omega arith
 
 -- as many sizes as the table counts
 pub sizes-count : (t : List ℕ) → Shaped t → length (sizes (tableOf stsz t)) ≡ samplesOf t
@@ -89,49 +82,17 @@ sizes-count t h =
     ]
 
 module _ (s t : List ℕ) (w : Source) (id r : ℕ) (e : r ≡ askRefusal s w id) (z : r ≡ 0) (d : t ≡ trackAsked s id) where
-  pub asked-track : Accepted w (movieScale (moovOf s)) (length s) t
+  pub asked-track : Accepted w (movieScale (moovOf s)) (lengthOf w s) t
   asked-track = rw d (asked s w id (sym e ∙ z) .track)
+
+  pub asked-low : lengthOf w s < 2 ^ 63
+  asked-low = asked s w id (sym e ∙ z) .file .shape .low
 
   pub asked-short : length t < 2 ^ 32
   asked-short = let a = asked s w id (sym e ∙ z) in rw d (omega (arith, a .short, a .file .shape .short))
 
   pub asked-total : totalIn t < 4294967296
   asked-total = omega (arith, asked-track .total-fits)
-
-  -- its features can be computed
-  pub asked-computable : Computable t
-  unfolding totalIn
-  asked-computable =
-      let a = asked-track in
-      let g = agreed-tables t (a .agree) in
-      record {
-        short = asked-short;
-        timed = record {
-          some-scale = omega (arith, a .some-scale);
-          total-fits = asked-total;
-          few = omega (arith, g .counted, a .shape .few-samples);
-          agree = sizes-count t (a .shape) ∙ sym (g .counted);
-        };
-      }
-
-  -- and its averages, m being the body of the moov
-  pub asked-averaged : (m : List ℕ) (movie : ℕ) → m ≡ moovOf s → movie ≡ movieScale m → Averaged movie t
-  unfolding totalIn wrongEdits
-  asked-averaged m movie b q =
-      let a = asked-track in
-      let g = agreed-tables t (a .agree) in
-      record {
-        small = record {
-          short = omega (arith, asked-short, table-short stts t);
-          few = omega (arith, g .counted, a .shape .few-samples);
-          total-fits = asked-total;
-        };
-        short = asked-short;
-        edited = rw (q, b) (record {
-          few = omega (arith, edits-few (elstOf t) (editsOf t) (entered-short (elstOf t) (a .shape .elst-size)), a .shape .few-edits);
-          right = ok-all (scaleOf t) (movieScale (moovOf s)) (totalIn t) (elstOf t) (not-false _ (a .edits));
-        });
-      }
 
 -- a table of it
 pub table-fits : (k : ℕ) (t x : List ℕ) → x ≡ tableOf k t → length t < 2 ^ 32 → length x < 2 ^ 32

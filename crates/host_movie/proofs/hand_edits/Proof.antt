@@ -1,0 +1,89 @@
+-- `host_movie::hand_edits` meets its contract: too few places, or case by case of the answer.
+-- Assumes nothing.
+use borrow.Author.Needs.{needs}
+use mathlib.Core.Path.{refl}
+use Rattle.hand.proofs.Answered.{too-few, fills, of-case}
+use Rattle.movie_times.specs.Entries.{editsRefusal, editsNumbers}
+use Rattle.host_movie.proofs.Judged.{edits-judged}
+use Rattle.host_movie.proofs.hand_edits.Statement.{statement}
+use Rattle.host_movie.proofs.hand_edits.Tie as tie
+
+ask-refusal-requires : tie.Need-ask-refusal-requires
+ask-refusal-requires c κs = search needs
+
+or-short-requires : tie.Need-or-short-requires
+or-short-requires c κs = search needs
+
+returns : tie.Need-returns
+unfolding editsRefusal
+returns c = too-few _ _ _ _ _ _ _ _ (edits-judged _ _ _ _) refl (c .before .before .if1 .taken) (rw (← c .before .ask-refusal .ensures) (c .or-short .ensures))
+
+stored-edits-requires : tie.Need-stored-edits-requires
+stored-edits-requires c κs = search needs
+
+enum-known-n : tie.Need-enum-known-n
+enum-known-n c = search needs
+
+slice-aggregate-hand : tie.Need-slice-aggregate-hand
+slice-aggregate-hand c = search needs
+
+hand-requires : tie.Need-hand-requires
+hand-requires c κs = search needs
+
+enum-known-r : tie.Need-enum-known-r
+enum-known-r c = search needs
+
+slice-aggregate-hand-2 : tie.Need-slice-aggregate-hand-2
+slice-aggregate-hand-2 c = search needs
+
+hand-requires-2 : tie.Need-hand-requires-2
+hand-requires-2 c κs = search needs
+
+same-length : tie.Need-same-length
+same-length c = search needs
+
+same-length-2 : tie.Need-same-length-2
+same-length-2 c = search needs
+
+returns-2 : tie.Need-returns-2
+unfolding editsNumbers
+returns-2 c =
+    fills _ _ _ _ _ _ _ _ _ _ _ (edits-judged _ _ _ _) (of-case editsNumbers (c .before .before .before .before .before .before .before .before .before .stored-edits .ensures .answer) (c .before .before .before .before .before .before .n .given .1))
+    (c .before .before .before .before .before .before .before .before .before .before .before .if1 .left)
+    (c .before .before .hand .ensures)
+    (c .before .before .before .before .before .before .before .before .before .stored-edits .ensures .places)
+
+same-length-3 : tie.Need-same-length-3
+same-length-3 c = search needs
+
+same-length-4 : tie.Need-same-length-4
+same-length-4 c = search needs
+
+returns-3 : tie.Need-returns-3
+unfolding editsNumbers
+returns-3 c =
+    fills _ _ _ _ _ _ _ _ _ _ _ (edits-judged _ _ _ _) (of-case editsNumbers (c .before .before .before .before .before .before .before .before .before .stored-edits .ensures .answer) (c .before .before .before .before .before .before .r .given .1))
+    (c .before .before .before .before .before .before .before .before .before .before .before .if1 .left)
+    (c .before .before .hand2 .ensures)
+    (c .before .before .before .before .before .before .before .before .before .stored-edits .ensures .places)
+
+pub hand-edits-spec : {M : Type 1} → statement M
+hand-edits-spec =
+    tie.close
+    (tie.spec
+    ask-refusal-requires
+    or-short-requires
+    returns
+    stored-edits-requires
+    enum-known-n
+    slice-aggregate-hand
+    hand-requires
+    enum-known-r
+    slice-aggregate-hand-2
+    hand-requires-2
+    same-length
+    same-length-2
+    returns-2
+    same-length-3
+    same-length-4
+    returns-3)

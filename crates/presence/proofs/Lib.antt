@@ -1,0 +1,3 @@
+pub mod And
+mod Offsets
+pub mod Counting

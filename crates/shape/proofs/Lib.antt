@@ -1,0 +1,5 @@
+pub mod OneMoov
+pub mod Tracks
+pub mod Shaped
+pub mod Callers
+mod Examples

@@ -1,0 +1,100 @@
+// The rules that hold of every body of the tree, all in one walk.
+use atoms::body_of;
+use atoms::is_container;
+use atoms::size_in;
+use bigendian::u32_at;
+use leaves::LeafRule;
+use leaves::form_of;
+use leaves::leaf_ok;
+use presence::both;
+use presence::has_its_atoms;
+use presence::nothing_counted;
+use presence::with_kind;
+ghost use mathlib.Core.Path.{_≡_};
+ghost use Rattle.tree.specs.Checks.{allRight, noneRight, bothChecks, leafChecks, treeChecks};
+
+// Whether each rule holds: atoms fill a body exactly; it has the atoms that it must have; each read leaf has its version, and its size.
+pub struct Checks {
+    pub filled: bool,
+    pub present: bool,
+    pub versions: bool,
+    pub sizes: bool,
+}
+
+fn all_right() -> Checks
+    ensures { λ r. ⌜ r ≡ allRight ⌝ }
+{
+    Checks {
+        filled: true,
+        present: true,
+        versions: true,
+        sizes: true,
+    }
+}
+
+fn none_right() -> Checks
+    ensures { λ r. ⌜ r ≡ noneRight ⌝ }
+{
+    Checks {
+        filled: false,
+        present: false,
+        versions: false,
+        sizes: false,
+    }
+}
+
+fn both_checks(a: Checks, b: Checks) -> Checks
+    ensures { λ r. ⌜ r ≡ bothChecks a b ⌝ }
+{
+    Checks {
+        filled: both(a.filled, b.filled),
+        present: both(a.present, b.present),
+        versions: both(a.versions, b.versions),
+        sizes: both(a.sizes, b.sizes),
+    }
+}
+
+// What is asked of an atom of that kind as a read leaf; nothing where it is none.
+fn leaf_checks(atom: &[u8], parent: u32, kind: u32, wide: bool) -> Checks
+    ensures { λ r. ⌜ r ≡ leafChecks wide parent kind (now (atom .entry)) ⌝ }
+{
+    let f = form_of(parent, kind, wide);
+    Checks {
+        filled: true,
+        present: true,
+        versions: leaf_ok(LeafRule::Version, f, atom),
+        sizes: leaf_ok(LeafRule::Size, f, atom),
+    }
+}
+
+// The rules of the body of that parent and of the body of every container below it, with that many levels to go.
+pub fn check_tree(body: &[u8], parent: u32, level: u32, wide: bool) -> Checks
+    ensures { λ r. ⌜ r ≡ treeChecks wide level parent (now (body .entry)) ⌝ }
+{
+    if level == 0 {
+        return none_right();
+    }
+    let mut t = body;
+    let mut counts = nothing_counted();
+    let mut found = all_right();
+    loop {
+        let n = size_in(t, parent);
+        if n < 8 {
+            let here = Checks {
+                filled: t.len() == 0,
+                present: has_its_atoms(counts, parent, wide),
+                versions: true,
+                sizes: true,
+            };
+            return both_checks(here, found);
+        }
+        let atom = &t[..n];
+        let kind = u32_at(atom, 4);
+        counts = with_kind(counts, kind);
+        found = both_checks(found, leaf_checks(atom, parent, kind, wide));
+        if is_container(parent, kind) {
+            found = both_checks(found, check_tree(body_of(atom), kind, level - 1, wide));
+        }
+        t = &t[n..];
+    }
+}
