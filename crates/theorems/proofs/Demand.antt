@@ -36,7 +36,7 @@ use Rattle.theorems.proofs.Dealt.{gets-of, gets-only, first-low, first-
 use Rattle.theorems.proofs.Lists.{tables, Listed, listed}
 use Rattle.theorems.proofs.Entries.{total-is, count-is, entry-counts, size-at, offset-at, entry-holds}
 use Rattle.theorems.proofs.Tracks.{own-asked, own-itself}
-use Rattle.stretch.proofs.Spanning.{flat-length}
+use Rattle.pairs.proofs.Filling.{flat-length}
 use Rattle.theorems.proofs.Answers.{Known, found-is, none-is, past-is, found-known, entry-is, at-is, at-outside, at-known, pairs-is, short-is, no-stretch, pairs-known}
 
 -- ---- what a sample's answer says of the lists
