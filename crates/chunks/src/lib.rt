@@ -3,22 +3,19 @@
 // The length below 2 ^ 32 that some of them ask of a table is that of any part of a file that passed refusal 1.
 use bigendian::after;
 use bigendian::u32_at;
-use lists::Total;
 use words::bytes_between;
 use words::chunk_offset;
 use words::saturating_sum;
 ghost use mathlib.Core.Path.{_≡_};
 ghost use Prim.Native.Nat.{_-_, _^_, _≤_, _<_, min};
 ghost use lib.ListN.{length};
-ghost use Rattle.lists.specs.Lists.{sum};
-ghost use Rattle.lists.specs.Totals.{totalOf};
 ghost use Rattle.words.specs.Words.{sizes, chunkOffsets};
 ghost use Rattle.chunks.specs.Chunks.{dealsIn, firstOf, perChunk, descriptionIds};
-ghost use Rattle.chunks.specs.Computed.{rightEntry, dealsAgree, locatedIn, locatedOffset};
+ghost use Rattle.chunks.specs.Computed.{locatedIn, locatedOffset};
 ghost use Rattle.chunks.specs.Cursors.{startCursor, readied, past, sought};
 
 // The chunk at which the entries of a part begin: one past the last chunk where there is none. So the last entry holds for all chunks that remain.
-fn first_of(part: &[u8], chunks: u32) -> u64
+pub fn first_of(part: &[u8], chunks: u32) -> u64
     ensures { λ r. ⌜ (r ≡ firstOf chunks (dealsIn (now (part .entry)))) × (r ≤ 2 ^ 32) ⌝ }
 {
     if 12 <= part.len() {
@@ -28,71 +25,10 @@ fn first_of(part: &[u8], chunks: u32) -> u64
 }
 
 // How many chunks an entry holds for; none where the next one begins no later.
-fn span(first: u64, next: u64) -> u64
+pub fn span(first: u64, next: u64) -> u64
     ensures { λ r. ⌜ r ≡ next - first ⌝ }
 {
     if first < next { next - first } else { 0 }
-}
-
-// Whether an entry holds for some chunk, has samples in each, and names a description.
-fn right_entry(first: u64, next: u64, per: u32, id: u32, descriptions: u32) -> bool
-    ensures { λ r. ⌜ r ≡ rightEntry first next per id descriptions ⌝ }
-{
-    if next <= first {
-        return false;
-    }
-    if per == 0 {
-        return false;
-    }
-    if id == 0 {
-        return false;
-    }
-    id <= descriptions
-}
-
-// Whether stsc agrees with the number of chunks and of descriptions.
-pub fn deals_agree(stsc: &[u8], chunks: u32, descriptions: u32) -> bool
-    ensures { λ r. ⌜ r ≡ dealsAgree (now (stsc .entry)) chunks descriptions ⌝ }
-{
-    let part = after(stsc, 16);
-    let mut t = part;
-    let mut first = first_of(part, chunks);
-    if first != 1 {
-        return false;
-    }
-    while 12 <= t.len() {
-        let per = u32_at(t, 4);
-        let id = u32_at(t, 8);
-        t = &t[12..];
-        let next = first_of(t, chunks);
-        let right = right_entry(first, next, per, id, descriptions);
-        if !right {
-            return false;
-        }
-        first = next;
-    }
-    true
-}
-
-// The samples dealt to all chunks.
-pub fn total_dealt(stsc: &[u8], chunks: u32) -> Total
-    ensures { λ r. ⌜ r ≡ totalOf (sum (perChunk (now (stsc .entry)) chunks)) ⌝ }
-{
-    let part = after(stsc, 16);
-    let mut s = part;
-    let mut first = first_of(part, chunks);
-    let mut total: u64 = 0;
-    while 12 <= s.len() {
-        let per = u32_at(s, 4) as u64;
-        s = &s[12..];
-        let next = first_of(s, chunks);
-        total += span(first, next) * per;
-        if 4294967295 < total {
-            return Total::Over;
-        }
-        first = next;
-    }
-    Total::Sum(total as u32)
 }
 
 // A place in stsc: how many chunks remain of a run, with the samples and the description ID of each, and where the entries not yet read begin.

@@ -63,8 +63,8 @@ fn of_chunks(set: &[u8], question: u32, n: u32)
     let stsz = table(set, kinds::STSZ);
     let stco = table(set, kinds::STCO);
     match question {
-        asks::DEALS_AGREE => { show::truth(chunks::deals_agree(stsc, u32_at(stco, 12), n)) }
-        asks::TOTAL_DEALT => show::total(chunks::total_dealt(stsc, n)),
+        asks::DEALS_AGREE => { show::truth(chunk_checks::deals_agree(stsc, u32_at(stco, 12), n)) }
+        asks::TOTAL_DEALT => show::total(chunk_checks::total_dealt(stsc, n)),
         asks::LOCATE => show::located(place(set, n)),
         asks::OFFSET_AT => show::number(chunks::located_offset(stsz, stco, place(set, n), n)),
         asks::CHUNK_OFFSET => show::number(words::chunk_offset(stco, n as u64)),

@@ -1,9 +1,9 @@
 // The refusals of a track, 7 to 13 and 19, from the body of its trak.
 use atoms::kinds;
 use bigendian::u32_at;
+use chunk_checks::deals_agree;
+use chunk_checks::total_dealt;
 use chunk_ends::chunks_end_within;
-use chunks::deals_agree;
-use chunks::total_dealt;
 use edits::edits_ok;
 use edits::edits_total;
 use lists::Total;

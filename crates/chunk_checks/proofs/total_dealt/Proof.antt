@@ -1,4 +1,4 @@
--- `chunks::total_dealt` meets its contract: the sum so far and the samples of the chunks not yet passed add up to all.
+-- `chunk_checks::total_dealt` meets its contract: the sum so far and the samples of the chunks not yet passed add up to all.
 -- Assumes nothing.
 use borrow.Author.Needs.{needs}
 use Prim.Native.Nat.{_+_, _*_, _≤_}
@@ -8,11 +8,11 @@ use denote.Ref.{now}
 use lib.ListN.{length, length-drop}
 use Rattle.bigendian.proofs.Parts.{rest as part-rest}
 use Rattle.lists.specs.Lists.{sum}
 use Rattle.chunks.specs.Chunks.{dealsIn, firstOf, dealt, perChunk}
 use Rattle.chunks.proofs.Turns.{samples-in, run-fits, next-sum, dealt-end}
 use Rattle.lists.proofs.Totals.{total-over, total-sum}
-use Rattle.chunks.proofs.total_dealt.Statement.{statement}
-use Rattle.chunks.proofs.total_dealt.Tie as tie
+use Rattle.chunk_checks.proofs.total_dealt.Statement.{statement}
+use Rattle.chunk_checks.proofs.total_dealt.Tie as tie
 
 abbrev Inv-loop : tie.InvT-loop
 Inv-loop stsc chunks s₀ first₀ total₀ s first total =

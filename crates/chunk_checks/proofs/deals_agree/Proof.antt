@@ -1,4 +1,4 @@
--- `chunks::deals_agree` meets its contract: whether the entries not yet read are right decides whether all are.
+-- `chunk_checks::deals_agree` meets its contract: whether the entries not yet read are right decides whether all are.
 -- Assumes nothing.
 use borrow.Author.Needs.{needs}
 use mathlib.Core.Path.{_≡_, sym, _∙_}
@@ -7,11 +7,11 @@ use denote.Ref.{now}
 use lib.ListN.{length, length-drop}
 use borrow.Author.Tests.{not-true, not-false}
 use Rattle.bigendian.proofs.Parts.{rest as part-rest}
 use Rattle.chunks.specs.Chunks.{dealsIn, firstOf}
 use Rattle.chunks.specs.Computed.{dealing, dealsAgree}
 use Rattle.chunks.proofs.Turns.{agree-not, agree-on, dealing-falls, dealing-on, dealing-end}
-use Rattle.chunks.proofs.deals_agree.Statement.{statement}
-use Rattle.chunks.proofs.deals_agree.Tie as tie
+use Rattle.chunk_checks.proofs.deals_agree.Statement.{statement}
+use Rattle.chunk_checks.proofs.deals_agree.Tie as tie
 
 abbrev Inv-loop : tie.InvT-loop
 Inv-loop stsc chunks descriptions t₀ first₀ t first = (first ≡ firstOf chunks (dealsIn t)) × (dealing chunks descriptions (dealsIn t) ≡ dealsAgree stsc chunks descriptions)

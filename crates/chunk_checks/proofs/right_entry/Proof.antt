@@ -1,10 +1,10 @@
--- `chunks::right_entry` meets its contract: the tests are those of the definition.
+-- `chunk_checks::right_entry` meets its contract: the tests are those of the definition.
 -- Assumes nothing.
 use mathlib.Core.Path.{sym}
 use native.Mathlib.Omega.{arith}
 use borrow.Author.Tests.{le-leb, lt-leb, eq-eqb, ne-eqb}
-use Rattle.chunks.proofs.right_entry.Statement.{statement}
-use Rattle.chunks.proofs.right_entry.Tie as tie
+use Rattle.chunk_checks.proofs.right_entry.Statement.{statement}
+use Rattle.chunk_checks.proofs.right_entry.Tie as tie
 
 returns : tie.Need-returns
 returns c = let a = c .before .args in sym (rw (le-leb (a .next) (a .first) (omega arith)))
