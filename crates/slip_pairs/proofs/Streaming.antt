@@ -11,8 +11,7 @@ use lib.Seq.{sets, length-sets}
 use lib.Dec.{eqb, leb}
 use Rattle.lists.proofs.Stores.{sets-append}
 use Rattle.leb128.specs.Numbers.{groups, writes}
-use Rattle.leb128.specs.Writing.{putAt, pastPut}
-use Rattle.leb128.proofs.Puts.{put-fits, writes-append}
+use Rattle.leb128.proofs.Puts.{writes-append}
 use Rattle.slip_head.specs.Bytes.{anyWide}
 use Rattle.pairs.specs.Pairs.{flat}
 use Rattle.pairs.specs.Walks.{pairsBetween, pairsAhead, Fitting, At, AtOnce, pairsAtOnce, placePast, StartsAt}
@@ -85,22 +84,20 @@ wide-second q h = rw (lt-leb (2 ^ 32) (q .offset) h) (or-false (leb (2 ^ 32) (q 
     or-false true = refl
     or-false false = refl
 
-pub one-wrote : (q : Pair) (out : List ℕ) (at : ℕ) → at + length (pairBytes (q ∷ [])) ≤ length out
-    → (m : ℕ) (half : List ℕ) → m ≡ pastPut out at (groups (q .offset)) → half ≡ putAt out at (groups (q .offset))
-    → (n : ℕ) (last : List ℕ) → n ≡ pastPut half m (groups (q .length)) → last ≡ putAt half m (groups (q .length)) → Wrote (q ∷ []) out at n last
-one-wrote q out at h m half em eh n last en el =
-    let a = groups (q .offset) in
-    let b = groups (q .length) in
-    let z = one-length q in
-    let f = put-fits out at a (omega arith) in
-    let y : length half ≡ length out = ap length (eh ∙ f .1) ∙ length-sets out at a in
-    let x : m ≡ at + length a = em ∙ f .0 in
-    let g = put-fits half m b (omega arith) in
-    let two = sets-append out at a (b ++ []) ∙ sets-append (sets out at a) (at + length a) b [] in
-    record {
-      ends = omega (arith, en ∙ g .0);
-      stored = el ∙ g .1 ∙ rw (eh ∙ f .1, x) (sym (ap (sets out at) (one-bytes q) ∙ two));
-    }
+module _ (q : Pair) (out : List ℕ) (at : ℕ) (h : at + length (pairBytes (q ∷ [])) ≤ length out) where
+  pub first-fits : at + length (groups (q .offset)) ≤ length out
+  first-fits = omega (arith, one-length q)
+
+  module _ (m : ℕ) (half : List ℕ) (em : m ≡ at + length (groups (q .offset))) (eh : half ≡ sets out at (groups (q .offset))) where
+    pub second-fits : m + length (groups (q .length)) ≤ length half
+    second-fits = omega (arith, one-length q, ap length eh ∙ length-sets out at (groups (q .offset)))
+
+    pub one-wrote : (n : ℕ) (last : List ℕ) → n ≡ m + length (groups (q .length)) → last ≡ sets half m (groups (q .length)) → Wrote (q ∷ []) out at n last
+    one-wrote n last en el =
+        let a = groups (q .offset) in
+        let b = groups (q .length) in
+        let two = sets-append out at a (b ++ []) ∙ sets-append (sets out at a) (at + length a) b [] in
+        record { ends = omega (arith, one-length q); stored = el ∙ rw (eh, em) (sym (ap (sets out at) (one-bytes q) ∙ two)) }
 
 -- the same pairs
 pub once-fits : {l : List Pair} {q : Pair} → l ≡ q ∷ [] → Fitting (2 ^ 64) l → q .offset < 2 ^ 64
@@ -114,6 +111,12 @@ same-fit at e h = rw e h
 
 pub same-wrote : {l m : List Pair} {out : List ℕ} {at past : ℕ} {after : List ℕ} → l ≡ m → Wrote l out at past after → Wrote m out at past after
 same-wrote e w = rw e at w
+
+-- no number of pairs that fit 32 bits is 2 ^ 32 or more
+pub none-wide : (l : List Pair) → Fitting (2 ^ 32) l → anyWide (flat l) ≡ false
+unfolding anyWide
+none-wide [] f = refl
+none-wide (q ∷ l) f = rw (lt-leb (2 ^ 32) (q .offset) (f .0), lt-leb (2 ^ 32) (q .length) (f .1)) (none-wide l (f .2))
 
 -- ---- measured
 

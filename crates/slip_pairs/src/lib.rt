@@ -1,7 +1,7 @@
 // The numbers of the pairs as a slip writes them: measured, and written, one pair after the other.
 use bigendian::after;
 use leb128::number_len;
-use leb128::put_number;
+use leb128::store_number;
 use pairs::ChunkPosition;
 use pairs::Pair;
 use pairs::WholeRun;
@@ -138,8 +138,8 @@ fn write_pair(q: Pair, out: &mut [u8], at: usize) -> usize
     requires { ⌜ at + length (pairBytes (q ∷ [])) ≤ length (now out) ⌝ }
     ensures { λ r. ⌜ Wrote (q ∷ []) (now (out .entry)) at r (now (out .exit)) ⌝ }
 {
-    let middle = put_number(out, at, q.offset);
-    put_number(out, middle, q.length)
+    let middle = store_number(out, at, q.offset);
+    store_number(out, middle, q.length)
 }
 
 // Writes the pairs of whole chunks of a run, one for each of the offsets, and answers the place past them.

@@ -1,6 +1,6 @@
 -- Slip writing, from what the code has of the stretch: the head and then the pairs, put one after the other, are the slip's bytes.
 -- Assumes nothing.
-use Prim.Native.Nat.{ℕ, _+_, _^_, _≤_, _<_}
+use Prim.Native.Nat.{ℕ, suc, _+_, _-_, _^_, _≤_, _<_}
 use mathlib.Core.Path.{_≡_, refl, sym, ap, subst, _∙_}
 use mathlib.Core.List.{List, [], _∷_, _++_}
 use mathlib.Core.Bool.{Bool, true, false, cond}
@@ -19,7 +19,11 @@ use Rattle.slip_head.specs.declared.Head.{Head}
 use Rattle.slip_head.proofs.Writes.{slip-form}
 use Rattle.structure.specs.declared.source.Source.{Source}
 use Rattle.structure.specs.Source.{wholeFile, strictly}
-use Rattle.structure.specs.Track.{scaleOf}
+use Rattle.structure.specs.Track.{scaleOf, tableOf}
+use Rattle.atoms.specs.Kinds.{stts}
+use Rattle.lists.specs.Lists.{holder}
+use Rattle.runs.specs.Runs.{perSample}
+use Rattle.slip_pairs.proofs.Streaming.{none-wide}
 use Rattle.structure.specs.Rows.{orElse}
 use Rattle.movie.specs.Rooms.{noRoom, filledRoom, roomAfter, refusedWith}
 use Rattle.movie.proofs.Answers.{puts, puts-refused}
@@ -37,7 +41,7 @@ use Rattle.stretch.specs.Slips.{slipHead, slipOfStretch, slipRefusal, sl
 use Rattle.stretch.specs.declared.Span.{Span}
 use Rattle.stretch.specs.declared.slips.SlipAnswer.{SlipAnswer}
 use Rattle.stretch.specs.declared.slips.SlipAnswer.the-variants.{Written, Refused}
-use Rattle.stretch.proofs.Spanning.{in-span-of, pairs-few, pairs-fit, pairs-are}
+use Rattle.stretch.proofs.Spanning.{in-span-of, usable-whole, pairs-few, pairs-fit, pairs-are, span-order}
 
 -- ---- how long it is
 
@@ -142,3 +146,15 @@ module _ (s t out : List ℕ) (w v : Source) (id : ℕ) (a b : MediaTime) (r : �
 -- of a whole file, by the source that the code makes
 pub of-whole : (s : List ℕ) (w : Source) (id : ℕ) (a b : MediaTime) (out : List ℕ) (r : SlipAnswer) (after : List ℕ) → w ≡ wholeFile → Slips s w id a b out r after → Slips s wholeFile id a b out r after
 of-whole s w id a b out r after h p = subst (λ v. Slips s v id a b out r after) h p
+
+-- a whole file's slip has form 1: no pair passes the end of a file of at most 2,147,483,647 bytes
+pub whole-form-1 : (s : List ℕ) (w : Source) (id : ℕ) (a b : MediaTime) → w .alone ≡ false → spanAt s w id (a .0) (b .0) ≡ 0 → NarrowHead (slipHead s id a b)
+    → anyWide (afterForm (slipHead s id a b) (flat (stretchPairs s id a b))) ≡ false
+whole-form-1 s w id a b h e n =
+    let i = in-span-of s w id (a .0) (b .0) e in
+    let t = trackAsked s id in
+    let p : Span = record { from = holder (perSample (tableOf stts t)) (a .0); stop = suc (holder (perSample (tableOf stts t)) (b .0 - 1)) } in
+    let q : Spans t (a .0) (b .0) p = record { first = refl; past = refl } in
+    narrow-form (slipHead s id a b) (flat (stretchPairs s id a b)) n
+    ∙ ap (λ l. anyWide (flat l)) (sym (pairs-are s t w id a b i refl p q))
+    ∙ none-wide (spanPairs t p) (pairs-fit t p (usable-whole s t w id (i .asks) refl h) (span-order s t w id a b i refl p q))

@@ -85,10 +85,10 @@ usable-below bound s t w id e d h =
 pub usable : (s t : List ℕ) (w : Source) (id : ℕ) → askRefusal s w id ≡ 0 → t ≡ trackAsked s id → Usable (2 ^ 64) t
 usable s t w id e d = usable-below (2 ^ 64) s t w id e d (omega (arith, asked s w id e .file .shape .low))
 
-pub usable-whole : (s t : List ℕ) (w : Source) (id : ℕ) → askRefusal s w id ≡ 0 → t ≡ trackAsked s id → w ≡ wholeFile → Usable (2 ^ 32) t
+pub usable-whole : (s t : List ℕ) (w : Source) (id : ℕ) → askRefusal s w id ≡ 0 → t ≡ trackAsked s id → w .alone ≡ false → Usable (2 ^ 32) t
 unfolding lengthOf
 usable-whole s t w id e d h =
-    let l : lengthOf w s ≡ length s = ap (λ v. lengthOf v s) h in
+    let l : lengthOf w s ≡ length s = ap (λ (x : Bool). cond x (w .length) (length s)) h in
     usable-below (2 ^ 32) s t w id e d (omega (arith, l, asked s w id e .file .shape .short))
 
 -- ---- the samples
