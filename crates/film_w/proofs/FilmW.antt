@@ -34,7 +34,7 @@ use Rattle.movie.specs.Tracks.{hasTrack, trackWith}
 use Rattle.movie.specs.Rooms.{noRoom, filledRoom, roomAfter}
 use Rattle.movie.specs.Refusals.{sameIds, idIsZero, movieScaleIsZero, scaleIsZero, moovRows, moovRefusal, filmRefusal}
 use Rattle.leb128.specs.Numbers.{groupsIn, groups, writes}
-use Rattle.slip.specs.Slip.{slipBytes}
+use Rattle.slip_head.specs.Bytes.{anyWide, formOf as slipForm, slipBytes}
 use Rattle.questions.specs.Asked.{askRefusal, trackAsked}
 use Rattle.time_questions.specs.Times.{atRefusal, atNumber, atEntry}
 use Rattle.questions.specs.Samples.{sampleOf, sampleRefusal}
@@ -85,7 +85,7 @@ runs-w = refl
 -- the cases hold of each film that has such a track, from these numbers and the lists alone
 from-lists : (s : List ℕ) (w : Source) → askRefusal s w 1 ≡ 0 → askRefusal s (strictly w) 1 ≡ 0 → samplesOf (trackAsked s 1) ≡ 4 → totalIn (trackAsked s 1) ≡ 120 → scaleOf (trackAsked s 1) ≡ 600
     → trackOf (trackAsked s 1) ≡ plain → runsOf (tableOf stts (trackAsked s 1)) ≡ record { count = 3; value = 24 } ∷ record { count = 1; value = 48 } ∷ [] → AllHold s w cases
-unfolding offsetOf pairOf noRoom filledRoom roomAfter orElse groupsIn groups writes slipBytes atRefusal atNumber atEntry entryOf sampleOf sampleRefusal firstIn pastIn pairsIn bytesIn stretchPairs spanRefusal stretchRefusal slipHead slipOfStretch slipRefusal
+unfolding offsetOf pairOf noRoom filledRoom roomAfter orElse groupsIn groups writes anyWide slipForm slipBytes atRefusal atNumber atEntry entryOf sampleOf sampleRefusal firstIn pastIn pairsIn bytesIn stretchPairs spanRefusal stretchRefusal slipHead slipOfStretch slipRefusal
 from-lists s w asked strict four total scale track runs =
     rw (asked, strict, four, total, scale, track, runs)
     (refl, (refl, (refl, (refl, (refl, (refl, (refl, (refl, (refl, (refl, (refl, ((refl, refl), ((refl, refl), ((refl, refl), ((refl, refl), tt)))))))))))))))

@@ -6,13 +6,14 @@ use mathlib.Core.Bool.{Bool, true, false}
 use mathlib.Core.List.{List, [], _∷_, map}
 use native.Mathlib.Omega.{arith}
 use native.Mathlib.Decide.{ℕ-discrete, decLt}
-use lib.Dec.{lit<, lit≤}
+use lib.Dec.{lit<, lit≤, eqb}
 use lib.ListN.{length, getD, drop, replicate, length-map, length-drop}
 use lib.Seq.{getD-drop}
 use borrow.Author.Tests.{eq-eqb, ne-eqb}
+use Rattle.atoms.specs.Atoms.{kindOf}
 use Rattle.bigendian.specs.BigEndian.{beAt, u32At}
 use Rattle.bigendian.proofs.Laws.{beAt-take, beAt-drop}
-use Rattle.atoms.specs.Kinds.{stts, stsc, stsz}
+use Rattle.atoms.specs.Kinds.{stts, stsc, stsz, co64}
 use Rattle.lists.specs.Lists.{Run, sum, before, expand, holder, Holds}
 use Rattle.lists.specs.Entries.{rowsOf, entries}
 use Rattle.lists.proofs.Laws.{length-run, sum-run, getD-in, getD-past}
@@ -190,7 +191,7 @@ size-at t h n i q l =
 pub offset-at : (t : List ℕ) → Shaped t → (c : ℕ) → 1 ≤ c → c ≤ chunksOf t → getD (chunkOffsets (offsetTable t)) (c - 1) 0 ≡ chunkOffset t c
 unfolding offsetWidth
 offset-at t h c lo hi =
-    ap (λ (x : List ℕ). getD x (c - 1) 0) (offsets-of (offsetTable t) refl refl) ∙ go (offsetTable t) _ (h .offsets-size) hi
+    ap (λ (x : List ℕ). getD x (c - 1) 0) (offsets-of (offsetTable t) refl refl) ∙ go (offsetTable t) (eqb (kindOf (offsetTable t)) co64) (h .offsets-size) hi
   where
     go : (o : List ℕ) (long : Bool) → Entered (widthOf long) o → c ≤ u32At o 12
         → getD (numbersIn (widthOf long) (drop 16 o)) (c - 1) 0 ≡ beAt (widthOf long) o (16 + widthOf long * (c - 1))

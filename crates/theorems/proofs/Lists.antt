@@ -6,8 +6,10 @@ use mathlib.Core.Bool.{Bool, true, false}
 use mathlib.Core.List.{List}
 use native.Mathlib.Omega.{arith}
 use lib.ListN.{length, getD, drop, length-drop}
+use lib.Dec.{eqb}
+use Rattle.atoms.specs.Atoms.{kindOf}
 use Rattle.bigendian.specs.BigEndian.{u32At}
-use Rattle.atoms.specs.Kinds.{stsc}
+use Rattle.atoms.specs.Kinds.{stsc, co64}
 use Rattle.lists.specs.Lists.{sum}
 use Rattle.words.specs.Words.{sizes, numbersIn, widthOf, chunkOffsets}
 use Rattle.words.proofs.Turns.{offsets-of, width-above, length-numbers}
@@ -26,7 +28,7 @@ tables s id = trackOf (trackAsked s id)
 
 -- as many chunk offsets as the table counts
 offsets-count : (t : List ℕ) → Shaped t → length (chunkOffsets (offsetTable t)) ≡ chunksOf t
-offsets-count t h = ap length (offsets-of (offsetTable t) refl refl) ∙ go (offsetTable t) _ (h .offsets-size)
+offsets-count t h = ap length (offsets-of (offsetTable t) refl refl) ∙ go (offsetTable t) (eqb (kindOf (offsetTable t)) co64) (h .offsets-size)
   where
     go : (o : List ℕ) (long : Bool) → Entered (widthOf long) o → length (numbersIn (widthOf long) (drop 16 o)) ≡ u32At o 12
     go o true e = omega (arith, length-numbers 8 (width-above true) (drop 16 o), length-drop 16 o)

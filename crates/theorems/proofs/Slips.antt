@@ -16,12 +16,14 @@ use Rattle.words.specs.Words.{sizes, chunkOffsets}
 use Rattle.chunks.specs.Chunks.{perChunk, endWithin}
 use Rattle.pairs.specs.Pairs.{touched, flat}
 use Rattle.edits.specs.declared.MediaTime.{MediaTime}
-use Rattle.slip.specs.Slip.{slipBytes, Rules, Reads}
-use Rattle.slip.specs.declared.Head.{Head}
-use Rattle.slip.specs.declared.read.SlipRead.the-variants.{Accepted}
+use Rattle.slip_head.specs.Bytes.{slipBytes, Rules}
+use Rattle.slip_head.specs.declared.Head.{Head}
+use Rattle.slip.specs.Slip.{boundOf, Reads}
+use Rattle.slip.specs.declared.SlipRead.the-variants.{Accepted}
 use Rattle.slip.proofs.Promises.{reads-back, accepted-only}
+use Rattle.slip.proofs.Readers.{old-as-new, old-refuses}
 use Rattle.structure.specs.declared.source.Source.{Source}
-use Rattle.structure.specs.Source.{strictly}
+use Rattle.structure.specs.Source.{strictly, lengthOf}
 use Rattle.structure.specs.Track.{scaleOf, samplesOf}
 use Rattle.structure.specs.Movie.{moovOf, tracksOf}
 use Rattle.structure.specs.Rows.{orElse}
@@ -36,7 +38,7 @@ use Rattle.stretch.specs.Slips.{slipHead, slipOfStretch, slipRefusal, slipAnswe
 use Rattle.stretch.specs.declared.StretchAnswer.the-variants as stretch
 use Rattle.stretch.specs.declared.slips.SlipAnswer.the-variants as slip
 use Rattle.questions.proofs.Asking.{asked}
-use Rattle.theorems.specs.Slips.{Bytes, headOf, ReadsBack, OnlyWriting}
+use Rattle.theorems.specs.Slips.{Bytes, headOf, ReadsBack, OnlyWriting, BothReaders}
 use Rattle.theorems.proofs.Bytes.{scale-small, asked-id, id-small}
 use Rattle.pairs.proofs.Touched.{touched-few, some-touched, touched-fits, fits-below}
 use Rattle.theorems.proofs.Lists.{tables, listed}
@@ -78,7 +80,7 @@ span-samples s source id a b p =
     )
 
 -- each chunk ends within the file
-chunks-end : (s : List ℕ) (source : Source) (id : ℕ) → askRefusal s source id ≡ 0 → endWithin (length s) (tables s id .perChunk) (tables s id .chunkOffsets) (tables s id .sizes) ≡ true
+chunks-end : (s : List ℕ) (source : Source) (id : ℕ) → askRefusal s source id ≡ 0 → endWithin (lengthOf source s) (tables s id .perChunk) (tables s id .chunkOffsets) (tables s id .sizes) ≡ true
 unfolding trackOf chunkPastEnd
 chunks-end s source id e = not-false _ (asked s source id e .track .within)
 
@@ -87,9 +89,20 @@ total-small : (s : List ℕ) (source : Source) (id : ℕ) → askRefusal s sourc
 unfolding trackOf totalIn
 total-small s source id e = omega (arith, asked s source id e .track .total-fits)
 
-slip-rules : (s : List ℕ) (source : Source) (id : ℕ) (a b : MediaTime) → Bytes s → Span s source id a b → Rules (2 ^ 32) (slipHead s id a b) (flat (stretchPairs s id a b))
+-- a film ends where its slips' numbers can say: below 2 ^ 64, and below 2 ^ 32 where it is a whole file
+length-low : (s : List ℕ) (source : Source) (id : ℕ) (any : Bool) → (any ≡ false → source .alone ≡ false) → askRefusal s source id ≡ 0 → lengthOf source s < boundOf any
+unfolding lengthOf
+length-low s source id true ok e = omega (arith, asked s source id e .file .shape .low)
+length-low s source id false ok e = rw (ok refl) (omega (arith, asked s source id e .file .shape .short))
+
+narrow-bound : (any : Bool) → 2 ^ 32 ≤ boundOf any
+narrow-bound true = omega arith
+narrow-bound false = omega arith
+
+slip-rules : (s : List ℕ) (source : Source) (id : ℕ) (a b : MediaTime) → Bytes s → Span s source id a b → (any : Bool) → (any ≡ false → source .alone ≡ false)
+    → Rules (boundOf any) (slipHead s id a b) (flat (stretchPairs s id a b))
 unfolding slipHead stretchPairs pairsIn trackOf
-slip-rules s source id a b bytes p =
+slip-rules s source id a b bytes p any ok =
     let k = asked s source id (p .ask) in
     let l = listed s source id (p .ask) in
     let ps = tables s id .perChunk in
@@ -107,7 +120,7 @@ slip-rules s source id a b bytes p =
       some-pairs = some-touched i j 0 ps cs zs (o .0) (omega arith) (omega (arith, o .0, o .1, l .dealt));
       few-pairs = omega (arith, touched-few i j 0 ps cs zs, l .chunks, k .track .shape .few-chunks);
       all-pairs = flat-length (touched i j 0 ps cs zs);
-      below = (id-small s id bytes (k .has), (scale-small s id bytes, (omega (arith, p .order, p .within), (omega (arith, p .within), fits-below 4294967296 (touched i j 0 ps cs zs) (touched-fits (length s) i j 0 ps cs zs (omega (arith, o .0)) (omega (arith, k .file .shape .short)) (chunks-end s source id (p .ask)))))));
+      below = (omega (arith, narrow-bound any, id-small s id bytes (k .has)), (omega (arith, narrow-bound any, scale-small s id bytes), (omega (arith, narrow-bound any, p .order, p .within), (omega (arith, narrow-bound any, p .within), fits-below (boundOf any) (touched i j 0 ps cs zs) (touched-fits (lengthOf source s) i j 0 ps cs zs (omega (arith, o .0)) (length-low s source id any ok (p .ask)) (chunks-end s source id (p .ask)))))));
     }
 
 -- ---- written, and read
@@ -140,7 +153,7 @@ written-reads-back s source id a b = record {
         bytesIn (tables s id) a b,
         λ room h. pairs-is s source id (asked-less s source id (p .ask)) a b room (p .order) (p .within) (omega (arith, flat-length (stretchPairs s id a b))),
       );
-  same = λ bytes out after n slips room put k total stretches places enough r read reads.
+  same = λ bytes any ok out after n slips room put k total stretches places enough r read reads.
       let ps = stretchPairs s id a b in
       let u = wrote s source id a b out after n slips in
       let v = pairs-known s source id a b room k total (sym (stretches .answer)) in
@@ -148,7 +161,7 @@ written-reads-back s source id a b = record {
       let f : take n after ≡ slipOfStretch s id a b =
       ap (take n) (filled-known _ (slipOfStretch s id a b) out after (u .refusal) (slips .places)) ∙ take-at (slipOfStretch s id a b) (drop (length (slipOfStretch s id a b)) out) n (sym (u .count)) in
       let g = filled-known _ (flat ps) room put (v .refusal) (stretches .places) in
-      let h = reads-back (take n after) places r read reads (slipHead s id a b) (flat ps) (record { bytes = f; rules = slip-rules s (strictly source) id a b bytes (u .span) }) (omega (arith, e)) in
+      let h = reads-back any (take n after) places r read reads (slipHead s id a b) (flat ps) (record { bytes = f; rules = slip-rules s (strictly source) id a b bytes (u .span) any ok }) (omega (arith, e)) in
       let m : length ps ≡ k = sym (v .count) in (
         h .0 ∙ ap (λ (x : ℕ). Accepted (headOf s id a b x)) m,
         ap (take (2 * k)) (h .1) ∙ take-at (flat ps) (drop (length (flat ps)) places) (2 * k) e ∙ sym (ap (take (2 * k)) g ∙ take-at (flat ps) (drop (length (flat ps)) room) (2 * k) e),
@@ -165,13 +178,16 @@ written-reads-back s source id a b = record {
 pairs-in : (pairs room after : List ℕ) (n : ℕ) → length pairs ≡ 2 * n → after ≡ pairs ++ drop (length pairs) room → take (2 * n) after ≡ pairs
 pairs-in pairs room after n c e = ap (take (2 * n)) e ∙ take-at pairs (drop (length pairs) room) (2 * n) c
 
-writing : (h : Head) (bs room after : List ℕ) → Reads bs room (Accepted h) after → bs ≡ slipBytes h (take (2 * h .pairs) after)
-writing h bs room after p =
-    let u = accepted-only bs room (Accepted h) after p h refl in
+writing : (h : Head) (any : Bool) (bs room after : List ℕ) → Reads any bs room (Accepted h) after → bs ≡ slipBytes h (take (2 * h .pairs) after)
+writing h any bs room after p =
+    let u = accepted-only any bs room (Accepted h) after p h refl in
     u .1 .bytes ∙ ap (slipBytes h) (sym (pairs-in (u .0) room after (h .pairs) (u .1 .rules .all-pairs) (u .2)))
 
 pub only-writing : (h : Head) → OnlyWriting h
 only-writing h = record {
   written = writing h;
-  same = λ bs cs room₁ room₂ after₁ after₂ p q e. writing h bs room₁ after₁ p ∙ ap (slipBytes h) e ∙ sym (writing h cs room₂ after₂ q);
+  same = λ one other bs cs room₁ room₂ after₁ after₂ p q e. writing h one bs room₁ after₁ p ∙ ap (slipBytes h) e ∙ sym (writing h other cs room₂ after₂ q);
 }
+
+pub both-readers : (bs : List ℕ) → BothReaders bs
+both-readers bs = record { same = old-as-new bs; refuses = old-refuses bs }
