@@ -1,7 +1,7 @@
--- The stepper. Document 02: "a stepper that holds its position in each table by value and hands back the next sample with the new position"; "Started at
--- any sample, its answers equal the sample question's from there to the end, and each step itself moves the position on"; "A step after sample N answers
--- done"; "from a position of another film or track it is safe, and its answer, which may differ from one correct program to another, is named with what
--- holds of it".
+-- The stepper. Document 02: "a stepper that holds its position in each table by value and hands back the next sample with the new
+-- position"; "Started at any sample, its answers equal the sample question's from there to the end, and each step itself moves the position
+-- on"; "A step after sample N answers done"; "from a position of another film or track it is safe, and its answer, which may differ from one
+-- correct program to another, is named with what holds of it".
 use Prim.Native.Nat.{ℕ, suc, _-_, _≤_, _<_, _^_}
 use mathlib.Core.Path.{_≡_}
 use mathlib.Core.List.{List, [], _∷_}
@@ -34,8 +34,8 @@ bytesOf t =
       stss = tableOf kinds.stss t;
     }
 
--- p is a position of that track of the film s, lent by the source w, before the sample with index k, or past all N of them: each place has ahead what its
--- table says from sample k on
+-- p is a position of that track of the film s, lent by the source w, before the sample with index k, or past all N of them: each place has
+-- ahead what its table says from sample k on
 pub record Stands (s : List ℕ) (w : Source) (id k : ℕ) (p : Stepper) : Type 0 where
   pub asked : askRefusal s w id ≡ 0
   pub upto : k ≤ samplesOf (trackAsked s id)
@@ -76,8 +76,8 @@ pub record Onward (s : List ℕ) (w : Source) (id k : ℕ) (r : Step) : Type 0 w
   pub numbers : stepNumbers r ≡ pos 1 ∷ sampleValues (sampleOf (trackOf (trackAsked s id)) k)
   pub stands : Stands s w id (suc k) position
 
--- from any position, also one of another film or track: done, or some sample and a position one further on, of as many samples; so at most as many steps
--- follow as its samples are more than its index
+-- from any position, also one of another film or track: done, or some sample and a position one further on, of as many samples; so at most
+-- as many steps follow as its samples are more than its index
 pub record Elsewhere (p : Stepper) (r : Step) : Type 0 where
   pub moves : (x : Sample) (q : Stepper) → r ≡ Next x q
       → (p .moving .index < p .samples) × (q .moving .index ≡ suc (p .moving .index)) × (q .samples ≡ p .samples)
