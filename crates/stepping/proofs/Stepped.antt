@@ -1,0 +1,201 @@
+-- The answers of a step, from what the code has of the places.
+-- Assumes nothing.
+use Prim.Native.Nat.{ℕ, suc, _+_, _≤_, _<_, _^_}
+use mathlib.Core.Path.{_≡_, refl, sym, ap, _∙_}
+use mathlib.Core.Bool.{Bool, true, false, cond}
+use mathlib.Core.List.{List, [], _∷_}
+use native.Mathlib.Omega.{arith}
+use borrow.Author.Tests.{eq-eqb, ne-eqb}
+use lib.Dec.{eqb}
+use lib.IntN.{ℤ, pos, _+ℤ_}
+use lib.ListN.{length, getD, take, drop}
+use Rattle.atoms.specs.Kinds as kinds
+use Rattle.lists.specs.Lists.{before, holder}
+use Rattle.lists.proofs.Places.{each-at}
+use Rattle.runs.specs.Runs.{perSample, compositionOffset}
+use Rattle.words.specs.Words.{sizes, isSync}
+use Rattle.structure.specs.declared.source.Source.{Source}
+use Rattle.structure.specs.Track.{tableOf, samplesOf}
+use Rattle.track.specs.Track.{trackOf}
+use Rattle.places.specs.Places.{partIn, AreTables}
+use Rattle.places.specs.declared.tables.Tables.{Tables}
+use Rattle.positions.specs.Runs.{shiftOf}
+use Rattle.positions.specs.Syncs.{syncStep}
+use Rattle.positions.specs.Moving.{Bytes, StandsAt, Agrees, needsEntries, readiedMoving, mayMove, pastMoving}
+use Rattle.positions.specs.declared.moving.Moving.{Moving}
+use Rattle.positions.specs.declared.sync.SyncStep.{SyncStep}
+use Rattle.positions.proofs.Syncs.{sync-is}
+use Rattle.positions.proofs.Standing.{needs-same, may-known, Says, stands-ready, says-ready, stands-past, listed-is}
+use Rattle.questions.specs.Asked.{askRefusal, trackAsked}
+use Rattle.questions.specs.Samples.{sampleOf, sampleValues}
+use Rattle.questions.specs.declared.samples.Sample.{Sample}
+use Rattle.stepping.specs.Parts.{bytesIn, readiedIn}
+use Rattle.stepping.specs.Moves.{sampleSaid, movedPast, movedOn}
+use Rattle.stepping.specs.Stepping.{bytesOf, Stands, stepNumbers, Onward, Elsewhere, Steps}
+use Rattle.stepping.specs.declared.moves.Move.{Move}
+use Rattle.stepping.specs.declared.moves.Move.the-variants.{To, End}
+use Rattle.stepping.specs.declared.Stepper.{Stepper}
+use Rattle.stepping.specs.declared.Step.{Step}
+use Rattle.stepping.specs.declared.Step.the-variants.{Next, Done}
+use Rattle.stepping.proofs.Agreeing.{asked-agrees, in-film}
+
+-- where no entry is needed, reading them changes nothing
+pub ready-same : (s : List ℕ) (p : Tables) (m : Moving) → needsEntries (p .ctts .len) m ≡ false → readiedIn s p m ≡ m
+unfolding partIn
+ready-same s p m e =
+    needs-same (partIn s (p .stts)) (partIn s (p .ctts)) (partIn s (p .stsc)) (partIn s (p .offsets)) (p .ctts .len) m
+    (λ z. ap (λ (n : ℕ). length (take n (drop (p .ctts .at) s))) z) e
+
+-- ---- the sample
+
+composed : (a b : ℕ) (x y : ℤ) → a ≡ b → x ≡ y → pos a +ℤ x ≡ pos b +ℤ y
+composed a b x y e f = λ i. pos (e i) +ℤ f i
+
+-- what the places say of it is what the tables say
+said : (t : List ℕ) (k : ℕ) (m : Moving) → k < samplesOf t → m .index ≡ k → Says (bytesOf t) k m
+    → cond (eqb (length (tableOf kinds.stss t)) 0) true (syncStep (tableOf kinds.stss t) (m .sync) (m .index + 1) .listed) ≡ isSync (tableOf kinds.stss t) (suc k)
+    → sampleSaid (tableOf kinds.stsz t) (tableOf kinds.stss t) m ≡ sampleOf (trackOf t) k
+unfolding sampleOf trackOf
+said t k m h e a g =
+    let x = each-at (λ i. compositionOffset (tableOf kinds.ctts t) i) (samplesOf t) k (pos 0) h in
+    let y = each-at (λ i. isSync (tableOf kinds.stss t) (suc i)) (samplesOf t) k false h in
+    λ i. record {
+      decode = a .decode i;
+      duration = a .duration i;
+      composition = (composed (m .decode) (before (perSample (tableOf kinds.stts t)) k) (shiftOf (m .shifts)) (compositionOffset (tableOf kinds.ctts t) k) (a .decode) (a .shift) ∙ ap (λ (z : ℤ). pos (before (perSample (tableOf kinds.stts t)) k) +ℤ z) (sym x)) i;
+      sync = (g ∙ sym y) i;
+      description = a .description i;
+      chunk = a .chunk i;
+      offset = a .offset i;
+      size = ap (λ (j : ℕ). getD (sizes (tableOf kinds.stsz t)) j 0) e i;
+    }
+
+-- ---- the ways out of `moved`
+
+module _ (z y : List ℕ) (m : Moving) where
+  pub moved-end : mayMove m ≡ false → End ≡ movedOn z y m
+  unfolding movedOn
+  moved-end e = rw e
+
+  pub moved-to : mayMove m ≡ true → (size : ℕ) (place : SyncStep) (comp : ℤ) (b : Bool) (next : Moving) → size ≡ getD (sizes z) (m .index) 0
+      → place ≡ syncStep y (m .sync) (m .index + 1) → comp ≡ pos (m .decode) +ℤ shiftOf (m .shifts) → b ≡ cond (eqb (length y) 0) true (place .listed)
+      → next ≡ pastMoving size (place .at) m
+      → To (record { decode = m .decode; duration = m .times .each; composition = comp; sync = b; description = m .dealt .cursor .description; chunk = m .dealt .chunk; offset = m .dealt .offset; size = size }) next ≡ movedOn z y m
+  unfolding movedOn
+  moved-to e size place comp b next f g h i j = rw (e, j, i, h, g, f)
+
+pub sync-none : (y : List ℕ) (b : Bool) → length y ≡ 0 → true ≡ cond (eqb (length y) 0) true b
+sync-none y b e = rw (eq-eqb (length y) 0 e)
+
+pub sync-some : (y : List ℕ) (b : Bool) → (length y ≡ 0 → ⊥) → b ≡ cond (eqb (length y) 0) true b
+sync-some y b e = rw (ne-eqb (length y) 0 e)
+
+-- ---- a step
+
+-- the sample with index k, and the places past it
+record Passes (s : List ℕ) (id k : ℕ) (v : Move) : Type 0 where
+  places : Moving
+  answer : v ≡ To (sampleOf (trackOf (trackAsked s id)) k) places
+  stands : StandsAt (bytesOf (trackAsked s id)) (samplesOf (trackAsked s id)) (suc k) places
+
+passes : (s : List ℕ) (w : Source) (id k : ℕ) (p : Stepper) → Stands s w id k p → k < samplesOf (trackAsked s id)
+    → Passes s id k (movedOn (partIn s (p .tables .stsz)) (partIn s (p .tables .stss)) (readiedIn s (p .tables) (p .moving)))
+unfolding movedOn
+passes s w id k p a h =
+    let t = trackAsked s id in
+    let x = bytesOf t in
+    let g = asked-agrees s w id (a .asked) in
+    let m = p .moving in
+    let b = a .tables in
+    let r = readiedMoving (x .stts) (x .ctts) (x .stsc) (x .offsets) m in
+    let q = says-ready x (samplesOf t) k g h m (a .moving) in
+    let i : m .index + 1 ≡ suc k = omega (arith, a .moving .index) in
+    let y = syncStep (x .stss) (m .sync) (m .index + 1) in
+    let f : y ≡ syncStep (x .stss) (m .sync) (suc k) = ap (syncStep (x .stss) (m .sync)) i in
+    let l = sync-is (x .stss) (suc k) (y .listed) (listed-is x (samplesOf t) k g h m (a .moving) y f) in
+    let z : getD (sizes (x .stsz)) (m .index) 0 ≡ getD (sizes (x .stsz)) k 0 = ap (λ (j : ℕ). getD (sizes (x .stsz)) j 0) (a .moving .index) in
+    rw (b .stts, b .ctts, b .stsc, b .stsz, b .offsets, b .stss, q .may) (record {
+      places = movedPast (x .stsz) (x .stss) r;
+      answer = ap (λ (v : Sample). To v (movedPast (x .stsz) (x .stss) r)) (said t k r h (a .moving .index) q l);
+      stands = stands-past x (samplesOf t) k g h m (a .moving) _ y z f;
+    })
+
+-- ---- the promise
+
+done-next : {x : Sample} {q : Stepper} {A : Type 0} → Done ≡ Next x q → A
+done-next e = let z : _≡_ {A = ℕ} 0 1 = cc in absurd (omega arith)
+
+pub done-elsewhere : (p : Stepper) → Elsewhere p Done
+done-elsewhere p = record { moves = λ x q e. done-next e; low = λ x q e. done-next e }
+
+-- past the last sample
+pub steps-past : (s : List ℕ) (p : Stepper) → p .samples ≤ p .moving .index → Steps s p Done
+steps-past s p h = record {
+  next = λ w id k a g. absurd (omega (arith, a .samples, a .moving .index));
+  done = λ w id a. refl;
+  elsewhere = done-elsewhere p;
+}
+
+module _ (s : List ℕ) (p : Stepper) (h : p .moving .index < p .samples) (m : Moving) (e : m ≡ readiedIn s (p .tables) (p .moving)) (z y : List ℕ) (f : z ≡ partIn s (p .tables .stsz)) (g : y ≡ partIn s (p .tables .stss)) (v : Move) (d : v ≡ movedOn z y m) where
+  moved-is : v ≡ movedOn (partIn s (p .tables .stsz)) (partIn s (p .tables .stss)) (readiedIn s (p .tables) (p .moving))
+  moved-is = d ∙ (λ i. movedOn (f i) (g i) (e i))
+
+  no-more : (w : Source) (id : ℕ) {A : Type 0} → Stands s w id (samplesOf (trackAsked s id)) p → A
+  no-more w id a = absurd (omega (arith, a .samples, a .moving .index))
+
+  -- no more, of a position of another film
+  pub steps-end : v ≡ End → Steps s p Done
+  steps-end u = record {
+    next = λ w id k a l.
+        let q = passes s w id k p a l in
+        let c : End ≡ To (sampleOf (trackOf (trackAsked s id)) k) (q .places) = sym u ∙ moved-is ∙ q .answer in
+        let n : _≡_ {A = ℕ} 0 1 = cc in
+        absurd (omega arith);
+    done = λ w id a. refl;
+    elsewhere = done-elsewhere p;
+  }
+
+  module _ (x : Sample) (n : Moving) (u : v ≡ To x n) where
+    -- the places that it passes on are the ones moved
+    came : (b : Bool) → mayMove m ≡ b → cond b (To (sampleSaid z y m) (movedPast z y m)) End ≡ To x n
+        → (mayMove m ≡ true) × (sampleSaid z y m ≡ x) × (movedPast z y m ≡ n)
+    came true q c = let a : sampleSaid z y m ≡ x = cc in let b : movedPast z y m ≡ n = cc in (q, a, b)
+    came false q c = let a : _≡_ {A = ℕ} 0 1 = cc in absurd (omega arith)
+
+    known : (mayMove m ≡ true) × (sampleSaid z y m ≡ x) × (movedPast z y m ≡ n)
+    unfolding movedOn
+    known = came (mayMove m) refl (sym d ∙ u)
+
+    pub steps-next : Steps s p (Next x (record { tables = p .tables; samples = p .samples; moving = n }))
+    unfolding stepNumbers
+    steps-next = record {
+      next = λ w id k a l.
+          let q = passes s w id k p a l in
+          let c : To (sampleOf (trackOf (trackAsked s id)) k) (q .places) ≡ To x n = sym (q .answer) ∙ sym moved-is ∙ u in
+          let i : x ≡ sampleOf (trackOf (trackAsked s id)) k = cc in
+          let j : q .places ≡ n = cc in
+          record {
+            position = record { tables = p .tables; samples = p .samples; moving = n };
+            answer = ap (λ (r : Sample). Next r (record { tables = p .tables; samples = p .samples; moving = n })) i;
+            numbers = ap (λ (r : Sample). pos 1 ∷ sampleValues r) i;
+            stands = record {
+              asked = a .asked;
+              upto = omega arith;
+              tables = a .tables;
+              samples = a .samples;
+              moving = rw (← j) (q .stands);
+            };
+          };
+      done = λ w id a. no-more w id a;
+      elsewhere = record {
+        moves = λ r q c.
+            let a : q ≡ record { tables = p .tables; samples = p .samples; moving = n } = cc in
+            let b : n .index ≡ m .index + 1 = ap (λ o. o .index) (sym (known .2)) in
+            let o : m .index ≡ p .moving .index = ap (λ o. o .index) e in
+            rw a (h, omega arith, refl);
+        low = λ r q c.
+            let a : x ≡ r = cc in
+            let b = may-known m (known .0) in
+            rw (← a, ← known .1) (b .2, b .1);
+      };
+    }

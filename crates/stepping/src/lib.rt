@@ -1,0 +1,110 @@
+// Stepping through a track: a position in each of its tables, held by value, made at a sample number, and moved past one sample after the other.
+pub mod asked;
+pub mod moves;
+pub mod parts;
+
+use asked::track_part;
+use bigendian::u32_at;
+use moves::Move;
+use moves::moved;
+use parts::entries_read;
+use parts::moving_at;
+use places::part_of;
+use places::tables::Tables;
+use places::tables::tables_of;
+use positions::moving::Moving;
+use positions::moving::needs_entries;
+use questions::ask_refusal;
+use questions::samples::Sample;
+use structure::source::Source;
+ghost use Rattle.stepping.specs.Stepping.{Starts, Steps};
+
+// The tables of the track, the number of its samples, and the places before the next of them.
+pub struct Stepper {
+    pub tables: Tables,
+    pub samples: u32,
+    pub moving: Moving,
+}
+
+// The answer of `Stepper::at`: the position; or the number of a refusal.
+pub enum Start {
+    At(Stepper),
+    Refused(u32),
+}
+
+// The answer of `step`: the next sample, and the position past it.
+pub enum Step {
+    Next(Sample, Stepper),
+    Done,
+}
+
+impl Stepper {
+    // Document 01: "header and entry sizes as associated constants". Heads of the tables, and of stsz.
+    pub const HEAD: usize = 16;
+
+    pub const SIZES_HEAD: usize = 20;
+
+    // Entries of stts and ctts, of stsc, of stsz, stco and stss, and of co64.
+    pub const RUN: usize = 8;
+
+    pub const DEAL: usize = 12;
+
+    pub const WORD: usize = 4;
+
+    pub const LONG: usize = 8;
+
+    // Before sample n of a track, numbered from 1.
+    pub fn at(lent: &[u8], source: Source, id: u32, n: u32) -> Start
+        ensures { λ r. ⌜ Starts (now (lent .entry)) source id n r ⌝ }
+    {
+        let refused = ask_refusal(lent, source, id);
+        if refused != 0 {
+            return Start::Refused(refused);
+        }
+        if n == 0 {
+            return Start::Refused(15);
+        }
+        let tables = tables_of(lent, track_part(lent, id));
+        let stsz = tables.stsz;
+        let samples = u32_at(part_of(lent, stsz), 16);
+        if samples < n {
+            return Start::Refused(15);
+        }
+        let moving = moving_at(lent, tables, samples, n - 1);
+        Start::At(Stepper {
+            tables,
+            samples,
+            moving,
+        })
+    }
+
+    // The next sample and the position past it; done past the last one.
+    pub fn step(self, lent: &[u8]) -> Step
+        ensures { λ r. ⌜ Steps (now (lent .entry)) self r ⌝ }
+    {
+        let tables = self.tables;
+        let samples = self.samples;
+        let mut m = self.moving;
+        if samples <= m.index {
+            return Step::Done;
+        }
+        let ctts = tables.ctts;
+        if needs_entries(m, ctts.len) {
+            m = entries_read(lent, tables, m);
+        }
+        let stsz = tables.stsz;
+        let stss = tables.stss;
+        let r = moved(part_of(lent, stsz), part_of(lent, stss), m);
+        match r {
+            Move::To(sample, moving) => Step::Next(
+                sample,
+                Stepper {
+                    tables,
+                    samples,
+                    moving,
+                },
+            ),
+            Move::End => Step::Done,
+        }
+    }
+}
