@@ -12,7 +12,7 @@ use Rattle.atoms.specs.Kinds.{stts}
 use Rattle.structure.specs.declared.source.Source.{Source}
 use Rattle.structure.specs.Track.{scaleOf, elstOf, editsOf}
 use Rattle.structure.specs.Movie.{moovOf, movieScale}
-use Rattle.structure.proofs.Shaped.{MayEnter}
+use Rattle.shape.proofs.Shaped.{MayEnter}
 use Rattle.structure.proofs.Lengths.{table-short}
 use Rattle.track.specs.Refusals.{totalIn, wrongEdits}
 use Rattle.track.proofs.Agreed.{agreed-tables}

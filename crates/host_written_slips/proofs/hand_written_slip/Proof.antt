@@ -20,8 +20,8 @@ or-short-requires c κs = search needs
 returns : tie.Need-returns
 unfolding slipRefusal
 returns c =
-    too-few _ _ _ _ _ _ _ _ (slip-judged _ _ _ _ _ _) refl (c .before .before .before .if1 .taken)
-    (rw (← c .before .before .strictly .ensures, ← c .before .span-refusal .ensures) (c .or-short .ensures))
+    too-few _ _ _ _ _ _ _ _ (slip-judged _ (c .before .before .before .before .before .before .before .args .source) _ _ _ _) refl (c .before .before .before .if1 .taken)
+    (rw (c .before .span-refusal .ensures, c .before .before .strictly .ensures) at (c .or-short .ensures))
 
 write-slip-of-requires : tie.Need-write-slip-of-requires
 write-slip-of-requires c κs = search needs
