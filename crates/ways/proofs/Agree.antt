@@ -9,6 +9,7 @@ use Rattle.structure.specs.declared.source.Source.{Source}
 use Rattle.structure.specs.Source.{wholeFile, moovAlone, strictly, lengthOf}
 use Rattle.structure.specs.Rows.{some, first, orElse}
 use Rattle.structure.specs.Movie.{moovOf, tracksOf}
+use Rattle.track.specs.Track.{trackOf}
 use Rattle.track.specs.Refusals.{otherDuration}
 use Rattle.movie.specs.Refusals.{filmRefusal}
 use Rattle.movie.specs.TableRows.{tableRows, tablesRefusal}
@@ -18,6 +19,7 @@ use Rattle.questions.specs.Asked.{askRefusal, trackAsked}
 use Rattle.questions.specs.Samples.{sampleRefusal}
 use Rattle.time_questions.specs.Times.{atRefusal, atNumber, atEntry, mappedOf}
 use Rattle.profiles.specs.Profiles.{profileAsked, profileNumbers, profileRefusal}
+use Rattle.movie_times.specs.Entries.{editsAsked, editsRefusal}
 use Rattle.ways.specs.Ways.{moovAtom, BothWays}
 use Rattle.ways.specs.Agree.{SameAnswers, WaysAgree}
 use Rattle.ways.proofs.Shapes.{moov-same, shape-same}
@@ -49,8 +51,12 @@ module _ (s m : List ℕ) (w v : Source) (e : filmRefusal m v ≡ filmRefusal s 
   unfolding trackAsked
   track-same id = rw d
 
+  edits-same : (id : ℕ) → editsAsked m id ≡ editsAsked s id
+  unfolding editsAsked
+  edits-same id = ap (λ t. trackOf t .edits) (track-same id)
+
   same-answers : SameAnswers s w m v
-  unfolding trackLines listRefusal sampleRefusal atRefusal atNumber atEntry mappedOf profileAsked profileNumbers profileRefusal
+  unfolding trackLines listRefusal sampleRefusal atRefusal atNumber atEntry mappedOf profileAsked profileNumbers profileRefusal editsRefusal
   same-answers = record {
     refusal = e;
     tracks = λ room. (rw (e, d), rw (e, d));
@@ -59,6 +65,8 @@ module _ (s m : List ℕ) (w v : Source) (e : filmRefusal m v ≡ filmRefusal s 
     media-time = λ id t. rw (ask-same id, track-same id, d);
     feature = λ id code. rw (ask-same id, track-same id, d);
     peak = λ id code. rw (ask-same id, track-same id);
+    movie = rw (e, d);
+    edits = λ id room. (rw (ask-same id, edits-same id), rw (ask-same id, edits-same id));
     profile = λ id room. (rw (e, ask-same id, track-same id, d), rw (e, ask-same id, track-same id, d));
   }
 

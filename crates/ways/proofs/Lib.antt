@@ -2,3 +2,4 @@ mod Top
 mod Trees
 mod Shapes
 pub mod Agree
+pub mod Walked

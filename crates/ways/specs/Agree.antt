@@ -4,6 +4,7 @@ use Prim.Native.Nat.{ℕ}
 use mathlib.Core.Path.{_≡_}
 use mathlib.Core.List.{List}
 use lib.ListN.{length}
+use lib.IntN.{ℤ}
 use Rattle.edits.specs.declared.MediaTime.{MediaTime}
 use Rattle.edits.specs.declared.MovieTime.{MovieTime}
 use Rattle.structure.specs.declared.source.Source.{Source}
@@ -15,6 +16,8 @@ use Rattle.questions.specs.Samples.{sampleAnswer}
 use Rattle.time_questions.specs.Times.{atAnswer, mapAnswer}
 use Rattle.feature_questions.specs.Feature.{featureAnswer, peakAnswer}
 use Rattle.profiles.specs.Profiles.{profileNumbers, profileRefusal, profileAnswer}
+use Rattle.movie_times.specs.Header.{movieAnswer}
+use Rattle.movie_times.specs.Entries.{editNumbers, editsAsked, editsRefusal, editsAnswer}
 use Rattle.ways.specs.Ways.{moovAtom, BothWays}
 
 -- the film of the bytes s and the source w, and that of the bytes m and the source v
@@ -27,6 +30,9 @@ pub record SameAnswers (s : List ℕ) (w : Source) (m : List ℕ) (v : Source) :
   pub media-time : (id : ℕ) (t : MovieTime) → mapAnswer m v id t ≡ mapAnswer s w id t
   pub feature : (id code : ℕ) → featureAnswer m v id code ≡ featureAnswer s w id code
   pub peak : (id code : ℕ) → peakAnswer m v id code ≡ peakAnswer s w id code
+  pub movie : movieAnswer m v ≡ movieAnswer s w
+  pub edits : (id : ℕ) (room : List ℤ) → (editsAnswer m v id room ≡ editsAnswer s w id room)
+      × (roomAfter (editsRefusal m v id room) (editNumbers (editsAsked m id)) room ≡ roomAfter (editsRefusal s w id room) (editNumbers (editsAsked s id)) room)
   pub profile : (id : ℕ) (room : List ℕ) → (profileAnswer m v id room ≡ profileAnswer s w id room)
       × (roomAfter (profileRefusal m v id room) (profileNumbers m id) room ≡ roomAfter (profileRefusal s w id room) (profileNumbers s id) room)
 
