@@ -122,7 +122,10 @@ pub fn ready(stsc: &[u8], chunks: u32, c: ChunkCursor) -> ChunkCursor
     let mut r = c;
     while r.remaining == 0 {
         let at = r.at;
-        let t = after(stsc, at);
+        if stsc.len() < at {
+            return r;
+        }
+        let t = &stsc[at..];
         if t.len() < 12 {
             return r;
         }

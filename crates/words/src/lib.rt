@@ -3,7 +3,8 @@
 use atoms::kinds;
 use bigendian::after;
 use bigendian::u32_at;
-use bigendian::u64_at;
+use bigendian::whole32;
+use bigendian::whole64;
 ghost use mathlib.Core.Path.{_≡_};
 ghost use Prim.Native.Nat.{_+_, _*_, _-_, _/_, _^_, _≤_, _<_, min};
 ghost use lib.Dec.{eqb};
@@ -28,13 +29,13 @@ pub fn word_at(part: &[u8], index: usize) -> u32
     ensures { λ r. ⌜ r ≡ getD (wordsIn (now (part .entry))) index 0 ⌝ }
 {
     if index < part.len() / 4 {
-        return u32_at(part, index * 4);
+        return whole32(part, index * 4);
     }
     0
 }
 
 // All numbers of a part, added. It has so few that the sum fits.
-fn sum_words(part: &[u8]) -> u64
+pub fn sum_words(part: &[u8]) -> u64
     requires { ⌜ length (now part) ≤ 4294967295 * 4 ⌝ }
     ensures { λ r. ⌜ (r ≡ sum (wordsIn (now (part .entry)))) × (r ≤ length (now (part .entry)) / 4 * 4294967295) ⌝ }
 {
@@ -126,12 +127,19 @@ pub fn is_long(table: &[u8]) -> bool
     u32_at(table, 4) == kinds::CO64
 }
 
+// The bytes of a number of 64 bits, or of 32.
+pub fn width_of(long: bool) -> usize
+    ensures { λ r. ⌜ r ≡ widthOf long ⌝ }
+{
+    if long { 8 } else { 4 }
+}
+
 // The number of 64 bits of a part with an index.
 fn long_at(part: &[u8], index: usize) -> u64
     ensures { λ r. ⌜ r ≡ getD (numbersIn 8 (now (part .entry))) index 0 ⌝ }
 {
     if index < part.len() / 8 {
-        return u64_at(part, index * 8);
+        return whole64(part, index * 8);
     }
     0
 }

@@ -11,7 +11,7 @@ use native.Mathlib.Omega.{arith}
 use denote.Ref.{now}
 use lib.Dec.{ltb}
 use lib.ListN.{length}
-use Rattle.atoms.specs.Kinds.{stsz}
+use Rattle.atoms.specs.Kinds.{stsc}
 use Rattle.structure.proofs.Lengths.{table-short}
 use Rattle.edits.specs.Edits.{editTotal}
 use Rattle.track.proofs.Rows.{timed-10, timed-11, timed-19, timed-12, timed-13, timed-0, chunk-past-end-by, wrong-by}
@@ -70,7 +70,7 @@ offset-table-requires c κs = search needs
 chunks-end-within-requires : tie.Need-chunks-end-within-requires
 chunks-end-within-requires c κs =
     let s = c .before .before .before .before .before .before .before .before .before .before .before in
-    omega (arith, ap length (c .before .before .table .ensures), table-short stsz (now (s .args .trak)), s .pre)
+    omega (arith, ap length (c .before .table2 .ensures), table-short stsc (now (s .args .trak)), s .pre)
 
 returns-4 : tie.Need-returns-4
 returns-4 c =

@@ -2,22 +2,23 @@
 -- Assumes nothing.
 use borrow.Author.Needs.{needs}
 use mathlib.Core.Path.{sym, _∙_}
+use native.Mathlib.Omega.{arith}
 use lib.Dec.{lit<}
 use Rattle.words.proofs.Turns.{numbers-at, numbers-past}
 use Rattle.words.proofs.long_at.Statement.{statement}
 use Rattle.words.proofs.long_at.Tie as tie
 
-mul-u64-at : tie.Need-mul-u64-at
-mul-u64-at c = search needs
+mul-whole64 : tie.Need-mul-whole64
+mul-whole64 c = search needs
 
-u64-at-requires : tie.Need-u64-at-requires
-u64-at-requires c κs = search needs
+whole64-requires : tie.Need-whole64-requires
+whole64-requires c κs = omega (arith, c .if1 .taken)
 
 returns : tie.Need-returns
-returns c = c .u64-at .ensures ∙ sym (numbers-at 8 (lit< tt) _ _ (c .before .if1 .taken))
+returns c = c .whole64 .ensures ∙ sym (numbers-at 8 (lit< tt) _ _ (c .before .if1 .taken))
 
 returns-2 : tie.Need-returns-2
 returns-2 c = sym (numbers-past 8 (lit< tt) _ _ (c .if1 .left))
 
 pub long-at-spec : {M : Type 1} → statement M
-long-at-spec = tie.close (tie.spec mul-u64-at u64-at-requires returns returns-2)
+long-at-spec = tie.close (tie.spec mul-whole64 whole64-requires returns returns-2)
