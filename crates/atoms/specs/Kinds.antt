@@ -59,6 +59,9 @@ stsz = 0x7374737a
 abbrev pub stco : ℕ
 stco = 0x7374636f
 
+abbrev pub co64 : ℕ
+co64 = 0x636f3634
+
 abbrev pub stss : ℕ
 stss = 0x73747373
 

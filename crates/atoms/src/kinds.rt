@@ -37,6 +37,8 @@ pub const STSZ: u32 = 0x7374737a;
 
 pub const STCO: u32 = 0x7374636f;
 
+pub const CO64: u32 = 0x636f3634;
+
 pub const STSS: u32 = 0x73747373;
 
 pub const STSD: u32 = 0x73747364;

@@ -107,7 +107,7 @@ pub fn whole32(s: &[u8], at: usize) -> u32
 }
 
 // Two halves: LLVM makes them one load and one byte swap. Of one sum over eight bytes it makes eight loads.
-fn whole64(s: &[u8], at: usize) -> u64
+pub fn whole64(s: &[u8], at: usize) -> u64
     requires { ⌜ at + 8 ≤ length (now s) ⌝ }
     ensures { λ r. ⌜ r ≡ u64At (now (s .entry)) at ⌝ }
 {

@@ -1,81 +1,90 @@
--- Refusal 12: one turn of the walk, run by run, over stsc, stco and stsz together; and the sentence that the test computes.
+-- Refusal 12: one turn of the walk, some chunks of a run at once, over stsc, stco and stsz together; and the sentence that the test computes.
 -- Assumes nothing.
-use Prim.Native.Nat.{ℕ, zero, suc, _+_, _-_, _*_, _≤_, _<_, min}
+use Prim.Native.Nat.{ℕ, zero, suc, _+_, _-_, _*_, _≤_, _<_}
 use mathlib.Core.Path.{_≡_, refl, sym, ap, _∙_}
-use mathlib.Core.Bool.{Bool, true, false, cond}
+use mathlib.Core.Bool.{Bool, true, false, cond, not}
 use mathlib.Core.List.{List, [], _∷_}
 use native.Mathlib.Omega.{arith}
-use native.Mathlib.Decide.{decLe}
-use lib.Dec.{ltb}
-use lib.ListN.{length, getD, take, drop, replicate, drop-of-length-le}
+use lib.Dec.{ltb, eqb}
+use lib.ListN.{length, getD, take, drop, replicate}
 use lib.Seq.{drop-drop}
 use borrow.Author.Tests.{le-ltb, ltb-false}
 use Rattle.bigendian.specs.BigEndian.{u32At}
+use Rattle.atoms.specs.Atoms.{kindOf}
+use Rattle.atoms.specs.Kinds.{co64}
 use Rattle.lists.specs.Lists.{sum, before, between, holder}
 use Rattle.lists.proofs.Laws.{length-run}
 use Rattle.lists.proofs.Places.{holds-below, holder-holds, between-split, between-one}
 use Rattle.lists.proofs.Booleans.{cond-unless}
-use Rattle.words.specs.Words.{wordsIn, chunkOffsets}
-use Rattle.words.proofs.Turns.{offsets-in, words-drop}
+use Rattle.words.specs.Words.{numbersIn, sizes, widthOf, chunkOffsets}
+use Rattle.words.proofs.Turns.{offsets-of}
 use Rattle.chunks.specs.Chunks.{perChunk, offsetOf, endWithin}
 use Rattle.chunks.specs.Cursors.{ahead, Stands, startCursor, readied, past}
 use Rattle.chunks.specs.declared.ChunkCursor.{ChunkCursor}
-use Rattle.chunks.proofs.Cursors.{start-samples, Same, ready-same, no-samples, ahead-run}
+use Rattle.chunks.proofs.Cursors.{start-samples, Same, ready-same, no-samples, ahead-some}
 use Rattle.chunk_ends.proofs.RunEnds.{run-then}
 
--- ---- samples, up to the largest index
+-- ---- what the whole tables say
 
-sizes-after : (zs : List ℕ) → length zs ≤ 4294967295 → (begin count end : ℕ) → end ≡ min (begin + count) 4294967295 → drop count (drop begin zs) ≡ drop end zs
-sizes-after zs few begin count end p = drop-drop count begin zs ∙ elim (decLe (begin + count) 4294967295) [
-  | yes l ↦ let e : begin + count ≡ end = omega arith in ap (λ (k : ℕ). drop k zs) e
-  | no l ↦ drop-of-length-le zs {i = begin + count} (omega arith) ∙ sym (drop-of-length-le zs {i = end} (omega arith))
-]
+-- o is stco or co64, zs are the sizes
+pub whole-tables : (limit : ℕ) (c o z : List ℕ) {chunks : ℕ} {long : Bool} {part zs : List ℕ} → chunks ≡ u32At o 12 → long ≡ eqb (kindOf o) co64 → part ≡ drop 16 o → zs ≡ sizes z →
+    {r : Bool} → r ≡ endWithin limit (perChunk c chunks) (numbersIn (widthOf long) part) zs → r ≡ endWithin limit (perChunk c (u32At o 12)) (chunkOffsets o) (sizes z)
+whole-tables limit c o z k l p q e = e ∙ rw (k, q, offsets-of o l p)
 
 -- ---- the walk
 
--- c stands before a chunk if one is ahead; what the chunks ahead, the offsets of t and the sizes from `begin` on say is what the whole says
-pub record Ending (limit : ℕ) (s : List ℕ) (chunks : ℕ) (zs t : List ℕ) (whole : Bool) (c : ChunkCursor) (begin : ℕ) : Type 0 where
+-- c stands before a chunk if one is ahead; what the chunks ahead, the offsets cs and the sizes zs say is what the whole says
+pub record Ending (limit : ℕ) (s : List ℕ) (chunks : ℕ) (cs zs : List ℕ) (whole : Bool) (c : ChunkCursor) : Type 0 where
   pub stands : Stands s c
-  pub same : endWithin limit (ahead s chunks c) (wordsIn t) (drop begin zs) ≡ whole
+  pub same : endWithin limit (ahead s chunks c) cs zs ≡ whole
 
 -- before the first chunk
-pub ending-start : (limit : ℕ) (stsc stco zs : List ℕ) {chunks : ℕ} → chunks ≡ u32At stco 12 → {t : List ℕ} → t ≡ drop 16 stco →
-    {i r : ChunkCursor} → i ≡ startCursor → r ≡ readied stsc chunks i →
-    Ending limit stsc chunks zs t (endWithin limit (perChunk stsc (u32At stco 12)) (chunkOffsets stco) zs) r 0
-ending-start limit stsc stco zs {chunks} k {t} p {i} {r} a e =
-    let w : Same stsc chunks startCursor r = rw (e, a) (ready-same stsc chunks startCursor) in
-    let q : ahead stsc chunks r ≡ perChunk stsc (u32At stco 12) = w .samples ∙ start-samples stsc chunks ∙ ap (perChunk stsc) k in
-    let o : wordsIn t ≡ chunkOffsets stco = ap wordsIn p ∙ sym (offsets-in stco) in
-    record { stands = w .stands; same = rw (q, o) }
+module _ (limit : ℕ) (s : List ℕ) (chunks : ℕ) (cs zs : List ℕ) {i r : ChunkCursor} (a : i ≡ startCursor) (e : r ≡ readied s chunks i) where
+  started : Same s chunks startCursor r
+  started = rw (e, a) (ready-same s chunks startCursor)
 
--- no chunk is ahead
-pub ended : {limit : ℕ} {s : List ℕ} {chunks : ℕ} {zs t : List ℕ} {whole : Bool} {c : ChunkCursor} {begin : ℕ} → Ending limit s chunks zs t whole c begin → c .remaining ≡ 0 → whole ≡ true
-ended {limit} {s} {chunks} {zs} {t} {whole} {c} {begin} w z = sym (w .same) ∙ rw (no-samples chunks (w .stands) z)
+  pub ending-start : Ending limit s chunks cs zs (endWithin limit (perChunk s chunks) cs zs) r
+  ending-start = record { stands = started .stands; same = rw (started .samples, start-samples s chunks) }
 
--- a run is ahead, and whether its chunks end within the limit is known
-module _ {limit : ℕ} {s : List ℕ} {chunks : ℕ} {zs t : List ℕ} {whole : Bool} {c : ChunkCursor} {begin : ℕ} (w : Ending limit s chunks zs t whole c begin) {within : Bool}
-    (b : within ≡ endWithin limit (replicate (c .remaining) (c .per)) (wordsIn t) (drop begin zs)) where
-  opened : whole ≡ cond within (endWithin limit (ahead s chunks (past (c .remaining) c)) (drop (c .remaining) (wordsIn t)) (drop (c .remaining * c .per) (drop begin zs))) false
-  opened =
-      sym (w .same) ∙ rw (ahead-run s chunks c, b) (run-then limit (c .remaining) (c .per) (ahead s chunks (past (c .remaining) c)) (wordsIn t) (drop begin zs))
+  pub start-length : length (ahead s chunks r) ≡ length (perChunk s chunks)
+  start-length = ap length (started .samples ∙ start-samples s chunks)
 
-  pub passes : within ≡ false → whole ≡ false
-  passes h = opened ∙ rw h
+module _ {limit : ℕ} {s : List ℕ} {chunks : ℕ} {cs zs : List ℕ} {whole : Bool} {c : ChunkCursor} (w : Ending limit s chunks cs zs whole c) where
+  -- no chunk is ahead
+  pub ended : c .remaining ≡ 0 → whole ≡ true
+  ended z = sym (w .same) ∙ rw (no-samples chunks (w .stands) z)
 
-  -- r is the cursor readied past the run, u the offsets that follow
-  module _ {i r : ChunkCursor} (a : i ≡ past (c .remaining) c) (e : r ≡ readied s chunks i) where
-    again : Same s chunks (past (c .remaining) c) r
-    again = rw (e, a) (ready-same s chunks (past (c .remaining) c))
+  -- n chunks of a run are ahead
+  module _ (n : ℕ) (h : n ≤ c .remaining) where
+    opened : {within : Bool} → within ≡ endWithin limit (replicate n (c .per)) cs zs →
+        whole ≡ cond within (endWithin limit (ahead s chunks (past n c)) (drop n cs) (drop (n * c .per) zs)) false
+    opened b = sym (w .same) ∙ rw (ahead-some s chunks c n h, b) (run-then limit n (c .per) (ahead s chunks (past n c)) cs zs)
 
-    pub ending-next : within ≡ true → length zs ≤ 4294967295 → {u : List ℕ} → u ≡ drop (c .remaining * 4) t → {end : ℕ} → end ≡ min (begin + c .remaining * c .per) 4294967295 →
-        Ending limit s chunks zs u whole r end
-    ending-next h few o p = record {
-      stands = again .stands;
-      same = rw (o, words-drop (c .remaining) t, again .samples, ← sizes-after zs few begin (c .remaining * c .per) _ p) (sym (opened ∙ rw h));
-    }
+    -- one of them ends past the limit
+    pub ends-past : {within : Bool} → within ≡ endWithin limit (replicate n (c .per)) cs zs → within ≡ false → whole ≡ false
+    ends-past b z = opened b ∙ rw z
 
-    pub ending-less : (c .remaining ≡ 0 → ⊥) → length (ahead s chunks r) < length (ahead s chunks c)
-    ending-less z = omega (arith, ap length (again .samples), ap length (ahead-run s chunks c), length-run (c .per) (ahead s chunks (past (c .remaining) c)) (c .remaining))
+    -- r is the cursor readied past them
+    module _ {i r : ChunkCursor} (a : i ≡ past n c) (e : r ≡ readied s chunks i) where
+      again : Same s chunks (past n c) r
+      again = rw (e, a) (ready-same s chunks (past n c))
+
+      pub ending-length : length (ahead s chunks c) ≡ n + length (ahead s chunks r)
+      ending-length = ap length (ahead-some s chunks c n h) ∙ length-run (c .per) (ahead s chunks (past n c)) n ∙ ap (λ (l : List ℕ). n + length l) (sym (again .samples))
+
+      -- they end within it; ds and ys are the offsets and sizes that follow
+      pub ending-next : {within : Bool} → within ≡ endWithin limit (replicate n (c .per)) cs zs → within ≡ true → {ds ys : List ℕ} → ds ≡ drop n cs → ys ≡ drop (n * c .per) zs →
+          Ending limit s chunks ds ys whole r
+      ending-next b z o p = record { stands = again .stands; same = rw (o, p, again .samples) (sym (opened b ∙ rw z)) }
+
+negated : (b : Bool) → not b ≡ cond b false true
+negated true = refl
+negated false = refl
+
+-- one chunk: its offset, its bytes, and whether they pass the limit
+pub one-asked : (limit per : ℕ) (cs zs : List ℕ) {base bytes : ℕ} {over : Bool} → base ≡ getD cs 0 0 → bytes ≡ sum (take per zs) → over ≡ ltb limit (base + bytes) →
+    not over ≡ endWithin limit (replicate 1 per) cs zs
+one-asked limit per cs zs b s e = rw (e, b, s) (negated (ltb limit (getD cs 0 0 + sum (take per zs))))
 
 -- ---- the sentence: each chunk's offset plus the sizes of its samples is within the limit
 

@@ -1,39 +1,77 @@
 -- Refusal 12 of a run of chunks: it is asked chunk by chunk; where each chunk has as many bytes, of the offsets alone; and of a run and what follows it one
 -- after the other.
 -- Assumes nothing.
-use Prim.Native.Nat.{ℕ, zero, suc, _+_, _-_, _*_, _≤_, _<_}
+use Prim.Native.Nat.{ℕ, zero, suc, _+_, _-_, _*_, _^_, _≤_, _<_, min}
 use mathlib.Core.Path.{_≡_, refl, sym, ap, _∙_}
 use mathlib.Core.Bool.{Bool, true, false, cond}
 use mathlib.Core.List.{List, [], _∷_, _++_}
 use native.Mathlib.Nat.{suc-mul, zero-mul}
 use native.Mathlib.Omega.{arith}
-use native.Mathlib.Decide.{decLt}
+use native.Mathlib.Decide.{decLt, decLe}
 use lib.Dec.{ltb}
-use lib.ListN.{length, getD, take, drop, replicate}
-use lib.Seq.{take-nil, drop-drop}
+use lib.ListN.{length, getD, take, drop, replicate, drop-of-length-le}
+use lib.Seq.{take-nil, take-all, drop-drop, getD-drop}
 use borrow.Author.Tests.{lt-ltb, le-ltb}
-use Rattle.bigendian.specs.BigEndian.{u32At}
 use Rattle.lists.specs.Lists.{sum}
-use Rattle.words.specs.Words.{wordsIn, sizes}
-use Rattle.words.proofs.Turns.{words-none, words-next, words-drop, sizes-listed, sizes-common}
+use Rattle.lists.proofs.Laws.{wide-mul}
+use Rattle.words.specs.Words.{wordsIn, widthOf}
+use Rattle.words.proofs.Turns.{words-drop, words-take}
 use Rattle.chunks.specs.Chunks.{endWithin}
 use Rattle.chunk_ends.specs.Ends.{noneAbove}
 
+-- ---- places in a list and in a part
+
+pub at-front : (i : ℕ) (l : List ℕ) → getD l i 0 ≡ getD (drop i l) 0 0
+at-front i l = let e : i ≡ i + 0 = omega arith in ap (λ (k : ℕ). getD l k 0) e ∙ sym (getD-drop i l 0 0)
+
+-- the first k numbers of a part z, and those after them, where n is no more than its length
+module _ (z : List ℕ) (k : ℕ) {n : ℕ} (e : n ≡ min (k * 4) (length z)) where
+  pub first-part : sum (wordsIn (take n z)) ≡ sum (take k (wordsIn z))
+  first-part = ap (λ (l : List ℕ). sum (wordsIn l)) cut ∙ ap sum (words-take k z)
+    where
+      cut : take n z ≡ take (k * 4) z
+      cut = elim (decLe (k * 4) (length z)) [
+        | yes h ↦ let m : n ≡ k * 4 = omega arith in ap (λ (j : ℕ). take j z) m
+        | no h ↦ take-all n z (omega arith) ∙ sym (take-all (k * 4) z (omega arith))
+      ]
+
+  pub later-part : wordsIn (drop n z) ≡ drop k (wordsIn z)
+  later-part = ap wordsIn cut ∙ words-drop k z
+    where
+      cut : drop n z ≡ drop (k * 4) z
+      cut = elim (decLe (k * 4) (length z)) [
+        | yes h ↦ let m : n ≡ k * 4 = omega arith in ap (λ (j : ℕ). drop j z) m
+        | no h ↦ drop-of-length-le z {i = n} (omega arith) ∙ sym (drop-of-length-le z {i = k * 4} (omega arith))
+      ]
+
+-- the bytes of the offsets of a run
+pub width-fits : (long : Bool) {count width : ℕ} → count ≤ 2 ^ 32 → width ≡ widthOf long → count * width < 2 ^ 64
+width-fits true h e = wide-mul h (omega arith)
+width-fits false h e = wide-mul h (omega arith)
+
 -- ---- the first chunk of a run
 
--- t has the offsets, zs the sizes; the chunk's offset and its bytes as they are read
-module _ (limit rest per : ℕ) (t zs : List ℕ) (z : rest ≡ 0 → ⊥) {base bytes : ℕ} (b : base ≡ getD (wordsIn t) 0 0) (s : bytes ≡ sum (take per zs)) where
-  opened : endWithin limit (replicate rest per) (wordsIn t) zs ≡ cond (ltb limit (base + bytes)) false (endWithin limit (replicate (rest - 1) per) (drop 1 (wordsIn t)) (drop per zs))
+-- with no sum: what is left of the limit past the offset
+pub left-over : (limit base bytes : ℕ) → base ≤ limit → ltb (limit - base) bytes ≡ ltb limit (base + bytes)
+left-over limit base bytes h = elim (decLt (limit - base) bytes) [
+  | yes l ↦ lt-ltb (limit - base) bytes l ∙ sym (lt-ltb limit (base + bytes) (omega arith))
+  | no l ↦ le-ltb (limit - base) bytes (omega arith) ∙ sym (le-ltb limit (base + bytes) (omega arith))
+]
+
+-- cs has the offsets, zs the sizes; the chunk's offset, its bytes, and whether they pass the limit
+module _ (limit rest per : ℕ) (cs zs : List ℕ) (z : 0 < rest) {base bytes : ℕ} {past : Bool} (b : base ≡ getD cs 0 0) (s : bytes ≡ sum (take per zs))
+    (e : past ≡ ltb limit (base + bytes)) where
+  opened : endWithin limit (replicate rest per) cs zs ≡ cond past false (endWithin limit (replicate (rest - 1) per) (drop 1 cs) (drop per zs))
   opened =
-      let e : rest ≡ suc (rest - 1) = omega arith in
-      ap (λ (n : ℕ). endWithin limit (replicate n per) (wordsIn t) zs) e ∙ rw (b, s)
+      let n : rest ≡ suc (rest - 1) = omega arith in
+      ap (λ (k : ℕ). endWithin limit (replicate k per) cs zs) n ∙ rw (e, b, s)
 
-  pub first-over : limit < base + bytes → endWithin limit (replicate rest per) (wordsIn t) zs ≡ false
-  first-over h = opened ∙ rw (lt-ltb limit (base + bytes) h)
+  pub first-over : past ≡ true → endWithin limit (replicate rest per) cs zs ≡ false
+  first-over h = opened ∙ rw h
 
-  pub first-within : base + bytes ≤ limit → {u ys : List ℕ} → u ≡ drop 4 t → ys ≡ drop per zs →
-      endWithin limit (replicate (rest - 1) per) (wordsIn u) ys ≡ endWithin limit (replicate rest per) (wordsIn t) zs
-  first-within h o q = rw (o, q, words-drop 1 t) (sym (opened ∙ rw (le-ltb limit (base + bytes) h)))
+  pub first-within : past ≡ false → {left : ℕ} {ds ys : List ℕ} → left ≡ rest - 1 → ds ≡ drop 1 cs → ys ≡ drop per zs →
+      endWithin limit (replicate left per) ds ys ≡ endWithin limit (replicate rest per) cs zs
+  first-within h n o q = rw (n, o, q) (sym (opened ∙ rw h))
 
 pub none-remain : (limit rest per : ℕ) (cs zs : List ℕ) → rest ≡ 0 → endWithin limit (replicate rest per) cs zs ≡ true
 none-remain limit rest per cs zs z = rw z
@@ -77,36 +115,21 @@ module _ (limit per v : ℕ) (l : per * v ≤ limit) where
             (all-full count (n - per) cs (omega (arith, suc-mul count per)))
       ]
 
--- ---- the first offsets of a part t
+-- ---- the first of some offsets
 
-module _ (most rest : ℕ) (t : List ℕ) where
-  pub none-asked : rest ≡ 0 → noneAbove most (take rest (wordsIn t)) ≡ true
-  none-asked z = rw z
+pub none-asked : (most rest : ℕ) (cs : List ℕ) → rest ≡ 0 → noneAbove most (take rest cs) ≡ true
+none-asked most rest cs z = rw z
 
-  pub no-offset : length t < 4 → noneAbove most (take rest (wordsIn t)) ≡ true
-  no-offset h = rw (words-none t h, take-nil)
+offset-first : (most rest : ℕ) (cs : List ℕ) → 0 < rest → noneAbove most (take rest cs) ≡ cond (ltb most (getD cs 0 0)) false (noneAbove most (take (rest - 1) (drop 1 cs)))
+offset-first most rest [] z = let e : ltb most 0 ≡ false = le-ltb most 0 (omega arith) in rw e (ap (noneAbove most) (take-nil rest ∙ sym (take-nil (rest - 1))))
+offset-first most rest (x ∷ cs) z = let n : rest ≡ suc (rest - 1) = omega arith in ap (λ (k : ℕ). noneAbove most (take k (x ∷ cs))) n
 
-  module _ (z : rest ≡ 0 → ⊥) (h : 4 ≤ length t) {x : ℕ} (e : x ≡ u32At t 0) where
-    offset-first : noneAbove most (take rest (wordsIn t)) ≡ cond (ltb most x) false (noneAbove most (take (rest - 1) (wordsIn (drop 4 t))))
-    offset-first =
-        let n : rest ≡ suc (rest - 1) = omega arith in
-        ap (λ (k : ℕ). noneAbove most (take k (wordsIn t))) n ∙ rw (words-next t h, e)
+module _ (most rest : ℕ) (cs : List ℕ) (z : 0 < rest) {x : ℕ} (e : x ≡ getD cs 0 0) where
+  pub offset-above : most < x → noneAbove most (take rest cs) ≡ false
+  offset-above l = offset-first most rest cs z ∙ rw (← e, lt-ltb most x l)
 
-    pub offset-above : most < x → noneAbove most (take rest (wordsIn t)) ≡ false
-    offset-above l = offset-first ∙ rw (lt-ltb most x l)
-
-    pub offset-below : x ≤ most → noneAbove most (take (rest - 1) (wordsIn (drop 4 t))) ≡ noneAbove most (take rest (wordsIn t))
-    offset-below l = sym (offset-first ∙ rw (le-ltb most x l))
-
--- ---- the sizes of stsz from an index on
-
-module _ (s : List ℕ) (begin : ℕ) {each : ℕ} (e : each ≡ u32At s 12) where
-  pub listed-from : each ≡ 0 → {t : List ℕ} → t ≡ drop (20 + begin * 4) s → wordsIn t ≡ drop begin (sizes s)
-  listed-from z {t} p =
-      ap wordsIn (p ∙ sym (drop-drop (begin * 4) 20 s)) ∙ words-drop begin (drop 20 s) ∙ sym (ap (drop begin) (sizes-listed s e z))
-
-  pub common-from : (each ≡ 0 → ⊥) → {n k : ℕ} → n ≡ u32At s 16 → k ≡ n - begin → replicate k each ≡ drop begin (sizes s)
-  common-from z q p = rw (p, q) (sym (ap (drop begin) (sizes-common s e z) ∙ same-after (u32At s 16) each begin))
+  pub offset-below : x ≤ most → {left : ℕ} {ds : List ℕ} → left ≡ rest - 1 → ds ≡ drop 1 cs → noneAbove most (take left ds) ≡ noneAbove most (take rest cs)
+  offset-below l n o = rw (n, o) (sym (offset-first most rest cs z ∙ rw (← e, le-ltb most x l)))
 
 -- ---- a run, and what follows it
 

@@ -121,10 +121,15 @@ module _ (s : List ℕ) (chunks : ℕ) (c : ChunkCursor) (k : ℕ) (h : k ≤ c 
     descriptions = past-ids ∙ ap (drop k) (v .descriptions) ∙ drop-drop k j (descriptionIds s chunks);
   }
 
--- the run at which a cursor stands, and what follows it
-pub ahead-run : (s : List ℕ) (chunks : ℕ) (c : ChunkCursor) → ahead s chunks c ≡ replicate (c .remaining) (c .per) ++ ahead s chunks (past (c .remaining) c)
+-- some chunks of the run at which a cursor stands, and what follows them
+replicate-some : (n r v : ℕ) (l : List ℕ) → n ≤ r → replicate r v ++ l ≡ replicate n v ++ (replicate (r - n) v ++ l)
+replicate-some zero r v l h = let e : r ≡ r - 0 = omega arith in ap (λ (k : ℕ). replicate k v ++ l) e
+replicate-some (suc n) zero v l h = absurd (omega arith)
+replicate-some (suc n) (suc r) v l h = let e : suc r - suc n ≡ r - n = omega arith in rw e (ap (λ (q : List ℕ). v ∷ q) (replicate-some n r v l (omega arith)))
+
+pub ahead-some : (s : List ℕ) (chunks : ℕ) (c : ChunkCursor) (n : ℕ) → n ≤ c .remaining → ahead s chunks c ≡ replicate n (c .per) ++ ahead s chunks (past n c)
 unfolding ahead
-ahead-run s chunks c = let z : c .remaining - c .remaining ≡ 0 = omega arith in rw z
+ahead-some s chunks c n h = replicate-some n (c .remaining) (c .per) (dealt (λ e. e .per) chunks (dealsIn (drop (c .at) s))) h
 
 -- ---- the chunk at which a cursor stands
 

@@ -6,7 +6,7 @@ use mathlib.Core.Bool.{true, false}
 use mathlib.Core.List.{List, [], _∷_}
 use Rattle.bigendian.specs.BigEndian.{beAt}
 use Rattle.lists.specs.Entries.{rowsOf, entries}
-use Rattle.words.specs.Words.{wordsAfter, sizes, chunkOffsets}
+use Rattle.words.specs.Words.{numbersIn, wordsAfter, sizes, offsetWidth, chunkOffsets}
 use Rattle.chunks.specs.Chunks.{deals, perChunk, descriptionIds, dealsContradict, offsetOf, endWithin}
 use Rattle.chunks.specs.Computed.{dealsAgree, locatedIn}
 use Rattle.chunks.specs.declared.Located.{Located}
@@ -45,7 +45,7 @@ common = refl
 
 -- sample 3 and sample 4
 offsets : (offsetOf (perChunk stsc 2) (chunkOffsets stco) (sizes stsz) 2 ≡ 1150) × (offsetOf (perChunk stsc 2) (chunkOffsets stco) (sizes stsz) 3 ≡ 900)
-unfolding offsetOf perChunk deals chunkOffsets sizes wordsAfter entries rowsOf beAt
+unfolding offsetOf perChunk deals chunkOffsets offsetWidth numbersIn sizes wordsAfter entries rowsOf beAt
 offsets = (refl, refl)
 
 -- sample 4, and one past the last
@@ -65,5 +65,5 @@ clauses = (refl, refl, refl, refl, refl, refl)
 
 -- the first chunk ends at 1,150
 ends : (endWithin 1150 (perChunk stsc 2) (chunkOffsets stco) (sizes stsz) ≡ true) × (endWithin 1149 (perChunk stsc 2) (chunkOffsets stco) (sizes stsz) ≡ false)
-unfolding perChunk deals chunkOffsets sizes wordsAfter entries rowsOf beAt
+unfolding perChunk deals chunkOffsets offsetWidth numbersIn sizes wordsAfter entries rowsOf beAt
 ends = (refl, refl)

@@ -6,8 +6,9 @@ use bigendian::u32_at;
 use lists::Total;
 use words::bytes_between;
 use words::chunk_offset;
+use words::saturating_sum;
 ghost use mathlib.Core.Path.{_≡_};
-ghost use Prim.Native.Nat.{_-_, _^_, _≤_, _<_};
+ghost use Prim.Native.Nat.{_-_, _^_, _≤_, _<_, min};
 ghost use lib.ListN.{length};
 ghost use Rattle.lists.specs.Lists.{sum};
 ghost use Rattle.lists.specs.Totals.{totalOf};
@@ -121,7 +122,10 @@ pub fn ready(stsc: &[u8], chunks: u32, c: ChunkCursor) -> ChunkCursor
     let mut r = c;
     while r.remaining == 0 {
         let at = r.at;
-        let t = after(stsc, at);
+        if stsc.len() < at {
+            return r;
+        }
+        let t = &stsc[at..];
         if t.len() < 12 {
             return r;
         }
@@ -210,10 +214,13 @@ pub fn locate(stsc: &[u8], chunks: u32, index: u32) -> Located
     }
 }
 
-// The offset of the sample with an index, whose place was found.
-pub fn located_offset(stsz: &[u8], stco: &[u8], place: Located, index: u32) -> u64
-    ensures { λ r. ⌜ r ≡ locatedOffset (chunkOffsets (now (stco .entry))) (sizes (now (stsz .entry))) place index ⌝ }
+// The offset of the sample with an index, whose place was found; `offsets` is stco or co64. An offset of 64 bits can take the sum past the largest number.
+pub fn located_offset(stsz: &[u8], offsets: &[u8], place: Located, index: u32) -> u64
+    ensures { λ r. ⌜ r ≡ min (locatedOffset (chunkOffsets (now (offsets .entry))) (sizes (now (stsz .entry))) place index) 18446744073709551615 ⌝ }
 {
     let begin = words::span(place.within, index);
-    chunk_offset(stco, place.chunk) as u64 + bytes_between(stsz, begin, index)
+    saturating_sum(
+        chunk_offset(offsets, place.chunk),
+        bytes_between(stsz, begin, index),
+    )
 }

@@ -8,7 +8,7 @@ use lib.ListN.{replicate}
 use lib.IntN.{pos}
 use Rattle.pairs.specs.Pairs.{flat}
 use Rattle.edits.specs.declared.MediaTime.{MediaTime}
-use Rattle.structure.specs.Source.{wholeFile}
+use Rattle.structure.specs.declared.source.Source.{Source}
 use Rattle.movie.specs.Rooms.{roomAfter}
 use Rattle.questions.specs.Times.{atAnswer}
 use Rattle.questions.specs.Samples.{sampleAnswer}
@@ -67,18 +67,18 @@ cases =
 abbrev pub media : ℕ → MediaTime
 media t = record { 0 = t }
 
--- the question, put to the whole file s of the track with ID 1, has the answer
-abbrev pub CaseHolds : List ℕ → Case → Type 0
-CaseHolds s (time t r) = atAnswer s wholeFile 1 (media t) ≡ r
-CaseHolds s (sample n r) = sampleAnswer s wholeFile 1 n ≡ r
-CaseHolds s (stretch a b room r after) =
-    (stretchAnswer s wholeFile 1 (media a) (media b) room ≡ r)
-    × (roomAfter (stretchRefusal s wholeFile 1 (media a) (media b) room) (flat (stretchPairs s 1 (media a) (media b))) room ≡ after)
-CaseHolds s (slip a b out r after) =
-    (slipAnswer s wholeFile 1 (media a) (media b) out ≡ r)
-    × (roomAfter (slipRefusal s wholeFile 1 (media a) (media b) out) (slipOfStretch s 1 (media a) (media b)) out ≡ after)
+-- the question, put to the film of the bytes s and the source w, of the track with ID 1, has the answer
+abbrev pub CaseHolds : List ℕ → Source → Case → Type 0
+CaseHolds s w (time t r) = atAnswer s w 1 (media t) ≡ r
+CaseHolds s w (sample n r) = sampleAnswer s w 1 n ≡ r
+CaseHolds s w (stretch a b room r after) =
+    (stretchAnswer s w 1 (media a) (media b) room ≡ r)
+    × (roomAfter (stretchRefusal s w 1 (media a) (media b) room) (flat (stretchPairs s 1 (media a) (media b))) room ≡ after)
+CaseHolds s w (slip a b out r after) =
+    (slipAnswer s w 1 (media a) (media b) out ≡ r)
+    × (roomAfter (slipRefusal s w 1 (media a) (media b) out) (slipOfStretch s 1 (media a) (media b)) out ≡ after)
 
 -- each of some cases does
-abbrev pub AllHold : List ℕ → List Case → Type 0
-AllHold s [] = Unit {0}
-AllHold s (c ∷ cs) = CaseHolds s c × AllHold s cs
+abbrev pub AllHold : List ℕ → Source → List Case → Type 0
+AllHold s w [] = Unit {0}
+AllHold s w (c ∷ cs) = CaseHolds s w c × AllHold s w cs

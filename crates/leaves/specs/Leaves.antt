@@ -5,7 +5,7 @@ use mathlib.Core.Bool.{Bool, true, false, cond, _&&_}
 use lib.ListN.{length, getD, drop}
 use lib.Dec.{leb, eqb}
 use Rattle.bigendian.specs.BigEndian.{u32At}
-use Rattle.atoms.specs.Kinds.{moov, trak, edts, mdia, dinf, stbl, mvhd, tkhd, mdhd, hdlr, dref, stsd, stts, stsc, stsz, stco, elst, ctts, stss}
+use Rattle.atoms.specs.Kinds.{moov, trak, edts, mdia, dinf, stbl, mvhd, tkhd, mdhd, hdlr, dref, stsd, stts, stsc, stsz, stco, co64, elst, ctts, stss}
 use Rattle.atoms.specs.Pieces.{pieces, filledBy, fitting}
 use Rattle.atoms.specs.Atoms.{kindOf, atoms}
 use Rattle.atoms.specs.Tree.{all}
@@ -18,9 +18,9 @@ use Rattle.leaves.specs.declared.LeafRule.the-variants.{Version, Size}
 abbrev pub inParent : Bool → Form → Form
 inParent there f = cond there f Skipped
 
--- the table of the leaves: the form of an atom of kind k in the parent p
-unfoldable pub formOf : ℕ → ℕ → Form
-formOf p k =
+-- the table of the leaves: the form of an atom of kind k in the parent p, `wide` being true in a moov alone
+unfoldable pub formOf : Bool → ℕ → ℕ → Form
+formOf wide p k =
     -- "mvhd | 108"
     cond (eqb k mvhd) (inParent (eqb p moov) (Exactly 108))
     -- "tkhd | 92"
@@ -41,11 +41,13 @@ formOf p k =
     -- "stco, stss | 16+4n"
     (cond (eqb k stco) (inParent (eqb p stbl) (Entries 4))
     (cond (eqb k stss) (inParent (eqb p stbl) (Entries 4))
+    -- document 02: "Chunk offsets may then come from 'co64' (16+8n) in place of stco"; in a whole file it is not read
+    (cond (eqb k co64) (inParent wide (inParent (eqb p stbl) (Entries 8)))
     -- "stsd | filled exactly by n descriptions", "each: size (at least 16)"
     (cond (eqb k stsd) (inParent (eqb p stbl) (Sized 16))
     -- document 02: "count at 12, then entries of size at least 12, type, version and flags, filling it exactly"
     (cond (eqb k dref) (inParent (eqb p dinf) (Sized 12))
-    Skipped))))))))))))
+    Skipped)))))))))))))
 
 -- whether it is no read leaf
 unfoldable pub skipped : Form → Bool
@@ -94,9 +96,9 @@ leafOk Version f a = versionOk f a
 leafOk Size f a = sizeOk f a
 
 -- the same of an atom in the parent p
-abbrev pub atomOk : LeafRule → ℕ → List ℕ → Bool
-atomOk rule p a = leafOk rule (formOf p (kindOf a)) a
+abbrev pub atomOk : LeafRule → Bool → ℕ → List ℕ → Bool
+atomOk rule wide p a = leafOk rule (formOf wide p (kindOf a)) a
 
 -- and of each atom of the body s of the parent p
-abbrev pub leavesOk : LeafRule → ℕ → List ℕ → Bool
-leavesOk rule p s = all (atomOk rule p) (atoms p s)
+abbrev pub leavesOk : LeafRule → Bool → ℕ → List ℕ → Bool
+leavesOk rule wide p s = all (atomOk rule wide p) (atoms p s)

@@ -1,3 +1,1 @@
-pub mod Present
 pub mod Leaves
-pub mod Rules

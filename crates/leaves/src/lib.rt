@@ -1,7 +1,4 @@
 // The read leaves of a movie: which atoms they are, their version and their size.
-pub mod present;
-pub mod walk;
-
 use atoms::kinds;
 use atoms::size_in;
 use bigendian::byte_at;
@@ -35,9 +32,9 @@ fn in_parent(there: bool, f: Form) -> Form
     if there { f } else { Form::Skipped }
 }
 
-// The form of an atom of that kind in that parent.
-fn form_of(parent: u32, kind: u32) -> Form
-    ensures { λ r. ⌜ r ≡ formOf parent kind ⌝ }
+// The form of an atom of that kind in that parent; `wide` is true in a moov alone, where co64 is read.
+fn form_of(parent: u32, kind: u32, wide: bool) -> Form
+    ensures { λ r. ⌜ r ≡ formOf wide parent kind ⌝ }
 {
     match kind {
         kinds::MVHD => in_parent(parent == kinds::MOOV, Form::Exactly(108)),
@@ -49,6 +46,7 @@ fn form_of(parent: u32, kind: u32) -> Form
         kinds::STSC => in_parent(parent == kinds::STBL, Form::Entries(12)),
         kinds::STSZ => in_parent(parent == kinds::STBL, Form::Sizes),
         kinds::STCO | kinds::STSS => in_parent(parent == kinds::STBL, Form::Entries(4)),
+        kinds::CO64 => in_parent(wide, in_parent(parent == kinds::STBL, Form::Entries(8))),
         kinds::STSD => in_parent(parent == kinds::STBL, Form::Sized(16)),
         kinds::DREF => in_parent(parent == kinds::DINF, Form::Sized(12)),
         _ => Form::Skipped,
@@ -164,8 +162,8 @@ fn leaf_ok(rule: LeafRule, f: Form, atom: &[u8]) -> bool
 }
 
 // Whether the rule holds of each read leaf in the body of that parent.
-fn leaves_ok(body: &[u8], parent: u32, rule: LeafRule) -> bool
-    ensures { λ r. ⌜ r ≡ leavesOk rule parent (now (body .entry)) ⌝ }
+pub fn leaves_ok(body: &[u8], parent: u32, rule: LeafRule, wide: bool) -> bool
+    ensures { λ r. ⌜ r ≡ leavesOk rule wide parent (now (body .entry)) ⌝ }
 {
     let mut t = body;
     loop {
@@ -174,7 +172,7 @@ fn leaves_ok(body: &[u8], parent: u32, rule: LeafRule) -> bool
             return true;
         }
         let atom = &t[..n];
-        let f = form_of(parent, u32_at(atom, 4));
+        let f = form_of(parent, u32_at(atom, 4), wide);
         if !leaf_ok(rule, f, atom) {
             return false;
         }

@@ -4,7 +4,7 @@ use Prim.Native.Nat.{ℕ, _≤_}
 use mathlib.Core.Path.{_≡_, sym, _∙_}
 use mathlib.Core.List.{List, []}
 use mathlib.Core.Bool.{true, false, _||_}
-use lib.ListN.{length, getD}
+use lib.ListN.{getD}
 use lib.Dec.{ltb}
 use borrow.Author.Tests.{eqb-true, eqb-false, ltb-false, not-false}
 use Rattle.lists.proofs.Booleans.{or-left, or-right}
@@ -12,8 +12,10 @@ use Rattle.structure.specs.declared.source.Source.{Source}
 use Rattle.structure.specs.Rows.{some}
 use Rattle.structure.specs.Track.{idOf, scaleOf, durationOf, elstOf}
 use Rattle.structure.specs.Movie.{moovOf, movieScale, tracksOf}
-use Rattle.structure.proofs.Shaped.{Shaped, ShapedMovie, ShapedFile}
-use Rattle.structure.proofs.Callers.{Clear, clear, some-none, shaped, none-else, Each, tracks-each}
+use Rattle.structure.specs.Source.{lengthOf}
+use Rattle.structure.proofs.Callers.{Clear, clear, some-none, none-else, Each}
+use Rattle.shape.proofs.Shaped.{Shaped, ShapedMovie, ShapedFile}
+use Rattle.shape.proofs.Callers.{shaped, tracks-each}
 use Rattle.edits.specs.Edits.{editTotal}
 use Rattle.track.specs.Refusals.{contradicts, totalIn, totalTooLarge, otherDuration, dataElsewhere, chunkPastEnd, wrongEdits}
 use Rattle.movie.specs.Tracks.{idsOf, repeats}
@@ -41,8 +43,8 @@ pub record AcceptedMovie (w : Source) (len : ℕ) (m : List ℕ) : Type 0 where
   pub tracks : Each (Accepted w (movieScale m) len) (tracksOf m)
 
 pub record AcceptedFile (s : List ℕ) (w : Source) : Type 0 where
-  pub shape : ShapedFile s
-  pub movie : AcceptedMovie w (length s) (moovOf s)
+  pub shape : ShapedFile s w
+  pub movie : AcceptedMovie w (lengthOf w s) (moovOf s)
 
 module _ (w : Source) (len : ℕ) (m : List ℕ) (shape : ShapedMovie m) (e : tablesRefusal w len m ≡ 0) where
   rows-clear : Clear (λ r. r .whole m || some (r .track) (tracksOf m)) (tableRows w (movieScale m) len)
@@ -77,5 +79,5 @@ module _ (w : Source) (len : ℕ) (m : List ℕ) (shape : ShapedMovie m) (e : ta
 pub accepted : (s : List ℕ) (w : Source) → filmRefusal s w ≡ 0 → AcceptedFile s w
 accepted s w e =
     let n = none-else _ _ (sym (film-is s w) ∙ e) in
-    let h = shaped s (n .0) in
-    record { shape = h; movie = accepted-movie w (length s) (moovOf s) (h .movie) (n .1) }
+    let h = shaped s w (n .0) in
+    record { shape = h; movie = accepted-movie w (lengthOf w s) (moovOf s) (h .movie) (n .1) }

@@ -4,15 +4,15 @@ use Prim.Native.Nat.{ℕ}
 use mathlib.Core.Path.{_≡_, refl, sym, ap, _∙_}
 use mathlib.Core.List.{List, [], _∷_}
 use mathlib.Core.Bool.{Bool, true, false, cond, not, _&&_, _||_}
-use lib.ListN.{length}
 use lib.Dec.{eqb}
 use native.Mathlib.Omega.{arith}
 use Rattle.structure.specs.declared.source.Source.{Source}
-use Rattle.structure.specs.Source.{strictly}
+use Rattle.structure.specs.Source.{strictly, lengthOf}
 use Rattle.structure.specs.Rows.{some, first, orElse}
 use Rattle.structure.specs.Track.{durationOf}
 use Rattle.structure.specs.Movie.{moovOf, tracksOf}
-use Rattle.structure.specs.MovieRows.{refusalOf}
+use Rattle.shape.specs.Refusals.{fileTooLong, wrongAtoms, wrongCounts, fileRows}
+use Rattle.shape.specs.MovieRows.{refusalOf}
 use Rattle.track.specs.Refusals.{contradicts, totalIn, totalTooLarge, otherDuration}
 use Rattle.movie.specs.Refusals.{sameIds, idIsZero, movieScaleIsZero, scaleIsZero, filmRefusal}
 use Rattle.movie.specs.TableRows.{tableRows, tablesRefusal}
@@ -47,7 +47,7 @@ none-judged w [] q = refl
 none-judged w (t ∷ ts) q = rw (not-judged w t q) (none-judged w ts q)
 
 strict-already : (w : Source) → w .strict ≡ true → strictly w ≡ w
-strict-already w q = ap (λ b. record { strict = b }) (sym q)
+strict-already w q = ap (λ b. record { strict = b; alone = w .alone; length = w .length }) (sym q)
 
 module _ (w : Source) (len : ℕ) (m : List ℕ) (k : ℕ) (n : k ≡ 11 → ⊥) where
   tables-same : tablesRefusal (strictly w) len m ≡ k → tablesRefusal w len m ≡ k
@@ -67,9 +67,10 @@ module _ (w : Source) (len : ℕ) (m : List ℕ) (k : ℕ) (n : k ≡ 11 → ⊥
 
 -- any other number than 11 is given strictly and by default
 pub strict-same : (s : List ℕ) (w : Source) (k : ℕ) → (k ≡ 11 → ⊥) → filmRefusal s (strictly w) ≡ k → filmRefusal s w ≡ k
+unfolding fileTooLong wrongAtoms wrongCounts fileRows refusalOf lengthOf
 strict-same s w k n e =
     film-is s w
-    ∙ past-else (refusalOf s) _ _ k (tables-same w (length s) (moovOf s) k n) (sym (film-is s (strictly w)) ∙ e)
+    ∙ past-else (refusalOf w s) _ _ k (tables-same w (lengthOf w s) (moovOf s) k n) (sym (film-is s (strictly w)) ∙ e)
 
 -- a film that is accepted strictly is accepted by default
 pub strict-less : (s : List ℕ) (w : Source) → filmRefusal s (strictly w) ≡ 0 → filmRefusal s w ≡ 0

@@ -1,4 +1,4 @@
--- Rows 7 to 13 and 19 of the table: they follow those of the crate structure, and each track's own are those that the crate track judges.
+-- Rows 7 to 13 and 19 of the table: they follow those of the crate shape, and each track's own are those that the crate track judges.
 -- Assumes nothing.
 use Prim.Native.Nat.{ℕ, zero, suc, _<_, _^_}
 use mathlib.Core.Path.{_≡_, refl, sym, ap, _∙_}
@@ -14,16 +14,17 @@ use Rattle.structure.specs.declared.source.Source.{Source}
 use Rattle.structure.specs.Rows.{first, rank, ranksRise, firstJudged, ofWhole, orElse}
 use Rattle.structure.specs.ByTracks.{ofTrack, ofTracks, earlierOf}
 use Rattle.structure.specs.Movie.{moovOf, movieScale, tracksOf}
-use Rattle.structure.specs.Refusals.{fileRows}
-use Rattle.structure.specs.MovieRows.{movieRows, movieRefusal, refusalOf}
+use Rattle.structure.specs.Source.{lengthOf}
+use Rattle.shape.specs.Refusals.{fileRows}
+use Rattle.shape.specs.MovieRows.{movieRows, movieRefusal, refusalOf}
 use Rattle.structure.proofs.Rows.{by-tracks, judged-append}
-use Rattle.structure.proofs.Tracks.{movie-rows-rise}
-use Rattle.structure.proofs.Callers.{shaped}
+use Rattle.shape.proofs.Tracks.{movie-rows-rise}
+use Rattle.shape.proofs.Callers.{shaped}
 use Rattle.track.specs.TrackRows.{trackRows, timedRows}
 use Rattle.movie.specs.Refusals.{idIsZero, scaleIsZero, moovRows, moovRefusal, filmRefusal}
 use Rattle.movie.specs.TableRows.{tableRows, tablesRefusal}
 
-pub rows-are : (w : Source) (scale len : ℕ) → moovRows w scale len ≡ movieRows ++ tableRows w scale len
+pub rows-are : (w : Source) (scale len : ℕ) → moovRows w scale len ≡ movieRows (w .alone) ++ tableRows w scale len
 unfolding moovRows movieRows tableRows
 rows-are w scale len = refl
 
@@ -43,31 +44,34 @@ tables-by-tracks w scale len m e = rw (← e) (by-tracks 12 (tableRows w scale l
 
 -- ---- the whole
 
-pub moov-is : (w : Source) (len : ℕ) (m : List ℕ) → moovRefusal w len m ≡ orElse (movieRefusal m) (tablesRefusal w len m)
+pub moov-is : (w : Source) (len : ℕ) (m : List ℕ) → moovRefusal w len m ≡ orElse (movieRefusal (w .alone) m) (tablesRefusal w len m)
 unfolding moovRefusal movieRefusal tablesRefusal
 moov-is w len m =
     ap (λ rs. firstJudged rs m (tracksOf m)) (rows-are w (movieScale m) len)
-    ∙ judged-append 6 movieRows (tableRows w (movieScale m) len) m (tracksOf m) movie-rows-rise
+    ∙ judged-append 6 (movieRows (w .alone)) (tableRows w (movieScale m) len) m (tracksOf m) (movie-rows-rise (w .alone))
 
 else-assoc : (a b c : ℕ) → orElse a (orElse b c) ≡ orElse (orElse a b) c
 unfolding orElse
 else-assoc zero b c = refl
 else-assoc (suc a) b c = rw (eqb·suc-zero a, eqb·suc-zero a)
 
-pub film-is : (s : List ℕ) (w : Source) → filmRefusal s w ≡ orElse (refusalOf s) (tablesRefusal w (length s) (moovOf s))
+pub film-is : (s : List ℕ) (w : Source) → filmRefusal s w ≡ orElse (refusalOf w s) (tablesRefusal w (lengthOf w s) (moovOf s))
 unfolding filmRefusal refusalOf
-film-is s w = ap (orElse (ofWhole fileRows s)) (moov-is w (length s) (moovOf s)) ∙ else-assoc (ofWhole fileRows s) (movieRefusal (moovOf s)) (tablesRefusal w (length s) (moovOf s))
+film-is s w =
+    let len = lengthOf w s in
+    ap (orElse (ofWhole (fileRows w) s)) (moov-is w len (moovOf s)) ∙ else-assoc (ofWhole (fileRows w) s) (movieRefusal (w .alone) (moovOf s)) (tablesRefusal w len (moovOf s))
 
--- ---- from what a caller has of `structure::refusal`, `moov_body` and `tables_refusal`
+-- ---- from what a caller has of `shape::refusal`, `moov_body`, `length_of` and `tables_refusal`
 
-pub refused-first : (s : List ℕ) (w : Source) (r : ℕ) → r ≡ refusalOf s → (r ≡ 0 → ⊥) → r ≡ filmRefusal s w
+pub refused-first : (s : List ℕ) (w : Source) (r : ℕ) → r ≡ refusalOf w s → (r ≡ 0 → ⊥) → r ≡ filmRefusal s w
 unfolding orElse
 refused-first s w r e n = sym (film-is s w ∙ rw (← e, ne-eqb r 0 n))
 
-pub then-tables : (s m : List ℕ) (w : Source) (r q : ℕ) → r ≡ refusalOf s → r ≡ 0 → m ≡ moovOf s → q ≡ tablesRefusal w (length s) m → q ≡ filmRefusal s w
+pub then-tables : (s m : List ℕ) (w : Source) (r len q : ℕ) → r ≡ refusalOf w s → r ≡ 0 → m ≡ moovOf s → len ≡ lengthOf w s → q ≡ tablesRefusal w len m
+    → q ≡ filmRefusal s w
 unfolding orElse
-then-tables s m w r q e z d h = sym (film-is s w ∙ rw (← e, eq-eqb r 0 z, ← d, ← h))
+then-tables s m w r len q e z d l h = sym (film-is s w ∙ rw (← e, eq-eqb r 0 z, ← d, ← l, ← h))
 
-pub moov-fits : (s m : List ℕ) (r : ℕ) → r ≡ refusalOf s → r ≡ 0 → m ≡ moovOf s → length m < 2 ^ 32
+pub moov-fits : (s m : List ℕ) (w : Source) (r : ℕ) → r ≡ refusalOf w s → r ≡ 0 → m ≡ moovOf s → length m < 2 ^ 32
 unfolding moovOf
-moov-fits s m r e z d = rw d (omega (arith, shaped s (sym e ∙ z) .short, body-short file moov 0 s))
+moov-fits s m w r e z d = rw d (omega (arith, shaped s w (sym e ∙ z) .short, body-short file moov 0 s))

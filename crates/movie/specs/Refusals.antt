@@ -3,14 +3,15 @@
 use Prim.Native.Nat.{ℕ}
 use mathlib.Core.List.{List, [], _∷_}
 use mathlib.Core.Bool.{Bool}
-use lib.ListN.{length}
 use lib.Dec.{eqb}
 use Rattle.structure.specs.declared.source.Source.{Source}
+use Rattle.structure.specs.Source.{lengthOf}
 use Rattle.structure.specs.Track.{idOf, scaleOf}
 use Rattle.structure.specs.Movie.{moovOf, tracksOf, movieScale}
-use Rattle.structure.specs.Limits.{overLimits, tooMany}
+use Rattle.limits.specs.Limits.{overLimits, tooMany}
 use Rattle.structure.specs.Rows.{Row, row, never, ofWhole, firstJudged, orElse}
-use Rattle.structure.specs.Refusals.{wrongVersion, wrongSize, wrongTrackSize, fileRows}
+use Rattle.leaf_checks.specs.LeafChecks.{wrongVersion, wrongSize, wrongTrackSize}
+use Rattle.shape.specs.Refusals.{fileRows}
 use Rattle.track.specs.Refusals.{contradicts, totalTooLarge, otherDuration, dataElsewhere, chunkPastEnd, wrongEdits}
 use Rattle.movie.specs.Tracks.{idsOf, repeats}
 
@@ -29,11 +30,11 @@ unfoldable pub scaleIsZero : List ℕ → Bool
 scaleIsZero t = eqb (scaleOf t) 0
 
 -- the rows that are judged on the movie, its source, its time scale and the file's length given: number, condition on the body of its moov,
--- condition on a track. The rows 1 to 3, which are judged on the file, are `fileRows` of the crate structure
+-- condition on a track. The rows 1 to 3, which are judged on the bytes lent, are `fileRows` of the crate shape
 unfoldable pub moovRows : Source → ℕ → ℕ → List Row
 moovRows w scale len =
-    row 4 wrongVersion never
-    ∷ row 5 wrongSize wrongTrackSize
+    row 4 (wrongVersion (w .alone)) never
+    ∷ row 5 (wrongSize (w .alone)) wrongTrackSize
     ∷ row 6 tooMany overLimits
     ∷ row 7 sameIds idIsZero
     ∷ row 8 movieScaleIsZero scaleIsZero
@@ -52,4 +53,4 @@ moovRefusal w len m = firstJudged (moovRows w (movieScale m) len) m (tracksOf m)
 
 -- the refusal of a film, from the bytes lent and its source: the first in the order judged; 0 where the film is not refused
 unfoldable pub filmRefusal : List ℕ → Source → ℕ
-filmRefusal s w = orElse (ofWhole fileRows s) (moovRefusal w (length s) (moovOf s))
+filmRefusal s w = orElse (ofWhole (fileRows w) s) (moovRefusal w (lengthOf w s) (moovOf s))

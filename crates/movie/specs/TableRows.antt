@@ -1,5 +1,5 @@
--- The rows 7 to 13 and 19, which the code judges after the crate structure has passed the file. These need not be believed: they are between the
--- crates' own functions, and `proofs/Tables.antt` shows that with those of structure they make up the table.
+-- The rows 7 to 13 and 19, which the code judges after the crate shape has passed the film. These need not be believed: they are between the
+-- crates' own functions, and `proofs/Tables.antt` shows that with those of shape they make up the table.
 use Prim.Native.Nat.{ℕ}
 use mathlib.Core.List.{List, [], _∷_}
 use Rattle.structure.specs.declared.source.Source.{Source}

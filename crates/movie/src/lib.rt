@@ -1,4 +1,4 @@
-// A movie file: refusals 1 to 13 and 19 as one answer, and its tracks by ID.
+// A film: refusals 1 to 13 and 19 as one answer, and its tracks by ID.
 pub mod tracks;
 
 use atoms::body_of;
@@ -57,9 +57,9 @@ fn tables_refusal(moov: &[u8], len: u64, source: Source) -> u32
 pub fn refusal(lent: &[u8], source: Source) -> u32
     ensures { λ r. ⌜ r ≡ filmRefusal (now (lent .entry)) source ⌝ }
 {
-    let found = structure::refusal(lent);
+    let found = shape::refusal(lent, source);
     if found != 0 {
         return found;
     }
-    tables_refusal(moov_body(lent), lent.len() as u64, source)
+    tables_refusal(moov_body(lent), source.length_of(lent), source)
 }

@@ -1,4 +1,4 @@
--- The track that is asked: where neither the file nor the ID is refused it is an accepted track of the file, and no longer than the file.
+-- The track that is asked: where neither the film nor the ID is refused it is an accepted track of the film, and no longer than the bytes lent.
 -- Assumes nothing.
 use Prim.Native.Nat.{ℕ, suc, _+_, _*_, _≤_, _<_, _^_}
 use mathlib.Core.Path.{_≡_, refl, sym, ap, _∙_}
@@ -16,12 +16,13 @@ use Rattle.atoms.specs.Kinds.{stsz, stts}
 use Rattle.words.specs.Words.{listed, sizes}
 use Rattle.words.proofs.Turns.{length-words, sizes-listed, sizes-common}
 use Rattle.structure.specs.declared.source.Source.{Source}
+use Rattle.structure.specs.Source.{lengthOf}
 use Rattle.structure.specs.Track.{idOf, scaleOf, tableOf, elstOf, samplesOf, editsOf}
 use Rattle.structure.specs.Movie.{moovOf, movieScale, tracksOf}
 use Rattle.structure.specs.Rows.{orElse}
 use Rattle.structure.proofs.Callers.{Each, track-at, none-else}
-use Rattle.structure.proofs.Shaped.{Shaped, MayEnter}
 use Rattle.structure.proofs.Lengths.{table-short, track-short}
+use Rattle.shape.proofs.Shaped.{Shaped, MayEnter}
 use Rattle.track.specs.Refusals.{totalIn, wrongEdits}
 use Rattle.track.proofs.Agreed.{agreed-tables}
 use Rattle.edits.proofs.Turns.{edits-few}
@@ -56,7 +57,7 @@ with-each P id (t ∷ ts) h e = go (eqb (idOf t) id) refl (λ q. with-each P id 
 pub record AskedTrack (s : List ℕ) (w : Source) (id : ℕ) : Type 0 where
   pub file : AcceptedFile s w
   pub has : hasTrack id (moovOf s) ≡ true
-  pub track : Accepted w (movieScale (moovOf s)) (length s) (trackAsked s id)
+  pub track : Accepted w (movieScale (moovOf s)) (lengthOf w s) (trackAsked s id)
   pub short : length (trackAsked s id) ≤ length s
 
 pub asked : (s : List ℕ) (w : Source) (id : ℕ) → askRefusal s w id ≡ 0 → AskedTrack s w id
@@ -68,7 +69,7 @@ asked s w id e =
     record {
       file = f;
       has = h;
-      track = with-each (Accepted w (movieScale (moovOf s)) (length s)) id (tracksOf (moovOf s)) h (f .movie .tracks);
+      track = with-each (Accepted w (movieScale (moovOf s)) (lengthOf w s)) id (tracksOf (moovOf s)) h (f .movie .tracks);
       short = with-each (λ t. length t ≤ length s) id (tracksOf (moovOf s)) h (λ i g. rw (track-at (moovOf s) i) (track-short i s));
     }
 
@@ -89,8 +90,11 @@ sizes-count t h =
     ]
 
 module _ (s t : List ℕ) (w : Source) (id r : ℕ) (e : r ≡ askRefusal s w id) (z : r ≡ 0) (d : t ≡ trackAsked s id) where
-  pub asked-track : Accepted w (movieScale (moovOf s)) (length s) t
+  pub asked-track : Accepted w (movieScale (moovOf s)) (lengthOf w s) t
   asked-track = rw d (asked s w id (sym e ∙ z) .track)
+
+  pub asked-low : lengthOf w s < 2 ^ 63
+  asked-low = asked s w id (sym e ∙ z) .file .shape .low
 
   pub asked-short : length t < 2 ^ 32
   asked-short = let a = asked s w id (sym e ∙ z) in rw d (omega (arith, a .short, a .file .shape .short))

@@ -1,6 +1,6 @@
--- The answers of the sample question, from what the code has of the track and of its tables; and that a sample's bytes lie in the file.
+-- The answers of the sample question, from what the code has of the track and of its tables; and that a sample's bytes lie in its file.
 -- Assumes nothing.
-use Prim.Native.Nat.{ℕ, suc, _+_, _-_, _≤_, _<_}
+use Prim.Native.Nat.{ℕ, suc, _+_, _-_, _^_, _≤_, _<_, min}
 use mathlib.Core.Path.{_≡_, refl, sym, ap, _∙_}
 use mathlib.Core.List.{List}
 use mathlib.Core.Bool.{Bool, true, false, cond}
@@ -11,7 +11,7 @@ use lib.Dec.{eqb, ltb}
 use lib.IntN.{ℤ, pos, _+ℤ_}
 use denote.Ref.{RefT, now}
 use Rattle.bigendian.specs.BigEndian.{u32At}
-use Rattle.atoms.specs.Kinds.{stts, ctts, stsc, stsz, stco, stss}
+use Rattle.atoms.specs.Kinds.{stts, ctts, stsc, stsz, stss}
 use Rattle.lists.specs.Lists.{holder}
 use Rattle.lists.proofs.Places.{holder-holds, holds-below, each-at, before-le}
 use Rattle.lists.proofs.Booleans.{and-left, and-right, cond-zero}
@@ -25,12 +25,14 @@ use Rattle.chunks.proofs.Agreed.{samples-length}
 use Rattle.chunks.proofs.Finding.{offset-located}
 use Rattle.chunk_ends.proofs.Ends.{all-within, sample-within}
 use Rattle.structure.specs.declared.source.Source.{Source}
-use Rattle.structure.specs.Source.{wholeFile}
-use Rattle.structure.specs.Track.{tableOf, samplesOf, chunksOf}
+use Rattle.structure.specs.Source.{wholeFile, lengthOf}
+use Rattle.structure.specs.Movie.{moovOf, movieScale}
+use Rattle.structure.specs.Track.{tableOf, offsetTable, samplesOf, chunksOf}
 use Rattle.structure.specs.Rows.{orElse}
 use Rattle.structure.proofs.Callers.{none-else}
 use Rattle.track.specs.Track.{trackOf}
 use Rattle.track.specs.Refusals.{contradicts, totalIn, chunkPastEnd}
+use Rattle.movie.proofs.Accepted.{Accepted}
 use Rattle.movie.proofs.Answers.{gives-refused, gives-answer}
 use Rattle.track.proofs.Agreed.{agreed-tables}
 use Rattle.questions.specs.Asked.{askRefusal, trackAsked}
@@ -38,7 +40,7 @@ use Rattle.questions.specs.Samples.{sampleOf, sampleRefusal, sampleAsked
 use Rattle.questions.specs.declared.samples.Sample.{Sample}
 use Rattle.questions.specs.declared.samples.SampleAnswer.{SampleAnswer}
 use Rattle.questions.specs.declared.samples.SampleAnswer.the-variants.{Found, Refused}
-use Rattle.questions.proofs.Asking.{asked}
+use Rattle.questions.proofs.Asking.{asked, asked-track, asked-low}
 
 -- ---- what the tables say of a sample
 
@@ -51,7 +53,7 @@ module _ (t : List ℕ) (i : ℕ) (e : contradicts t ≡ false) (h : i < samples
       let q = holder-holds ps i (omega (arith, a .dealt)) in
       omega (arith, holds-below ps i (holder ps i) q .1, samples-length (tableOf stsc t) (chunksOf t) _ (a .deals))
 
-  pub chunk-fits : (o c : List ℕ) (n : ℕ) (p : Located) → o ≡ tableOf stco t → c ≡ tableOf stsc t → n ≡ u32At o 12 → n < 4294967296
+  pub chunk-fits : (o c : List ℕ) (n : ℕ) (p : Located) → o ≡ offsetTable t → c ≡ tableOf stsc t → n ≡ u32At o 12 → n < 4294967296
       → p ≡ locatedIn (perChunk c n) (descriptionIds c n) i → p .chunk < 4294967296
   unfolding locatedIn
   chunk-fits o c n p eo ec en f ep =
@@ -64,19 +66,25 @@ pub starts-low : (t x : List ℕ) (i : ℕ) (r : Timing) → x ≡ tableOf stts 
 unfolding totalIn runs.timingOf
 starts-low t x i r e d h = rw (d, e) (omega (arith, before-le (runs.perSample (tableOf stts t)) i))
 
+-- a sum that did not reach the largest number
+unsaturated : (n : ℕ) → n < 2 ^ 63 → min n 18446744073709551615 ≡ n
+unsaturated n h = omega arith
+
 pub sample-made : (t x y z o c w : List ℕ) (i n : ℕ) (r : Timing) (shift comp : ℤ) (p : Located) (sync : Bool) (off size : ℕ)
     → i < samplesOf t
     → x ≡ tableOf stts t → r ≡ runs.timingOf (runs.perSample x) i
     → y ≡ tableOf ctts t → shift ≡ runs.compositionOffset y i → comp ≡ pos (r .start) +ℤ shift
-    → z ≡ tableOf stsz t → o ≡ tableOf stco t → c ≡ tableOf stsc t → n ≡ u32At o 12
+    → z ≡ tableOf stsz t → o ≡ offsetTable t → c ≡ tableOf stsc t → n ≡ u32At o 12
     → p ≡ locatedIn (perChunk c n) (descriptionIds c n) i
     → w ≡ tableOf stss t → sync ≡ isSync w (i + 1)
-    → off ≡ locatedOffset (chunkOffsets o) (sizes z) p i → size ≡ getD (sizes z) i 0
+    → off ≡ min (locatedOffset (chunkOffsets o) (sizes z) p i) 18446744073709551615 → size ≡ getD (sizes z) i 0 → sampleOf (trackOf t) i .offset < 2 ^ 63
     → _≡_ {A = Sample} (record { decode = r .start; duration = r .duration; composition = comp; sync = sync; description = p .description; chunk = p .chunk + 1; offset = off; size = size }) (sampleOf (trackOf t) i)
 unfolding sampleOf trackOf runs.timingOf locatedIn
-sample-made t x y z o c w i n r shift comp p sync off size h ex er ey es ec ez eo ed en ep ew ek eq em =
+sample-made t x y z o c w i n r shift comp p sync off size h ex er ey es ec ez eo ed en ep ew ek eq em low =
     let u : i + 1 ≡ suc i = omega arith in
-    let m : off ≡ offsetOf (perChunk c n) (chunkOffsets o) (sizes z) i = eq ∙ ap (λ q. locatedOffset (chunkOffsets o) (sizes z) q i) ep ∙ offset-located (perChunk c n) (descriptionIds c n) (chunkOffsets o) (sizes z) i in
+    let y : locatedOffset (chunkOffsets o) (sizes z) p i ≡ offsetOf (perChunk c n) (chunkOffsets o) (sizes z) i = ap (λ q. locatedOffset (chunkOffsets o) (sizes z) q i) ep ∙ offset-located (perChunk c n) (descriptionIds c n) (chunkOffsets o) (sizes z) i in
+    let f : offsetOf (perChunk c n) (chunkOffsets o) (sizes z) i < 2 ^ 63 = rw (en, ed, eo, ez) low in
+    let m : off ≡ offsetOf (perChunk c n) (chunkOffsets o) (sizes z) i = eq ∙ unsaturated _ (omega (arith, y)) ∙ y in
     let ps = perChunk (tableOf stsc t) (chunksOf t) in
     let v : holder ps i + 1 ≡ suc (holder ps i) = omega arith in
     rw (each-at (λ k. runs.compositionOffset (tableOf ctts t) k) (samplesOf t) i (pos 0) h, each-at (λ k. isSync (tableOf stss t) (suc k)) (samplesOf t) i false h)
@@ -128,25 +136,32 @@ in-track s w id n e =
     let hi = leb-true n (samplesOf (trackAsked s id)) (and-right (ltb 0 n) _ r) in
     (q .0, omega arith)
 
-within-file : (s : List ℕ) (w : Source) (id n : ℕ) → sampleRefusal s w id n ≡ 0
-    → sampleOf (trackOf (trackAsked s id)) (n - 1) .offset + sampleOf (trackOf (trackAsked s id)) (n - 1) .size ≤ length s
+-- a sample of an accepted track lies in the film's file
+accepted-within : (w : Source) (scale len : ℕ) (t : List ℕ) → Accepted w scale len t → (i : ℕ) → i < samplesOf t
+    → sampleOf (trackOf t) i .offset + sampleOf (trackOf t) i .size ≤ len
 unfolding sampleOf trackOf chunkPastEnd
-within-file s w id n e =
-    let t = trackAsked s id in
-    let q = in-track s w id n e in
-    let a = asked s w id (q .0) .track in
-    let g = agreed-tables t (a .agree) in
+accepted-within w scale len t a i h =
     let ps = perChunk (tableOf stsc t) (chunksOf t) in
-    let y = all-within (length s) ps (chunkOffsets (tableOf stco t)) (sizes (tableOf stsz t)) (not-false _ (a .within)) in
-    sample-within (length s) ps (chunkOffsets (tableOf stco t)) (sizes (tableOf stsz t)) (n - 1) y (omega (arith, g .dealt, q .1))
+    let y = all-within len ps (chunkOffsets (offsetTable t)) (sizes (tableOf stsz t)) (not-false _ (a .within)) in
+    sample-within len ps (chunkOffsets (offsetTable t)) (sizes (tableOf stsz t)) i y (omega (arith, agreed-tables t (a .agree) .dealt))
 
-bytes-within : (s : List ℕ) (w : Source) (id n : ℕ) → bytesStart (sampleAnswer s w id n) + bytesLength (sampleAnswer s w id n) ≤ length s
+pub offset-low : (s t : List ℕ) (w : Source) (id r : ℕ) → r ≡ askRefusal s w id → r ≡ 0 → t ≡ trackAsked s id → (i : ℕ) → i < samplesOf t → sampleOf (trackOf t) i .offset < 2 ^ 63
+offset-low s t w id r e z d i h =
+    omega (arith, accepted-within w (movieScale (moovOf s)) (lengthOf w s) t (asked-track s t w id r e z d) i h, asked-low s t w id r e z d)
+
+within-file : (s : List ℕ) (w : Source) (id n : ℕ) → sampleRefusal s w id n ≡ 0
+    → sampleOf (trackOf (trackAsked s id)) (n - 1) .offset + sampleOf (trackOf (trackAsked s id)) (n - 1) .size ≤ lengthOf w s
+within-file s w id n e =
+    let q = in-track s w id n e in
+    accepted-within w (movieScale (moovOf s)) (lengthOf w s) (trackAsked s id) (asked s w id (q .0) .track) (n - 1) (q .1)
+
+bytes-within : (s : List ℕ) (w : Source) (id n : ℕ) → bytesStart (sampleAnswer s w id n) + bytesLength (sampleAnswer s w id n) ≤ lengthOf w s
 unfolding bytesStart bytesLength
 bytes-within s w id n = go (eqb (sampleRefusal s w id n) 0) refl
   where
     go : (b : Bool) → eqb (sampleRefusal s w id n) 0 ≡ b
         → bytesStart (cond b (Found (sampleOf (trackOf (trackAsked s id)) (n - 1))) (Refused (sampleRefusal s w id n)))
-        + bytesLength (cond b (Found (sampleOf (trackOf (trackAsked s id)) (n - 1))) (Refused (sampleRefusal s w id n))) ≤ length s
+        + bytesLength (cond b (Found (sampleOf (trackOf (trackAsked s id)) (n - 1))) (Refused (sampleRefusal s w id n))) ≤ lengthOf w s
     go true q = within-file s w id n (eqb-true _ _ q)
     go false q = omega arith
 
@@ -161,8 +176,13 @@ refused-bytes : (s : List ℕ) (w : Source) (id n : ℕ) (r : SampleAnswer) (k :
 unfolding bytesStart bytesLength
 refused-bytes s w id n r k a e = let q = sym (a .answer) ∙ e in (ap bytesStart q, ap bytesLength q)
 
-pub found-fits : (s : List ℕ) (w : Source) (id n : ℕ) (r : SampleAnswer) (v : Sample) → Samples s w id n r → r ≡ Found v → v .offset + v .size ≤ length s
+pub found-fits : (s : List ℕ) (w : Source) (id n : ℕ) (r : SampleAnswer) (v : Sample) → Samples s w id n r → r ≡ Found v → v .offset + v .size ≤ lengthOf w s
 found-fits s w id n r v a e = let q = found-bytes s w id n r v a e in omega (arith, q .0, q .1, bytes-within s w id n)
+
+-- of a whole file
+pub found-in-file : (s : List ℕ) (w : Source) (id n : ℕ) (r : SampleAnswer) (v : Sample) → w ≡ wholeFile → Samples s w id n r → r ≡ Found v → v .offset + v .size ≤ length s
+unfolding lengthOf
+found-in-file s w id n r v h a e = rw h at (found-fits s w id n r v a e)
 
 pub found-part : (file r : RefT (List ℕ)) (w : Source) (id n : ℕ) (a : SampleAnswer) (v : Sample) → w ≡ wholeFile → Samples (now file) w id n a → a ≡ Found v → PartOf file (v .offset) (v .size) r → SampleBytes file id n r
 found-part file r w id n a v h p e q = let b = found-bytes (now file) wholeFile id n a v (rw h at p) e in rw (b .0, b .1) q
@@ -175,23 +195,23 @@ refused-part file r w id n a k h p e q = let b = refused-bytes (now file) wholeF
 pub record Low (v : Sample) : Type 0 where
   pub decode : v .decode < 4294967296
   pub chunk : v .chunk ≤ 1048576
-  pub offset : v .offset ≤ 2147483647
+  pub offset : v .offset < 2 ^ 63
 
-asked-low : (s : List ℕ) (w : Source) (id n : ℕ) → sampleRefusal s w id n ≡ 0 → Low (sampleOf (trackOf (trackAsked s id)) (n - 1))
+numbers-low : (s : List ℕ) (w : Source) (id n : ℕ) → sampleRefusal s w id n ≡ 0 → Low (sampleOf (trackOf (trackAsked s id)) (n - 1))
 unfolding sampleOf trackOf totalIn
-asked-low s w id n e =
+numbers-low s w id n e =
     let t = trackAsked s id in
     let q = in-track s w id n e in
     let a = asked s w id (q .0) in
     record {
       decode = omega (arith, before-le (runs.perSample (tableOf stts t)) (n - 1), a .track .total-fits);
       chunk = omega (arith, chunk-known t (n - 1) (a .track .agree) (q .1), a .track .shape .few-chunks);
-      offset = omega (arith, within-file s w id n e, a .file .shape .short);
+      offset = omega (arith, within-file s w id n e, a .file .shape .low);
     }
 
 pub found-low : (s : List ℕ) (w : Source) (id n : ℕ) (r : SampleAnswer) (v : Sample) → Samples s w id n r → r ≡ Found v → Low v
 found-low s w id n r v a e = go (eqb (sampleRefusal s w id n) 0) refl (sym e ∙ a .answer)
   where
     go : (b : Bool) → eqb (sampleRefusal s w id n) 0 ≡ b → Found v ≡ cond b (Found (sampleOf (trackOf (trackAsked s id)) (n - 1))) (Refused (sampleRefusal s w id n)) → Low v
-    go true q d = let z : v ≡ sampleOf (trackOf (trackAsked s id)) (n - 1) = cc in rw z (asked-low s w id n (eqb-true _ _ q))
+    go true q d = let z : v ≡ sampleOf (trackOf (trackAsked s id)) (n - 1) = cc in rw z (numbers-low s w id n (eqb-true _ _ q))
     go false q d = let z : _≡_ {A = ℕ} 0 1 = cc in absurd (omega arith)

@@ -6,6 +6,7 @@ use bigendian::u32_at;
 use chunks::locate;
 use runs::timing_of;
 use structure::source::Source;
+use structure::trak::offset_table;
 use structure::trak::table;
 use words::is_sync;
 use words::size_of;
@@ -48,15 +49,15 @@ fn shifted(decode: u64, offset: i64) -> i64
 
 // What the tables of an accepted track say of the sample with an index, from 0.
 fn sample_in(trak: &[u8], index: u32) -> Sample
-    requires { ⌜ (length (now trak) < 2 ^ 32) × (totalIn (now trak) < 4294967296) × (contradicts (now trak) ≡ false) × (index < samplesOf (now trak)) × (samplesOf (now trak) ≤ 1048576) ⌝ }
+    requires { ⌜ (length (now trak) < 2 ^ 32) × (totalIn (now trak) < 4294967296) × (contradicts (now trak) ≡ false) × (index < samplesOf (now trak)) × (samplesOf (now trak) ≤ 1048576) × (sampleOf (trackOf (now trak)) index .offset < 2 ^ 63) ⌝ }
     ensures { λ r. ⌜ r ≡ sampleOf (trackOf (now (trak .entry))) index ⌝ }
 {
     let timing = timing_of(table(trak, kinds::STTS), index);
     let start = timing.start;
     let shift = runs::composition_offset(table(trak, kinds::CTTS), index);
     let stsz = table(trak, kinds::STSZ);
-    let stco = table(trak, kinds::STCO);
-    let place = locate(table(trak, kinds::STSC), u32_at(stco, 12), index);
+    let offsets = offset_table(trak);
+    let place = locate(table(trak, kinds::STSC), u32_at(offsets, 12), index);
     Sample {
         decode: start,
         duration: timing.duration,
@@ -64,7 +65,7 @@ fn sample_in(trak: &[u8], index: u32) -> Sample
         sync: is_sync(table(trak, kinds::STSS), index + 1),
         description: place.description,
         chunk: place.chunk + 1,
-        offset: chunks::located_offset(stsz, stco, place, index),
+        offset: chunks::located_offset(stsz, offsets, place, index),
         size: size_of(stsz, index),
     }
 }

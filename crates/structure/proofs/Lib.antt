@@ -1,8 +1,5 @@
 pub mod Rows
 pub mod Places
-pub mod Tracks
-pub mod Shaped
 pub mod Callers
 pub mod Lengths
-mod Or
-mod Examples
+pub mod Or

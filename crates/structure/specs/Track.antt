@@ -1,8 +1,11 @@
 -- A track, from the body t of its trak: where its tables stand, and its fields. "Offsets count from the atom's first byte".
 use Prim.Native.Nat.{ℕ}
 use mathlib.Core.List.{List}
+use mathlib.Core.Bool.{cond}
+use lib.ListN.{length}
+use lib.Dec.{eqb}
 use Rattle.bigendian.specs.BigEndian.{u32At}
-use Rattle.atoms.specs.Kinds.{trak, edts, mdia, minf, dinf, stbl, tkhd, mdhd, hdlr, dref, stsd, stsz, stco, elst}
+use Rattle.atoms.specs.Kinds.{trak, edts, mdia, minf, dinf, stbl, tkhd, mdhd, hdlr, dref, stsd, stsz, stco, co64, elst}
 use Rattle.atoms.specs.Atoms.{childIn, bodyIn}
 use Rattle.structure.specs.Profile.{profileIn}
 
@@ -18,6 +21,10 @@ stblOf t = bodyIn minf stbl 0 (minfOf t)
 -- the sample table of kind k; empty where it is absent
 unfoldable pub tableOf : ℕ → List ℕ → List ℕ
 tableOf k t = childIn stbl k 0 (stblOf t)
+
+-- the table of chunk offsets. Document 02: "Chunk offsets may then come from 'co64' (16+8n) in place of stco": stco, and where there is none co64
+unfoldable pub offsetTable : List ℕ → List ℕ
+offsetTable t = cond (eqb (length (tableOf stco t)) 0) (tableOf co64 t) (tableOf stco t)
 
 -- the edit list; empty where it is absent
 unfoldable pub elstOf : List ℕ → List ℕ
@@ -47,7 +54,7 @@ abbrev pub samplesOf : List ℕ → ℕ
 samplesOf t = u32At (tableOf stsz t) 16
 
 abbrev pub chunksOf : List ℕ → ℕ
-chunksOf t = u32At (tableOf stco t) 12
+chunksOf t = u32At (offsetTable t) 12
 
 abbrev pub editsOf : List ℕ → ℕ
 editsOf t = u32At (elstOf t) 12

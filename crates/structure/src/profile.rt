@@ -3,9 +3,8 @@ use atoms::kinds;
 use atoms::size_in;
 use bigendian::byte_at;
 use bigendian::u32_at;
-use leaves::holds_entries;
 ghost use mathlib.Core.Path.{_≡_};
-ghost use Rattle.structure.specs.Profile.{firstBefore, profileIn, profileOk};
+ghost use Rattle.structure.specs.Profile.{firstBefore, profileIn};
 ghost use Rattle.atoms.specs.Atoms.{atoms};
 
 // The first prfl in the body of that parent before its first atom of the kind `head`; empty where there is none.
@@ -38,16 +37,5 @@ pub fn profile_in<'a>(body: &'a [u8], parent: u32, head: u32) -> &'a [u8]
         atom
     } else {
         &atom[..0]
-    }
-}
-
-// Whether a profile has its size; where there is none, nothing is asked.
-pub fn profile_ok(profile: &[u8]) -> bool
-    ensures { λ r. ⌜ r ≡ profileOk (now (profile .entry)) ⌝ }
-{
-    if profile.len() == 0 {
-        true
-    } else {
-        holds_entries(profile, 16, 16, u32_at(profile, 12))
     }
 }

@@ -6,7 +6,7 @@ use atoms::child_body;
 use atoms::kinds;
 use bigendian::u32_at;
 ghost use mathlib.Core.Path.{_≡_};
-ghost use Rattle.structure.specs.Track.{mdiaOf, minfOf, stblOf, drefOf, tableOf, elstOf, idOf, scaleOf, durationOf, subtypeOf, profileOf};
+ghost use Rattle.structure.specs.Track.{mdiaOf, minfOf, stblOf, drefOf, tableOf, offsetTable, elstOf, idOf, scaleOf, durationOf, subtypeOf, profileOf};
 
 fn mdia_body<'a>(trak: &'a [u8]) -> &'a [u8]
     ensures { λ r. ⌜ now r ≡ mdiaOf (now (trak .entry)) ⌝ }
@@ -32,6 +32,18 @@ pub fn table<'a>(trak: &'a [u8], kind: u32) -> &'a [u8]
     ensures { λ r. ⌜ now r ≡ tableOf kind (now (trak .entry)) ⌝ }
 {
     child(stbl_body(trak), kinds::STBL, kind, 0)
+}
+
+// The table of chunk offsets, its header included: stco, and where there is none co64; empty where both are absent.
+pub fn offset_table<'a>(trak: &'a [u8]) -> &'a [u8]
+    ensures { λ r. ⌜ now r ≡ offsetTable (now (trak .entry)) ⌝ }
+{
+    let stco = table(trak, kinds::STCO);
+    if stco.len() == 0 {
+        table(trak, kinds::CO64)
+    } else {
+        stco
+    }
 }
 
 // The edit list, its header included; empty where it is absent.

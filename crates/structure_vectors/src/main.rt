@@ -1,12 +1,13 @@
-// Writes, for each film that its arguments name, the number from 1 to 6 with which the crate structure refuses it, 0 for none. The films and the
+// Writes, for each film that its arguments name, the number from 1 to 6 with which the crate shape refuses it, 0 for none. The films and the
 // lines are those that the reference in host/reference writes.
 use libc::STDOUT_FILENO;
+use structure::source::Source;
 
 // A film of up to 65,536 bytes; of a longer one the rest is not read.
 fn judge(fd: i32) -> u32 {
     let mut film = io::large_buffer();
     let n = io::read_full(fd, &mut film);
-    structure::refusal(&film[..n])
+    shape::refusal(&film[..n], Source::whole())
 }
 
 fn print(name: &[u8], number: u32) {

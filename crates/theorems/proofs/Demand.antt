@@ -13,11 +13,11 @@ use Rattle.words.specs.Words.{sizes, chunkOffsets}
 use Rattle.chunks.specs.Chunks.{perChunk, offsetOf}
 use Rattle.chunks.specs.Computed.{dealsAgree}
 use Rattle.edits.specs.declared.MediaTime.{MediaTime}
-use Rattle.atoms.specs.Kinds.{stts, stsc, stsz, stco}
+use Rattle.atoms.specs.Kinds.{stts, stsc, stsz}
 use Rattle.structure.specs.declared.source.Source.{Source}
-use Rattle.structure.specs.Track.{idOf, tableOf, samplesOf, chunksOf, descriptionsOf}
+use Rattle.structure.specs.Track.{idOf, tableOf, offsetTable, samplesOf, chunksOf, descriptionsOf}
 use Rattle.structure.specs.Movie.{moovOf, tracksOf}
-use Rattle.structure.proofs.Shaped.{Shaped}
+use Rattle.shape.proofs.Shaped.{Shaped}
 use Rattle.track.specs.Track.{trackOf}
 use Rattle.track.proofs.Agreed.{agreed-tables}
 use Rattle.questions.specs.Asked.{askRefusal, trackAsked}
@@ -183,9 +183,9 @@ module _ (s t : List ℕ) (source : Source) (e : askRefusal s source (idOf t) �
   unfolding trackOf
   sizes-are = ap (λ u. sizes (tableOf stsz u)) itself
 
-  offsets-are : tables s (idOf t) .chunkOffsets ≡ chunkOffsets (tableOf stco t)
+  offsets-are : tables s (idOf t) .chunkOffsets ≡ chunkOffsets (offsetTable t)
   unfolding trackOf
-  offsets-are = ap (λ u. chunkOffsets (tableOf stco u)) itself
+  offsets-are = ap (λ u. chunkOffsets (offsetTable u)) itself
 
   dealt-are : tables s (idOf t) .perChunk ≡ perChunk (tableOf stsc t) (chunksOf t)
   unfolding trackOf

@@ -2,7 +2,7 @@
 -- Assumes nothing.
 use Prim.Native.Nat.{ℕ, zero, suc, _+_, _-_, _*_, _≤_, _<_}
 use mathlib.Core.Path.{_≡_, refl, sym, ap, _∙_}
-use mathlib.Core.Bool.{true}
+use mathlib.Core.Bool.{Bool, true, false}
 use mathlib.Core.List.{List, [], _∷_, map}
 use native.Mathlib.Omega.{arith}
 use native.Mathlib.Decide.{ℕ-discrete, decLt}
@@ -10,9 +10,9 @@ use lib.Dec.{lit<, lit≤}
 use lib.ListN.{length, getD, drop, replicate, length-map, length-drop}
 use lib.Seq.{getD-drop}
 use borrow.Author.Tests.{eq-eqb, ne-eqb}
-use Rattle.bigendian.specs.BigEndian.{u32At}
+use Rattle.bigendian.specs.BigEndian.{beAt, u32At}
 use Rattle.bigendian.proofs.Laws.{beAt-take, beAt-drop}
-use Rattle.atoms.specs.Kinds.{stts, stsc, stsz, stco}
+use Rattle.atoms.specs.Kinds.{stts, stsc, stsz}
 use Rattle.lists.specs.Lists.{Run, sum, before, expand, holder, Holds}
 use Rattle.lists.specs.Entries.{rowsOf, entries}
 use Rattle.lists.proofs.Laws.{length-run, sum-run, getD-in, getD-past}
@@ -20,13 +20,13 @@ use Rattle.lists.proofs.Places.{before-suc, before-all, holder-holds, holds-bel
 use Rattle.lists.proofs.Rows.{rows-next, length-rows}
 use Rattle.lists.proofs.Cuts.{rows-drop}
 use Rattle.runs.specs.Runs.{runOf, runsOf, perSample, entryOf}
-use Rattle.words.specs.Words.{sizes, chunkOffsets}
-use Rattle.words.proofs.Turns.{offsets-in, words-at, sizes-listed, sizes-common}
+use Rattle.words.specs.Words.{sizes, numbersIn, widthOf, offsetWidth, chunkOffsets}
+use Rattle.words.proofs.Turns.{offsets-of, width-above, numbers-at, words-at, sizes-listed, sizes-common}
 use Rattle.chunks.specs.Chunks.{Deal, dealOf, deals, firstOf, dealt, perChunk}
 use Rattle.chunks.specs.Computed.{dealing, dealsAgree}
 use Rattle.chunks.proofs.Clauses.{dealing-cons, agreed}
-use Rattle.structure.specs.Track.{tableOf, samplesOf, chunksOf}
-use Rattle.structure.proofs.Shaped.{Shaped}
+use Rattle.structure.specs.Track.{tableOf, offsetTable, samplesOf, chunksOf}
+use Rattle.shape.proofs.Shaped.{Entered, Shaped}
 use Rattle.theorems.specs.Entries.{sttsEntries, sampleCount, sampleDuration, stscEntries, firstChunk, samplesPerChunk, chunkOffset, sampleSize, countedBy, mediaTotal}
 use Rattle.theorems.specs.Demand.{Counts, HoldsFor}
 use Rattle.theorems.proofs.Added.{same-sums, before-up}
@@ -167,7 +167,7 @@ module _ (t : List ℕ) (h : Shaped t) where
         refl,
       )
 
--- ---- stsz and stco
+-- ---- stsz and the table of chunk offsets
 
 pub size-at : (t : List ℕ) → Shaped t → (n i : ℕ) → n ≡ suc i → i < samplesOf t → getD (sizes (tableOf stsz t)) i 0 ≡ sampleSize t n
 size-at t h n i q l =
@@ -187,14 +187,19 @@ size-at t h n i q l =
     replicate-at (suc n) v zero h = refl
     replicate-at (suc n) v (suc i) h = replicate-at n v i (omega arith)
 
-pub offset-at : (t : List ℕ) → Shaped t → (c : ℕ) → 1 ≤ c → c ≤ chunksOf t → getD (chunkOffsets (tableOf stco t)) (c - 1) 0 ≡ chunkOffset t c
+pub offset-at : (t : List ℕ) → Shaped t → (c : ℕ) → 1 ≤ c → c ≤ chunksOf t → getD (chunkOffsets (offsetTable t)) (c - 1) 0 ≡ chunkOffset t c
+unfolding offsetWidth
 offset-at t h c lo hi =
-    let o = tableOf stco t in
-    let a : 16 + (c - 1) * 4 ≡ 16 + 4 * (c - 1) = omega arith in
-    ap (λ (x : List ℕ). getD x (c - 1) 0) (offsets-in o)
-    ∙ words-at (drop 16 o) (c - 1) (omega (arith, length-drop 16 o, h .stco-size))
-    ∙ beAt-drop 4 16 o ((c - 1) * 4)
-    ∙ ap (u32At o) a
+    ap (λ (x : List ℕ). getD x (c - 1) 0) (offsets-of (offsetTable t) refl refl) ∙ go (offsetTable t) _ (h .offsets-size) hi
+  where
+    go : (o : List ℕ) (long : Bool) → Entered (widthOf long) o → c ≤ u32At o 12
+        → getD (numbersIn (widthOf long) (drop 16 o)) (c - 1) 0 ≡ beAt (widthOf long) o (16 + widthOf long * (c - 1))
+    go o true e k =
+        let a : 16 + (c - 1) * 8 ≡ 16 + 8 * (c - 1) = omega arith in
+        numbers-at 8 (width-above true) (drop 16 o) (c - 1) (omega (arith, length-drop 16 o)) ∙ beAt-drop 8 16 o ((c - 1) * 8) ∙ ap (beAt 8 o) a
+    go o false e k =
+        let a : 16 + (c - 1) * 4 ≡ 16 + 4 * (c - 1) = omega arith in
+        numbers-at 4 (width-above false) (drop 16 o) (c - 1) (omega (arith, length-drop 16 o)) ∙ beAt-drop 4 16 o ((c - 1) * 4) ∙ ap (beAt 4 o) a
 
 -- ---- stsc
 

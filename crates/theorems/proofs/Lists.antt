@@ -1,18 +1,20 @@
 -- The lists of a track that is asked and not refused: as many durations as sizes, as many samples dealt, as many chunks as offsets, and a sample in each chunk.
 -- Assumes nothing.
 use Prim.Native.Nat.{ℕ, _<_}
-use mathlib.Core.Path.{_≡_, ap}
+use mathlib.Core.Path.{_≡_, refl, ap, _∙_}
+use mathlib.Core.Bool.{Bool, true, false}
 use mathlib.Core.List.{List}
 use native.Mathlib.Omega.{arith}
 use lib.ListN.{length, getD, drop, length-drop}
-use Rattle.atoms.specs.Kinds.{stsc, stco}
+use Rattle.bigendian.specs.BigEndian.{u32At}
+use Rattle.atoms.specs.Kinds.{stsc}
 use Rattle.lists.specs.Lists.{sum}
-use Rattle.words.specs.Words.{sizes, chunkOffsets}
-use Rattle.words.proofs.Turns.{offsets-in, length-words}
+use Rattle.words.specs.Words.{sizes, numbersIn, widthOf, chunkOffsets}
+use Rattle.words.proofs.Turns.{offsets-of, width-above, length-numbers}
 use Rattle.chunks.proofs.Agreed.{samples-length, samples-some}
 use Rattle.structure.specs.declared.source.Source.{Source}
-use Rattle.structure.specs.Track.{tableOf, samplesOf, chunksOf, descriptionsOf}
-use Rattle.structure.proofs.Shaped.{Shaped}
+use Rattle.structure.specs.Track.{tableOf, offsetTable, samplesOf, chunksOf, descriptionsOf}
+use Rattle.shape.proofs.Shaped.{Entered, Shaped}
 use Rattle.track.specs.Track.{Track, trackOf}
 use Rattle.track.proofs.Agreed.{agreed-tables}
 use Rattle.questions.specs.Asked.{askRefusal, trackAsked}
@@ -23,10 +25,12 @@ abbrev pub tables : List ℕ → ℕ → Track
 tables s id = trackOf (trackAsked s id)
 
 -- as many chunk offsets as the table counts
-offsets-count : (t : List ℕ) → Shaped t → length (chunkOffsets (tableOf stco t)) ≡ chunksOf t
-offsets-count t h =
-    let o = tableOf stco t in
-    omega (arith, ap length (offsets-in o), length-words (drop 16 o), length-drop 16 o, h .stco-size)
+offsets-count : (t : List ℕ) → Shaped t → length (chunkOffsets (offsetTable t)) ≡ chunksOf t
+offsets-count t h = ap length (offsets-of (offsetTable t) refl refl) ∙ go (offsetTable t) _ (h .offsets-size)
+  where
+    go : (o : List ℕ) (long : Bool) → Entered (widthOf long) o → length (numbersIn (widthOf long) (drop 16 o)) ≡ u32At o 12
+    go o true e = omega (arith, length-numbers 8 (width-above true) (drop 16 o), length-drop 16 o)
+    go o false e = omega (arith, length-numbers 4 (width-above false) (drop 16 o), length-drop 16 o)
 
 pub record Listed (s : List ℕ) (id : ℕ) : Type 0 where
   -- N samples

@@ -8,17 +8,16 @@ use mathlib.Core.Bool.{Bool, true, false, cond, _||_}
 use mathlib.Core.List.{List, [], _∷_, _++_, map}
 use native.Mathlib.Omega.{arith}
 use native.Mathlib.Decide.{decLt, ℕ-discrete}
-use lib.ListN.{length}
 use lib.Dec.{ltb, eqb·suc-zero}
 use borrow.Author.Tests.{ltb-true, ne-eqb}
 use Rattle.lists.proofs.Booleans.{and-left, and-right}
 use Rattle.structure.specs.declared.source.Source.{Source}
-use Rattle.structure.specs.Source.{strictly}
+use Rattle.structure.specs.Source.{strictly, lengthOf}
 use Rattle.structure.specs.Rows.{Row, some, first, orElse, rank, ranksRise}
 use Rattle.structure.specs.Movie.{moovOf, movieScale, tracksOf}
-use Rattle.structure.specs.Refusals.{fileRows}
+use Rattle.shape.specs.Refusals.{fileTooLong, wrongAtoms, wrongCounts, fileRows}
 use Rattle.structure.proofs.Rows.{rank-pos}
-use Rattle.structure.proofs.Tracks.{file-rows-rise}
+use Rattle.shape.proofs.Tracks.{file-rows-rise}
 use Rattle.movie.specs.Refusals.{moovRows, moovRefusal, filmRefusal}
 use Rattle.movie.proofs.Strict.{none-judged, strict-same}
 use Rattle.theorems.specs.Refusals.{OneHolds, rowsOfMovie, Applies, FirstApplies, StrictReading}
@@ -60,15 +59,15 @@ none-earlier f n (r ∷ rs) h k o =
 
 -- ---- the table
 
-three : (f : Row → Bool) (k : ℕ) → OneHolds f fileRows k → rank k ≤ 6
+three : (w : Source) (f : Row → Bool) (k : ℕ) → OneHolds f (fileRows w) k → rank k ≤ 6
 unfolding fileRows rank
-three f k o = ⊎-elim (λ w. rw (← w .1) (omega arith)) (⊎-elim (λ w. rw (← w .1) (omega arith)) (⊎-elim (λ w. rw (← w .1) (omega arith)) (λ w. absurd w))) o
+three w f k o = ⊎-elim (λ y. rw (← y .1) (omega arith)) (⊎-elim (λ y. rw (← y .1) (omega arith)) (⊎-elim (λ y. rw (← y .1) (omega arith)) (λ y. absurd y))) o
 
 moov-rows-rise : (w : Source) (scale len : ℕ) → ranksRise 6 (moovRows w scale len) ≡ true
 unfolding rank ranksRise moovRows
 moov-rows-rise w scale len = refl
 
-all-rise : (w : Source) (scale len : ℕ) → ranksRise 0 (fileRows ++ moovRows w scale len) ≡ true
+all-rise : (w : Source) (scale len : ℕ) → ranksRise 0 (fileRows w ++ moovRows w scale len) ≡ true
 unfolding rank ranksRise fileRows moovRows
 all-rise w scale len = refl
 
@@ -77,7 +76,7 @@ unfolding orElse
 else-cases zero b = inl (refl, refl)
 else-cases (suc a) b = inr (λ e. omega arith, rw (eqb·suc-zero a))
 
-numbered : (w : Source) (scale len : ℕ) → map (λ r. r .number) (fileRows ++ moovRows w scale len) ≡ 1 ∷ 2 ∷ 3 ∷ 4 ∷ 5 ∷ 6 ∷ 7 ∷ 8 ∷ 9 ∷ 10 ∷ 11 ∷ 19 ∷ 12 ∷ 13 ∷ []
+numbered : (w : Source) (scale len : ℕ) → map (λ r. r .number) (fileRows w ++ moovRows w scale len) ≡ 1 ∷ 2 ∷ 3 ∷ 4 ∷ 5 ∷ 6 ∷ 7 ∷ 8 ∷ 9 ∷ 10 ∷ 11 ∷ 19 ∷ 12 ∷ 13 ∷ []
 unfolding fileRows moovRows
 numbered w scale len = refl
 
@@ -88,21 +87,21 @@ first-applies s w =
     let f : Row → Bool = λ r. r .whole s in
     let g : Row → Bool = λ r. r .whole m || some (r .track) (tracksOf m) in
     let rows = rowsOfMovie s w in
-    let cases = else-cases (first f fileRows) (first g rows) in
+    let cases = else-cases (first f (fileRows w)) (first g rows) in
     record {
-      numbers = numbered w (movieScale m) (length s);
-      order = all-rise w (movieScale m) (length s);
+      numbers = numbered w (movieScale m) (lengthOf w s);
+      order = all-rise w (movieScale m) (lengthOf w s);
       applies = λ h.
-          ⊎-elim (λ c. subst (Applies s w) (sym (c .1)) (inr (given g rows (λ z. h (c .1 ∙ z))))) (λ c. subst (Applies s w) (sym (c .1)) (inl (given f fileRows (c .0)))) cases;
+          ⊎-elim (λ c. subst (Applies s w) (sym (c .1)) (inr (given g rows (λ z. h (c .1 ∙ z))))) (λ c. subst (Applies s w) (sym (c .1)) (inl (given f (fileRows w) (c .0)))) cases;
       earliest = λ n o.
           ⊎-elim (λ v.
-          let q = none-earlier f 0 fileRows file-rows-rise n v in
+          let q = none-earlier f 0 (fileRows w) (file-rows-rise w) n v in
           ⊎-elim (λ c. absurd (omega (arith, c .0, q .0))) (λ c. (omega (arith, c .1, q .0), omega (arith, ap rank (c .1), q .1))) cases)
           (λ v.
-          let q = none-earlier g 6 rows (moov-rows-rise w (movieScale m) (length s)) n v in
-          let l = above g 6 rows (moov-rows-rise w (movieScale m) (length s)) n v in
+          let q = none-earlier g 6 rows (moov-rows-rise w (movieScale m) (lengthOf w s)) n v in
+          let l = above g 6 rows (moov-rows-rise w (movieScale m) (lengthOf w s)) n v in
           ⊎-elim (λ c. (omega (arith, c .1, q .0), omega (arith, ap rank (c .1), q .1)))
-          (λ c. let k = three f (first f fileRows) (given f fileRows (c .0)) in (pos (c .0) (c .1), omega (arith, ap rank (c .1), k, l))) cases) o;
+          (λ c. let k = three w f (first f (fileRows w)) (given f (fileRows w) (c .0)) in (pos (c .0) (c .1), omega (arith, ap rank (c .1), k, l))) cases) o;
     }
   where
     pos : {a b : ℕ} → (a ≡ 0 → ⊥) → b ≡ a → 0 < b
@@ -130,7 +129,7 @@ only-strict : (s : List ℕ) (w : Source) → w .strict ≡ false → filmRefusa
 unfolding rank
 only-strict s w q e =
     let m = moovOf s in
-    ⊎-elim (λ y. omega (arith, three (λ r. r .whole s) 11 y)) (none-eleven w (movieScale m) (length s) m (tracksOf m) q)
+    ⊎-elim (λ y. omega (arith, three w (λ r. r .whole s) 11 y)) (none-eleven w (movieScale m) (lengthOf w s) m (tracksOf m) q)
     (subst (Applies s w) e (first-applies s w .applies (λ z. omega (arith, e, z))))
 
 -- any other row that holds by default holds strictly
@@ -143,16 +142,22 @@ same-rows w scale len g n h =
     right : {A B C : Type 0} → (B → C) → A ⊎ B → A ⊎ C
     right f = ⊎-elim (λ a. inl a) (λ b. inr (f b))
 
+-- those that are judged on the bytes lent are the same
+same-file-rows : (s : List ℕ) (w : Source) (n : ℕ) → OneHolds (λ r. r .whole s) (fileRows w) n → OneHolds (λ r. r .whole s) (fileRows (strictly w)) n
+unfolding fileTooLong wrongAtoms wrongCounts fileRows
+same-file-rows s w n o = o
+
 rank-low : (k : ℕ) → k < 11 → rank k < rank 11
 unfolding rank
 rank-low k l = let n : k ≡ 19 → ⊥ = λ z. omega arith in rw (ne-eqb k 19 n) (omega arith)
 
 judged-before : (s : List ℕ) (w : Source) (k : ℕ) → 0 < k → k < 11 → filmRefusal s w ≡ k → filmRefusal s (strictly w) ≡ k
+unfolding lengthOf
 judged-before s w k p l e =
     let m = moovOf s in
     let n : k ≡ 11 → ⊥ = λ z. omega arith in
     let a : Applies s w k = subst (Applies s w) e (first-applies s w .applies (λ z. omega (arith, e, z))) in
-    let b : Applies s (strictly w) k = ⊎-elim (λ y. inl y) (λ y. inr (same-rows w (movieScale m) (length s) _ k n y)) a in
+    let b : Applies s (strictly w) k = ⊎-elim (λ y. inl (same-file-rows s w k y)) (λ y. inr (same-rows w (movieScale m) (lengthOf w s) _ k n y)) a in
     let c = first-applies s (strictly w) .earliest k b in
     let o : filmRefusal s (strictly w) ≡ 11 → ⊥ = λ z. omega (arith, rank-low k l, ap rank z, c .1) in
     sym (strict-same s w (filmRefusal s (strictly w)) o refl) ∙ e

@@ -4,10 +4,11 @@ use Prim.Native.Nat.{ℕ, _+_, _-_, _*_}
 use mathlib.Core.List.{List, map}
 use mathlib.Core.Bool.{cond}
 use lib.Dec.{eqb}
-use Rattle.bigendian.specs.BigEndian.{u32At}
-use Rattle.atoms.specs.Kinds.{stts, stsc, stsz, stco}
+use Rattle.bigendian.specs.BigEndian.{beAt, u32At}
+use Rattle.atoms.specs.Kinds.{stts, stsc, stsz}
 use Rattle.lists.specs.Lists.{sum, upTo}
-use Rattle.structure.specs.Track.{tableOf}
+use Rattle.words.specs.Words.{offsetWidth}
+use Rattle.structure.specs.Track.{tableOf, offsetTable}
 
 -- stts: "n at 12; sample count, duration"
 abbrev pub sttsEntries : List ℕ → ℕ
@@ -29,9 +30,9 @@ firstChunk t k = u32At (tableOf stsc t) (16 + 12 * k)
 abbrev pub samplesPerChunk : List ℕ → ℕ → ℕ
 samplesPerChunk t k = u32At (tableOf stsc t) (20 + 12 * k)
 
--- stco: the offset of the chunk with the number c; it has C entries (`chunksOf`, "n at 12")
+-- stco, or co64 in its place: the offset of the chunk with the number c, in 4 bytes or in 8; it has C entries (`chunksOf`, "n at 12")
 abbrev pub chunkOffset : List ℕ → ℕ → ℕ
-chunkOffset t c = u32At (tableOf stco t) (16 + 4 * (c - 1))
+chunkOffset t c = beAt (offsetWidth (offsetTable t)) (offsetTable t) (16 + offsetWidth (offsetTable t) * (c - 1))
 
 -- stsz: "common size 12, n at 16; sizes only if the common size is 0": the size of the sample with the number n; there are N (`samplesOf`)
 abbrev pub sampleSize : List ℕ → ℕ → ℕ

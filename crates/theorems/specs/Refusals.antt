@@ -6,12 +6,11 @@ use mathlib.Core.Path.{_≡_}
 use mathlib.Core.Logic.{_⊎_}
 use mathlib.Core.Bool.{Bool, true, false, _||_}
 use mathlib.Core.List.{List, [], _∷_, _++_, map}
-use lib.ListN.{length}
 use Rattle.structure.specs.declared.source.Source.{Source}
-use Rattle.structure.specs.Source.{strictly}
+use Rattle.structure.specs.Source.{strictly, lengthOf}
 use Rattle.structure.specs.Rows.{Row, some, rank, ranksRise}
 use Rattle.structure.specs.Movie.{moovOf, movieScale, tracksOf}
-use Rattle.structure.specs.Refusals.{fileRows}
+use Rattle.shape.specs.Refusals.{fileRows}
 use Rattle.movie.specs.Refusals.{moovRows, filmRefusal}
 
 -- one of some rows has the number n, and its condition holds
@@ -21,19 +20,19 @@ OneHolds f (r ∷ rs) n = ((f r ≡ true) × (r .number ≡ n)) ⊎ OneHolds f r
 
 -- the rows that are judged on the movie of the film s
 abbrev pub rowsOfMovie : List ℕ → Source → List Row
-rowsOfMovie s w = moovRows w (movieScale (moovOf s)) (length s)
+rowsOfMovie s w = moovRows w (movieScale (moovOf s)) (lengthOf w s)
 
--- the number n applies to the film s: by a row that is judged on the file, or by one that is judged on its movie or one of its tracks
+-- the number n applies to the film s: by a row that is judged on the bytes lent, or by one that is judged on its movie or one of its tracks
 abbrev pub Applies : List ℕ → Source → ℕ → Type 0
 Applies s w n =
-    OneHolds (λ r. r .whole s) fileRows n
+    OneHolds (λ r. r .whole s) (fileRows w) n
     ⊎ OneHolds (λ r. r .whole (moovOf s) || some (r .track) (tracksOf (moovOf s))) (rowsOfMovie s w) n
 
 pub record FirstApplies (s : List ℕ) (w : Source) : Type 0 where
   -- the rows are those of these numbers, and stand in the order of judging
-  pub numbers : map (λ r. r .number) (fileRows ++ rowsOfMovie s w)
+  pub numbers : map (λ r. r .number) (fileRows w ++ rowsOfMovie s w)
       ≡ 1 ∷ 2 ∷ 3 ∷ 4 ∷ 5 ∷ 6 ∷ 7 ∷ 8 ∷ 9 ∷ 10 ∷ 11 ∷ 19 ∷ 12 ∷ 13 ∷ []
-  pub order : ranksRise 0 (fileRows ++ rowsOfMovie s w) ≡ true
+  pub order : ranksRise 0 (fileRows w ++ rowsOfMovie s w) ≡ true
   -- a number that is given applies
   pub applies : (filmRefusal s w ≡ 0 → ⊥) → Applies s w (filmRefusal s w)
   -- where one applies a number is given, and none that applies is judged earlier

@@ -17,9 +17,9 @@ use Rattle.words.specs.Words.{syncsAgree}
 use Rattle.chunks.specs.Chunks.{Deal, deals, dealt, perChunk, dealsContradict, isEmpty}
 use Rattle.chunks.specs.Computed.{dealsAgree}
 use Rattle.chunks.proofs.Clauses.{agree-clauses}
-use Rattle.atoms.specs.Kinds.{stts, ctts, stsc, stsz, stco, stss, stsd}
+use Rattle.atoms.specs.Kinds.{stts, ctts, stsc, stsz, stss, stsd}
 use Rattle.bigendian.specs.BigEndian.{u32At}
-use Rattle.structure.specs.Track.{tableOf, samplesOf, chunksOf, descriptionsOf}
+use Rattle.structure.specs.Track.{tableOf, offsetTable, samplesOf, chunksOf, descriptionsOf}
 use Rattle.track.specs.Refusals.{anyEmpty, miscounted, contradicts}
 
 -- ---- a table of runs
@@ -115,7 +115,7 @@ contradicts-is t a b c d y w ea eb ec ed ey ew =
 
 -- the same by what the code reads: the tables as parts, and the numbers of samples, chunks and descriptions
 pub contradicts-by : (t z o e x s u y : List ℕ) (n k m : ℕ) (a b c d v p q r w : Bool)
-    → z ≡ tableOf stsz t → n ≡ u32At z 16 → o ≡ tableOf stco t → k ≡ u32At o 12 → e ≡ tableOf stsd t → m ≡ u32At e 12 → x ≡ tableOf stsc t
+    → z ≡ tableOf stsz t → n ≡ u32At z 16 → o ≡ offsetTable t → k ≡ u32At o 12 → e ≡ tableOf stsd t → m ≡ u32At e 12 → x ≡ tableOf stsc t
     → s ≡ tableOf stts t → a ≡ counting n (runsOf s) → u ≡ tableOf ctts t → b ≡ (eqb (length u) 0 || counting n (runsOf u)) → p ≡ (a && b)
     → c ≡ dealsAgree x k m → q ≡ (p && c) → d ≡ eqb (sum (perChunk x k)) n → r ≡ (q && d)
     → y ≡ tableOf stss t → v ≡ syncsAgree y n → w ≡ (r && v) → not w ≡ contradicts t

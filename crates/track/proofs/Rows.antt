@@ -13,14 +13,14 @@ use Rattle.lists.specs.Totals.{totalOf}
 use Rattle.lists.proofs.Totals.{total-known, over-known}
 use Rattle.structure.specs.Rows.{first}
 use Rattle.structure.specs.ByTracks.{ofTrack}
-use Rattle.atoms.specs.Kinds.{stts, stsc, stsz, stco, stsd}
+use Rattle.atoms.specs.Kinds.{stts, stsc, stsz, stsd}
 use Rattle.bigendian.specs.BigEndian.{u32At}
 use Rattle.lists.specs.Lists.{sum}
 use Rattle.runs.specs.Runs.{perSample}
 use Rattle.words.specs.Words.{sizes, chunkOffsets}
 use Rattle.chunks.specs.Chunks.{perChunk, endWithin}
 use Rattle.structure.specs.declared.source.Source.{Source}
-use Rattle.structure.specs.Track.{idOf, scaleOf, durationOf, tableOf, elstOf, drefOf}
+use Rattle.structure.specs.Track.{idOf, scaleOf, durationOf, tableOf, offsetTable, elstOf, drefOf}
 use Rattle.edits.specs.Edits.{editTotal, editsOk}
 use Rattle.references.specs.References.{allInThisFile}
 use Rattle.track.specs.Refusals.{contradicts, totalIn, totalTooLarge, otherDuration, dataElsewhere, chunkPastEnd, wrongEdits}
@@ -116,7 +116,7 @@ pub elsewhere-by : (t d s : List ℕ) (r : Bool) → d ≡ drefOf t → s ≡ ta
 unfolding dataElsewhere
 elsewhere-by t d s r ed es e = rw (e, ed, es)
 
-pub chunk-past-end-by : (len : ℕ) (t x z o : List ℕ) (r : Bool) → x ≡ tableOf stsc t → z ≡ tableOf stsz t → o ≡ tableOf stco t
+pub chunk-past-end-by : (len : ℕ) (t x z o : List ℕ) (r : Bool) → x ≡ tableOf stsc t → z ≡ tableOf stsz t → o ≡ offsetTable t
     → r ≡ endWithin len (perChunk x (u32At o 12)) (chunkOffsets o) (sizes z) → not r ≡ chunkPastEnd len t
 unfolding chunkPastEnd
 chunk-past-end-by len t x z o r ex ez eo e = rw (e, ex, ez, eo)

@@ -4,9 +4,9 @@ use mathlib.Core.List.{List, [], _∷_}
 use mathlib.Core.Bool.{Bool, false, not, _&&_, _||_}
 use lib.ListN.{length}
 use lib.Dec.{ltb, eqb}
-use Rattle.atoms.specs.Kinds.{stts, ctts, stsc, stsz, stco, stss, stsd}
+use Rattle.atoms.specs.Kinds.{stts, ctts, stsc, stsz, stss, stsd}
 use Rattle.structure.specs.declared.source.Source.{Source}
-use Rattle.structure.specs.Track.{scaleOf, durationOf, tableOf, elstOf, drefOf, samplesOf, chunksOf, descriptionsOf}
+use Rattle.structure.specs.Track.{scaleOf, durationOf, tableOf, offsetTable, elstOf, drefOf, samplesOf, chunksOf, descriptionsOf}
 use Rattle.lists.specs.Lists.{sum, Run}
 use Rattle.runs.specs.Runs.{runsOf, perSample}
 use Rattle.words.specs.Words.{sizes, chunkOffsets, syncsAgree}
@@ -22,7 +22,7 @@ anyEmpty (r ∷ rs) = eqb (r .count) 0 || anyEmpty rs
 unfoldable pub miscounted : ℕ → List ℕ → Bool
 miscounted n s = anyEmpty (runsOf s) || not (eqb n (length (perSample s)))
 
--- 9: "sample tables contradict each other", with N samples from stsz and C chunks from stco
+-- 9: "sample tables contradict each other", with N samples from stsz and C chunks from stco, or from co64 in its place
 unfoldable pub contradicts : List ℕ → Bool
 contradicts t =
     miscounted (samplesOf t) (tableOf stts t)
@@ -56,7 +56,7 @@ dataElsewhere t = not (allInThisFile (drefOf t) (tableOf stsd t))
 
 -- 12: "a chunk's offset plus the sizes of its samples passes the file's end"
 unfoldable pub chunkPastEnd : ℕ → List ℕ → Bool
-chunkPastEnd len t = not (endWithin len (perChunk (tableOf stsc t) (chunksOf t)) (chunkOffsets (tableOf stco t)) (sizes (tableOf stsz t)))
+chunkPastEnd len t = not (endWithin len (perChunk (tableOf stsc t) (chunksOf t)) (chunkOffsets (offsetTable t)) (sizes (tableOf stsz t)))
 
 -- 13: "an edit list is wrong"
 unfoldable pub wrongEdits : ℕ → List ℕ → Bool

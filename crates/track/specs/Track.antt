@@ -4,10 +4,10 @@ use mathlib.Core.Bool.{Bool, cond}
 use mathlib.Core.List.{List, map}
 use lib.IntN.{ℤ}
 use lib.Dec.{eqb}
-use Rattle.atoms.specs.Kinds.{stts, ctts, stsc, stsz, stco, stss, stsd, vide}
+use Rattle.atoms.specs.Kinds.{stts, ctts, stsc, stsz, stss, stsd, vide}
 use Rattle.descriptions.specs.Descriptions.{descriptions}
 use Rattle.references.specs.References.{references}
-use Rattle.structure.specs.Track.{idOf, subtypeOf, scaleOf, durationOf, tableOf, elstOf, drefOf, profileOf, samplesOf, chunksOf}
+use Rattle.structure.specs.Track.{idOf, subtypeOf, scaleOf, durationOf, tableOf, offsetTable, elstOf, drefOf, profileOf, samplesOf, chunksOf}
 use Rattle.lists.specs.Lists.{upTo}
 use Rattle.runs.specs.Runs.{perSample, compositionOffset}
 use Rattle.words.specs.Words.{sizes, chunkOffsets, isSync}
@@ -56,7 +56,7 @@ trackOf t =
       syncs = map (λ i. isSync (tableOf stss t) (suc i)) (upTo (samplesOf t));
       perChunk = perChunk (tableOf stsc t) (chunksOf t);
       descriptionIds = descriptionIds (tableOf stsc t) (chunksOf t);
-      chunkOffsets = chunkOffsets (tableOf stco t);
+      chunkOffsets = chunkOffsets (offsetTable t);
       descriptions = descriptions (leastSize (subtypeOf t)) (tableOf stsd t);
       references = references (drefOf t);
       editTable = elstOf t;

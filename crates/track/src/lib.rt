@@ -6,8 +6,8 @@ use chunks::deals_agree;
 use chunks::total_dealt;
 use edits::edits_ok;
 use edits::edits_total;
-use leaves::present::both;
 use lists::Total;
+use presence::both;
 use references::all_in_this_file;
 use runs::counts;
 use runs::total_duration;
@@ -15,6 +15,7 @@ use structure::source::Source;
 use structure::trak::data_references;
 use structure::trak::edit_list;
 use structure::trak::media_scale;
+use structure::trak::offset_table;
 use structure::trak::stored_duration;
 use structure::trak::table;
 use structure::trak::track_id;
@@ -69,7 +70,7 @@ fn is_contradictory(trak: &[u8]) -> bool
     ensures { λ r. ⌜ r ≡ contradicts (now (trak .entry)) ⌝ }
 {
     let samples = u32_at(table(trak, kinds::STSZ), 16);
-    let chunks = u32_at(table(trak, kinds::STCO), 12);
+    let chunks = u32_at(offset_table(trak), 12);
     let descriptions = u32_at(table(trak, kinds::STSD), 12);
     let stsc = table(trak, kinds::STSC);
     let a = counts(table(trak, kinds::STTS), samples);
@@ -122,12 +123,7 @@ fn timed_refusal(trak: &[u8], movie: u32, len: u64, source: Source, total: u32) 
         return 19;
     }
     let stsz = table(trak, kinds::STSZ);
-    if !chunks_end_within(
-        table(trak, kinds::STSC),
-        stsz,
-        table(trak, kinds::STCO),
-        len,
-    ) {
+    if !chunks_end_within(table(trak, kinds::STSC), stsz, offset_table(trak), len) {
         return 12;
     }
     if !edits_ok(elst, media_scale(trak), movie, total) {

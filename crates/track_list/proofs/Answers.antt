@@ -8,6 +8,7 @@ use borrow.Author.Tests.{eq-eqb, ne-eqb, lt-ltb, le-ltb}
 use lib.ListN.{length}
 use lib.Seq.{sets}
 use Rattle.structure.specs.declared.source.Source.{Source}
+use Rattle.structure.specs.Source.{lengthOf}
 use Rattle.structure.specs.Movie.{moovOf, movieScale, tracksOf}
 use Rattle.structure.specs.Rows.{orElse}
 use Rattle.structure.proofs.Callers.{Each}
@@ -33,7 +34,7 @@ fitting-each w scale len (t ∷ ts) h =
     (omega arith, fitting-each w scale len ts (λ i g. h (suc i) (omega arith)))
 
 pub fitting : (s m : List ℕ) (w : Source) (r : ℕ) → r ≡ filmRefusal s w → r ≡ 0 → m ≡ moovOf s → TotalsFit (tracksOf m)
-fitting s m w r e z d = rw d (fitting-each w (movieScale (moovOf s)) (length s) (tracksOf (moovOf s)) (accepted s w (sym e ∙ z) .movie .tracks))
+fitting s m w r e z d = rw d (fitting-each w (movieScale (moovOf s)) (lengthOf w s) (tracksOf (moovOf s)) (accepted s w (sym e ∙ z) .movie .tracks))
 
 -- ---- the answers
 

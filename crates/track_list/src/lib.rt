@@ -8,6 +8,7 @@ use structure::moov::track_count;
 use structure::source::Source;
 use structure::trak::edit_list;
 use structure::trak::media_scale;
+use structure::trak::offset_table;
 use structure::trak::stored_duration;
 use structure::trak::subtype;
 use structure::trak::table;
@@ -47,7 +48,7 @@ fn line_of(trak: &[u8]) -> Line
         scale: media_scale(trak),
         total: media_total(trak),
         samples: u32_at(table(trak, kinds::STSZ), 16),
-        chunks: u32_at(table(trak, kinds::STCO), 12),
+        chunks: u32_at(offset_table(trak), 12),
         edits: u32_at(edit_list(trak), 12),
         stored: stored_duration(trak),
     }

@@ -1,19 +1,25 @@
--- Tables of 32-bit numbers: stsz (sizes of samples), stco (offsets of chunks) and stss (numbers of sync samples).
+-- Tables of numbers: stsz (sizes of samples), stco and co64 (offsets of chunks) and stss (numbers of sync samples). Those of co64 have 64 bits,
+-- all others 32.
 use Prim.Native.Nat.{ℕ}
 use mathlib.Core.Bool.{Bool, true, false, cond}
 use mathlib.Core.List.{List, [], _∷_, map}
-use lib.ListN.{length, replicate}
+use lib.ListN.{length, drop, replicate}
 use lib.Dec.{ltb, leb, eqb}
-use Rattle.bigendian.specs.BigEndian.{u32At}
+use Rattle.bigendian.specs.BigEndian.{beAt, u32At}
 use Rattle.lists.specs.Entries.{rowsOf, entries}
+use Rattle.atoms.specs.Atoms.{kindOf}
+use Rattle.atoms.specs.Kinds.{co64}
 
 -- an entry: one number
 abbrev pub word : List ℕ → ℕ
 word e = u32At e 0
 
--- the numbers that stand one after the other in a part
-unfoldable pub wordsIn : List ℕ → List ℕ
-wordsIn t = map word (rowsOf 4 t)
+-- the numbers of w bytes that stand one after the other in a part
+unfoldable pub numbersIn : ℕ → List ℕ → List ℕ
+numbersIn w t = map (λ e. beAt w e 0) (rowsOf w t)
+
+abbrev pub wordsIn : List ℕ → List ℕ
+wordsIn t = numbersIn 4 t
 
 -- the numbers of a table after its head
 unfoldable pub wordsAfter : ℕ → List ℕ → List ℕ
@@ -23,9 +29,18 @@ wordsAfter head s = map word (entries head 4 s)
 unfoldable pub sizes : List ℕ → List ℕ
 sizes s = cond (eqb (u32At s 12) 0) (wordsAfter 20 s) (replicate (u32At s 16) (u32At s 12))
 
--- one number for each chunk, its offset: "16+4n"
+-- the bytes of a number of 64 bits, or of 32
+abbrev pub widthOf : Bool → ℕ
+widthOf long = cond long 8 4
+
+-- the bytes of an offset, told by the table's own type: stco has "16+4n". "Chunk offsets may then come from 'co64' (16+8n) in place of stco".
+-- The type of an absent table, which is no bytes, is 0
+unfoldable pub offsetWidth : List ℕ → ℕ
+offsetWidth s = widthOf (eqb (kindOf s) co64)
+
+-- one number for each chunk, its offset
 unfoldable pub chunkOffsets : List ℕ → List ℕ
-chunkOffsets s = wordsAfter 16 s
+chunkOffsets s = numbersIn (offsetWidth s) (drop 16 s)
 
 -- the numbers, from 1, of the samples that stss lists: "16+4n"
 unfoldable pub syncs : List ℕ → List ℕ

@@ -1,12 +1,18 @@
-// Tables of 32-bit numbers, read as they stand in the file: stsz, stco and stss. A sample and a chunk are named by their index from 0, a sync sample
+// Tables of numbers, read as they stand in the file: stsz, stco or co64, and stss. A sample and a chunk are named by their index from 0, a sync sample
 // by its number from 1. Past the last entry a size and an offset are 0.
+use atoms::kinds;
 use bigendian::after;
 use bigendian::u32_at;
+use bigendian::whole32;
+use bigendian::whole64;
 ghost use mathlib.Core.Path.{_≡_};
-ghost use Prim.Native.Nat.{_*_, _-_, _/_, _^_, _≤_, _<_, min};
+ghost use Prim.Native.Nat.{_+_, _*_, _-_, _/_, _^_, _≤_, _<_, min};
+ghost use lib.Dec.{eqb};
 ghost use lib.ListN.{length, getD, take};
 ghost use Rattle.lists.specs.Lists.{sum, between};
-ghost use Rattle.words.specs.Words.{wordsIn, sizes, chunkOffsets, syncsAgree, isSync};
+ghost use Rattle.atoms.specs.Atoms.{kindOf};
+ghost use Rattle.atoms.specs.Kinds.{co64};
+ghost use Rattle.words.specs.Words.{numbersIn, wordsIn, sizes, widthOf, chunkOffsets, syncsAgree, isSync};
 
 // The first n bytes; all where there are fewer.
 fn front(s: &[u8], n: usize) -> &[u8]
@@ -23,13 +29,13 @@ pub fn word_at(part: &[u8], index: usize) -> u32
     ensures { λ r. ⌜ r ≡ getD (wordsIn (now (part .entry))) index 0 ⌝ }
 {
     if index < part.len() / 4 {
-        return u32_at(part, index * 4);
+        return whole32(part, index * 4);
     }
     0
 }
 
 // All numbers of a part, added. It has so few that the sum fits.
-fn sum_words(part: &[u8]) -> u64
+pub fn sum_words(part: &[u8]) -> u64
     requires { ⌜ length (now part) ≤ 4294967295 * 4 ⌝ }
     ensures { λ r. ⌜ (r ≡ sum (wordsIn (now (part .entry)))) × (r ≤ length (now (part .entry)) / 4 * 4294967295) ⌝ }
 {
@@ -104,11 +110,55 @@ pub fn all_bytes(stsz: &[u8]) -> u64
     u32_at(stsz, 16) as u64 * every as u64
 }
 
-// The offset of a chunk.
-pub fn chunk_offset(stco: &[u8], index: u64) -> u32
-    ensures { λ r. ⌜ r ≡ getD (chunkOffsets (now (stco .entry))) index 0 ⌝ }
+// The sum; the largest number of 64 bits where it is above that.
+pub fn saturating_sum(a: u64, b: u64) -> u64
+    ensures { λ r. ⌜ r ≡ min (a + b) 18446744073709551615 ⌝ }
 {
-    word_at(after(stco, 16), index as usize)
+    if b <= 18446744073709551615 - a {
+        return a + b;
+    }
+    18446744073709551615
+}
+
+// Whether the numbers of a table of chunk offsets have 64 bits.
+pub fn is_long(table: &[u8]) -> bool
+    ensures { λ r. ⌜ r ≡ eqb (kindOf (now (table .entry))) co64 ⌝ }
+{
+    u32_at(table, 4) == kinds::CO64
+}
+
+// The bytes of a number of 64 bits, or of 32.
+pub fn width_of(long: bool) -> usize
+    ensures { λ r. ⌜ r ≡ widthOf long ⌝ }
+{
+    if long { 8 } else { 4 }
+}
+
+// The number of 64 bits of a part with an index.
+fn long_at(part: &[u8], index: usize) -> u64
+    ensures { λ r. ⌜ r ≡ getD (numbersIn 8 (now (part .entry))) index 0 ⌝ }
+{
+    if index < part.len() / 8 {
+        return whole64(part, index * 8);
+    }
+    0
+}
+
+// The number of a part with an index, where each has 64 bits, or 32.
+pub fn number_in(part: &[u8], long: bool, index: usize) -> u64
+    ensures { λ r. ⌜ r ≡ getD (numbersIn (widthOf long) (now (part .entry))) index 0 ⌝ }
+{
+    if long {
+        return long_at(part, index);
+    }
+    word_at(part, index) as u64
+}
+
+// The offset of a chunk.
+pub fn chunk_offset(table: &[u8], index: u64) -> u64
+    ensures { λ r. ⌜ r ≡ getD (chunkOffsets (now (table .entry))) index 0 ⌝ }
+{
+    number_in(after(table, 16), is_long(table), index as usize)
 }
 
 // Whether the numbers of stss rise strictly within 1 to the number of samples.

@@ -1,71 +1,128 @@
--- `chunk_ends::listed_within` meets its contract: what the chunks not yet asked say is what all say.
+-- `chunk_ends::listed_within` meets its contract: what the chunks ahead of the cursor say is what all say; there are below 2 ^ 63 of them.
 -- Assumes nothing.
 use borrow.Author.Needs.{needs}
+use Prim.Native.Nat.{ℕ, _+_, _*_, _^_, _≤_, _<_}
 use mathlib.Core.Path.{_≡_, refl, sym, ap, _∙_}
+use mathlib.Core.Bool.{not}
+use mathlib.Core.List.{[]}
 use native.Mathlib.Omega.{arith}
 use denote.Ref.{now}
-use lib.ListN.{replicate}
-use Rattle.words.specs.Words.{wordsIn}
-use Rattle.words.proofs.Turns.{words-drop}
-use Rattle.chunks.specs.Chunks.{endWithin}
-use Rattle.chunk_ends.proofs.RunEnds.{first-over, first-within, none-remain}
+use lib.ListN.{length, drop, length-take}
+use lib.Seq.{drop-drop, length-take-le}
+use Rattle.bigendian.proofs.Parts.{rest as part-rest}
+use Rattle.words.specs.Words.{numbersIn, wordsIn, widthOf}
+use Rattle.chunks.specs.Chunks.{perChunk, endWithin}
+use Rattle.chunks.specs.Cursors.{ahead}
+use Rattle.chunks.proofs.Turns.{few-chunks}
+use Rattle.chunk_ends.proofs.Ends.{Ending, ending-start, start-length, ended, ends-past, ending-next, ending-length, one-asked}
+use Rattle.chunk_ends.proofs.RunEnds.{at-front, first-part, later-part}
 use Rattle.chunk_ends.proofs.listed_within.Statement.{statement}
 use Rattle.chunk_ends.proofs.listed_within.Tie as tie
 
 abbrev Inv-loop : tie.InvT-loop
-Inv-loop offsets sizes count per limit t₀ z₀ rest₀ t z rest = endWithin limit (replicate rest per) (wordsIn t) (wordsIn z) ≡ endWithin limit (replicate count per) (wordsIn offsets) (wordsIn sizes)
+Inv-loop stsc chunks offsets long sizes limit index₀ z₀ c₀ index z c =
+    Ending limit stsc chunks (drop index (numbersIn (widthOf long) offsets)) (wordsIn z) (endWithin limit (perChunk stsc chunks) (numbersIn (widthOf long) offsets) (wordsIn sizes)) c
+    × (index + length (ahead stsc chunks c) < 2 ^ 63)
 
 abbrev μ-loop : tie.MeasureT-loop
-μ-loop offsets sizes count per limit t₀ z₀ rest₀ t z rest = rest
+μ-loop stsc chunks offsets long sizes limit index₀ z₀ c₀ index z c = length (ahead stsc chunks c)
+
+start-cursor-requires : tie.Need-start-cursor-requires Inv-loop μ-loop
+start-cursor-requires c κs = search needs
+
+ready-requires : tie.Need-ready-requires Inv-loop μ-loop
+ready-requires c κs = search needs
 
 loop-holds : tie.Need-loop-holds Inv-loop μ-loop
-loop-holds c = refl
+loop-holds c =
+    let i = c .before .start-cursor .ensures in
+    let k = c .before .before .before .before in
+    let a = k .before .args in (
+      ending-start (a .limit) (now (a .stsc)) (a .chunks) _ _ i (c .ready .ensures .0),
+      omega (arith, start-length (a .limit) (now (a .stsc)) (a .chunks) [] [] i (c .ready .ensures .0), few-chunks (now (a .stsc)) (a .chunks) (k .before .pre) (omega (arith, k .before .fits .chunks)) (λ j. omega (arith, k .shared-slice-known .given j))),
+    )
 
-word-at-requires : tie.Need-word-at-requires Inv-loop μ-loop
-word-at-requires c κs = search needs
+cast-smaller : tie.Need-cast-smaller Inv-loop μ-loop
+cast-smaller c = search needs
 
-cast-base : tie.Need-cast-base Inv-loop μ-loop
-cast-base c = search needs
+mul-smaller : tie.Need-mul-smaller Inv-loop μ-loop
+mul-smaller c = search needs
 
-first-sum-requires : tie.Need-first-sum-requires Inv-loop μ-loop
-first-sum-requires c κs = search needs
+smaller-requires : tie.Need-smaller-requires Inv-loop μ-loop
+smaller-requires c κs = search needs
 
-add-if1 : tie.Need-add-if1 Inv-loop μ-loop
-add-if1 c = omega (arith, c .first-sum .ensures .1, c .before .word-at .ok, c .before .before .before .before .before .before .fits .per)
+slice-aggregate-sum-words : tie.Need-slice-aggregate-sum-words Inv-loop μ-loop
+slice-aggregate-sum-words c =
+    let m = c .before .before .before .before .before in
+    sym (length-take-le (c .before .smaller .result) (now (m .loop .z)) (omega (arith, c .before .smaller .ensures)))
+
+sum-words-requires : tie.Need-sum-words-requires Inv-loop μ-loop
+sum-words-requires c κs =
+    let m = c .before .before .before .before .before in
+    omega (arith, length-take (c .before .smaller .result) (now (m .loop .z)), c .before .smaller .ensures, c .before .before .struct-known2 .given)
+
+number-in-requires : tie.Need-number-in-requires Inv-loop μ-loop
+number-in-requires c κs = search needs
+
+passes-requires : tie.Need-passes-requires Inv-loop μ-loop
+passes-requires c κs = search needs
 
 returns : tie.Need-returns Inv-loop μ-loop
 returns c =
-    let f = c .before in
-    let m = f .before .before .before in
-    let a = m .before .before .before .args in
-    sym (first-over (a .limit) (m .loop .rest) (a .per) (now (m .loop .t)) (wordsIn (now (m .loop .z))) (f .before .before .loop-test .taken) (f .before .word-at .ensures) (f .first-sum .ensures .0) (c .if1 .taken)) ∙ m .loop .inv
+    let n = c .before .before in
+    let y = n .before .before .before in
+    let m = y .before .before .before .before in
+    let a = m .before .before .before .before .before .before .args in
+    let cs = numbersIn (widthOf (a .long)) (now (a .offsets)) in
+    let l = m .loop in
+    sym (ends-past (l .inv .0) 1 (omega (arith, y .before .before .if1 .taken))
+    (one-asked (a .limit) (l .c .per) (drop (l .index) cs) (wordsIn (now (l .z))) (n .number-in .ensures ∙ at-front (l .index) cs) (n .before .sum-words .ensures .0 ∙ first-part (now (l .z)) (l .c .per) (y .smaller .ensures)) (c .before .passes .ensures)) (ap not (c .if2 .taken)))
 
-after-requires : tie.Need-after-requires Inv-loop μ-loop
-after-requires c κs = search needs
+sub-z : tie.Need-sub-z Inv-loop μ-loop
+sub-z c = search needs
 
-mul-after : tie.Need-mul-after Inv-loop μ-loop
-mul-after c = search needs
+part-z-start : tie.Need-part-z-start Inv-loop μ-loop
+part-z-start c = search needs
 
-after-requires-2 : tie.Need-after-requires-2 Inv-loop μ-loop
-after-requires-2 c κs = search needs
+part-z-end : tie.Need-part-z-end Inv-loop μ-loop
+part-z-end c = search needs
 
-sub-rest : tie.Need-sub-rest Inv-loop μ-loop
-sub-rest c = search needs
+add-index : tie.Need-add-index Inv-loop μ-loop
+add-index c =
+    let m = c .before .before .before .before .before .before .before .before .before .before in
+    omega (arith, m .loop .inv .1)
+
+pass-requires : tie.Need-pass-requires Inv-loop μ-loop
+pass-requires c κs = search needs
+
+ready-requires-2 : tie.Need-ready-requires-2 Inv-loop μ-loop
+ready-requires-2 c κs = search needs
 
 loop-less : tie.Need-loop-less Inv-loop μ-loop
-loop-less c = search needs
+loop-less c =
+    let t = c .before .before .before .before .before .before .before .before .before .before in
+    omega (arith, ending-length (t .before .before .loop .inv .0) 1 (omega (arith, t .if1 .taken)) (c .before .pass .ensures) (c .ready2 .ensures .0))
 
 loop-again : tie.Need-loop-again Inv-loop μ-loop
 loop-again c =
-    let i = c .before .before in
-    let f = i .before in
-    let m = f .before .before .before in
-    let a = m .before .before .before .args in
-    first-within (a .limit) (m .loop .rest) (a .per) (now (m .loop .t)) (wordsIn (now (m .loop .z))) (f .before .before .loop-test .taken) (f .before .word-at .ensures) (f .first-sum .ensures .0) (i .if1 .left)
-    (c .before .after .ensures) (ap wordsIn (c .after2 .ensures) ∙ words-drop (a .per) (now (m .loop .z))) ∙ m .loop .inv
+    let x = c .before .before .before in
+    let n = x .before .before in
+    let y = n .before .before .before in
+    let m = y .before .before .before .before in
+    let a = m .before .before .before .before .before .before .args in
+    let cs = numbersIn (widthOf (a .long)) (now (a .offsets)) in
+    let l = m .loop in
+    let h : 1 ≤ l .c .remaining = omega (arith, y .before .before .if1 .taken) in
+    let e : 1 * l .c .per ≡ l .c .per = omega arith in (
+      ending-next (l .inv .0) 1 h (c .before .pass .ensures) (c .ready2 .ensures .0)
+          (one-asked (a .limit) (l .c .per) (drop (l .index) cs) (wordsIn (now (l .z))) (n .number-in .ensures ∙ at-front (l .index) cs) (n .before .sum-words .ensures .0 ∙ first-part (now (l .z)) (l .c .per) (y .smaller .ensures)) (x .before .passes .ensures)) (ap not (x .if2 .left))
+          (sym (drop-drop 1 (l .index) cs))
+          (ap wordsIn (part-rest (y .smaller .result) (now (l .z))) ∙ later-part (now (l .z)) (l .c .per) (y .smaller .ensures) ∙ ap (λ (k : ℕ). drop k (wordsIn (now (l .z)))) (sym e)),
+      omega (arith, ending-length (l .inv .0) 1 h (c .before .pass .ensures) (c .ready2 .ensures .0), l .inv .1),
+    )
 
 returns-2 : tie.Need-returns-2 Inv-loop μ-loop
-returns-2 c = let m = c .before in let a = m .before .before .before .args in sym (none-remain (a .limit) (m .loop .rest) (a .per) _ _ (c .loop-test .left)) ∙ m .loop .inv
+returns-2 c = sym (ended (c .before .before .loop .inv .0) (c .if1 .left))
 
 pub listed-within-spec : {M : Type 1} → statement M
 listed-within-spec =
@@ -73,16 +130,23 @@ listed-within-spec =
     (tie.spec
     Inv-loop
     μ-loop
+    start-cursor-requires
+    ready-requires
     loop-holds
-    word-at-requires
-    cast-base
-    first-sum-requires
-    add-if1
+    cast-smaller
+    mul-smaller
+    smaller-requires
+    slice-aggregate-sum-words
+    sum-words-requires
+    number-in-requires
+    passes-requires
     returns
-    after-requires
-    mul-after
-    after-requires-2
-    sub-rest
+    sub-z
+    part-z-start
+    part-z-end
+    add-index
+    pass-requires
+    ready-requires-2
     loop-less
     loop-again
     returns-2)

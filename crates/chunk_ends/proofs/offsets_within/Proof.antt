@@ -1,64 +1,57 @@
--- `chunk_ends::offsets_within` meets its contract: what the offsets not yet read say is what all say, and none is above where none is there.
+-- `chunk_ends::offsets_within` meets its contract: what the offsets not yet read say is what all say; past the last an offset is 0 and above nothing.
 -- Assumes nothing.
 use borrow.Author.Needs.{needs}
-use mathlib.Core.Path.{_≡_, refl, sym, _∙_}
+use Prim.Native.Nat.{ℕ, _+_, _-_, _<_}
+use mathlib.Core.Path.{_≡_, refl, sym, ap, _∙_}
+use native.Mathlib.Omega.{arith}
 use denote.Ref.{now}
-use lib.ListN.{take}
-use Rattle.bigendian.proofs.Parts.{rest as part-rest}
-use Rattle.words.specs.Words.{wordsIn}
+use lib.ListN.{take, drop}
+use lib.Seq.{drop-drop}
+use Rattle.words.specs.Words.{numbersIn, widthOf}
 use Rattle.chunk_ends.specs.Ends.{noneAbove}
-use Rattle.chunk_ends.proofs.RunEnds.{none-asked, no-offset, offset-above, offset-below}
+use Rattle.chunk_ends.proofs.RunEnds.{at-front, none-asked, offset-above, offset-below}
 use Rattle.chunk_ends.proofs.offsets_within.Statement.{statement}
 use Rattle.chunk_ends.proofs.offsets_within.Tie as tie
 
 abbrev Inv-loop : tie.InvT-loop
-Inv-loop offsets count most t₀ rest₀ t rest = noneAbove most (take rest (wordsIn t)) ≡ noneAbove most (take count (wordsIn offsets))
+Inv-loop offsets long count most i₀ i =
+    noneAbove most (take (count - i) (drop i (numbersIn (widthOf long) offsets))) ≡ noneAbove most (take count (numbersIn (widthOf long) offsets))
 
 abbrev μ-loop : tie.MeasureT-loop
-μ-loop offsets count most t₀ rest₀ t rest = rest
+μ-loop offsets long count most i₀ i = count - i
 
 loop-holds : tie.Need-loop-holds Inv-loop μ-loop
-loop-holds c = refl
+loop-holds c = let a = c .before .args in let e : a .count - 0 ≡ a .count = omega arith in ap (λ (k : ℕ). noneAbove (a .most) (take k (numbersIn (widthOf (a .long)) (now (a .offsets))))) e
+
+number-in-requires : tie.Need-number-in-requires Inv-loop μ-loop
+number-in-requires c κs = search needs
 
 returns : tie.Need-returns Inv-loop μ-loop
-returns c = let l = c .before .before .loop in sym (no-offset _ (l .rest) (now (l .t)) (c .if1 .taken)) ∙ l .inv
+returns c =
+    let m = c .before .before .before in
+    let a = m .before .before .args in
+    let cs = numbersIn (widthOf (a .long)) (now (a .offsets)) in
+    sym (offset-above (a .most) (a .count - m .loop .i) (drop (m .loop .i) cs) (omega (arith, c .before .before .loop-test .taken)) (c .before .number-in .ensures ∙ at-front (m .loop .i) cs) (c .if1 .taken)) ∙ m .loop .inv
 
-u32-at-requires : tie.Need-u32-at-requires Inv-loop μ-loop
-u32-at-requires c κs = search needs
-
-cast-if2 : tie.Need-cast-if2 Inv-loop μ-loop
-cast-if2 c = search needs
-
-returns-2 : tie.Need-returns-2 Inv-loop μ-loop
-returns-2 c =
-    let u = c .before in
-    let l = u .before .before .before .loop in
-    sym (offset-above _ (l .rest) (now (l .t)) (u .before .before .loop-test .taken) (u .before .if1 .left) (u .u32-at .ensures) (c .if2 .taken)) ∙ l .inv
-
-sub-t : tie.Need-sub-t Inv-loop μ-loop
-sub-t c = search needs
-
-part-t-start : tie.Need-part-t-start Inv-loop μ-loop
-part-t-start c = search needs
-
-part-t-end : tie.Need-part-t-end Inv-loop μ-loop
-part-t-end c = search needs
-
-sub-rest : tie.Need-sub-rest Inv-loop μ-loop
-sub-rest c = search needs
+add-i : tie.Need-add-i Inv-loop μ-loop
+add-i c = search needs
 
 loop-less : tie.Need-loop-less Inv-loop μ-loop
 loop-less c = search needs
 
 loop-again : tie.Need-loop-again Inv-loop μ-loop
 loop-again c =
-    let i = c .before in
-    let u = i .before in
-    let l = u .before .before .before .loop in
-    rw (part-rest 4 (now (l .t))) (offset-below _ (l .rest) (now (l .t)) (u .before .before .loop-test .taken) (u .before .if1 .left) (u .u32-at .ensures) (i .if2 .left) ∙ l .inv)
+    let m = c .before .before .before in
+    let a = m .before .before .args in
+    let cs = numbersIn (widthOf (a .long)) (now (a .offsets)) in
+    offset-below (a .most) (a .count - m .loop .i) (drop (m .loop .i) cs) (omega (arith, c .before .before .loop-test .taken)) (c .before .number-in .ensures ∙ at-front (m .loop .i) cs) (c .if1 .left)
+    {left = a .count - (m .loop .i + 1)} (omega arith) (sym (drop-drop 1 (m .loop .i) cs)) ∙ m .loop .inv
 
-returns-3 : tie.Need-returns-3 Inv-loop μ-loop
-returns-3 c = let l = c .before .loop in sym (none-asked _ (l .rest) (now (l .t)) (c .loop-test .left)) ∙ l .inv
+returns-2 : tie.Need-returns-2 Inv-loop μ-loop
+returns-2 c =
+    let m = c .before in
+    let a = m .before .before .args in
+    sym (none-asked (a .most) (a .count - m .loop .i) _ (omega (arith, c .loop-test .left))) ∙ m .loop .inv
 
 pub offsets-within-spec : {M : Type 1} → statement M
 offsets-within-spec =
@@ -67,14 +60,9 @@ offsets-within-spec =
     Inv-loop
     μ-loop
     loop-holds
+    number-in-requires
     returns
-    u32-at-requires
-    cast-if2
-    returns-2
-    sub-t
-    part-t-start
-    part-t-end
-    sub-rest
+    add-i
     loop-less
     loop-again
-    returns-3)
+    returns-2)

@@ -1,7 +1,7 @@
 -- `chunks::located_offset` meets its contract: the sum is the definition's, each part as its function says.
 -- Assumes nothing.
 use borrow.Author.Needs.{needs}
-use Prim.Native.Nat.{ℕ}
+use Prim.Native.Nat.{ℕ, _+_, min}
 use mathlib.Core.Path.{ap, _∙_}
 use denote.Ref.{now}
 use Rattle.lists.specs.Lists.{between}
@@ -16,21 +16,20 @@ span-requires c κs = search needs
 chunk-offset-requires : tie.Need-chunk-offset-requires
 chunk-offset-requires c κs = search needs
 
-cast-result : tie.Need-cast-result
-cast-result c = search needs
-
 bytes-between-requires : tie.Need-bytes-between-requires
 bytes-between-requires c κs = search needs
 
-add-result : tie.Need-add-result
-add-result c = search needs
+saturating-sum-requires : tie.Need-saturating-sum-requires
+saturating-sum-requires c κs = search needs
 
 returns : tie.Need-returns
 unfolding locatedOffset
 returns c =
-    let a = c .before .before .before .before .before .args in
-    let e = c .bytes-between .ensures .0 ∙ ap (λ (b : ℕ). between (sizes (now (a .stsz))) b (a .index)) (c .before .before .span .ensures) in
-    cc (c .before .chunk-offset .ensures, e)
+    let b = c .before in
+    let o = b .before in
+    let a = o .before .before .before .before .args in
+    let e = b .bytes-between .ensures .0 ∙ ap (λ (k : ℕ). between (sizes (now (a .stsz))) k (a .index)) (o .before .span .ensures) in
+    cc (c .saturating-sum .ensures, o .chunk-offset .ensures, e)
 
 pub located-offset-spec : {M : Type 1} → statement M
 located-offset-spec =
@@ -38,7 +37,6 @@ located-offset-spec =
     (tie.spec
     span-requires
     chunk-offset-requires
-    cast-result
     bytes-between-requires
-    add-result
+    saturating-sum-requires
     returns)

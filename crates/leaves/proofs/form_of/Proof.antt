@@ -1,6 +1,8 @@
 -- `leaves::form_of` meets its contract: in each arm the kind is known.
 -- Assumes nothing.
 use borrow.Author.Tests.{ne-eqb}
+use mathlib.Core.Path.{ap, _∙_}
+use Rattle.leaves.specs.Leaves.{inParent}
 use mathlib.Core.Logic.{inl, inr, ⊎-elim}
 use Rattle.leaves.specs.Leaves.{formOf}
 use Rattle.leaves.proofs.form_of.Statement.{statement}
@@ -38,6 +40,12 @@ in-parent-requires-10 c κs = tt
 
 in-parent-requires-11 : tie.Need-in-parent-requires-11
 in-parent-requires-11 c κs = tt
+
+in-parent-requires-12 : tie.Need-in-parent-requires-12
+in-parent-requires-12 c κs = tt
+
+in-parent-requires-13 : tie.Need-in-parent-requires-13
+in-parent-requires-13 c κs = tt
 
 returns : tie.Need-returns
 unfolding formOf
@@ -77,18 +85,22 @@ returns-9 c = ⊎-elim (λ e. rw e (c .in-parent9 .ensures)) (λ e. rw e (c .in-
 
 returns-10 : tie.Need-returns-10
 unfolding formOf
-returns-10 c = rw (c .before .match .keys10) (c .in-parent10 .ensures)
+returns-10 c = rw (c .before .before .match .keys10) (c .in-parent11 .ensures ∙ ap (inParent (c .before .before .before .args .wide)) (c .before .in-parent10 .ensures))
 
 returns-11 : tie.Need-returns-11
 unfolding formOf
-returns-11 c = rw (c .before .match .keys11) (c .in-parent11 .ensures)
+returns-11 c = rw (c .before .match .keys11) (c .in-parent12 .ensures)
 
 returns-12 : tie.Need-returns-12
 unfolding formOf
-returns-12 c =
+returns-12 c = rw (c .before .match .keys12) (c .in-parent13 .ensures)
+
+returns-13 : tie.Need-returns-13
+unfolding formOf
+returns-13 c =
     let r = c .match .rest in
     let q = r .0 in
-    simp (ne-eqb _ _ (q .0 .0 .0 .0 .0 .0 .0 .0 .0 .1), ne-eqb _ _ (q .0 .0 .0 .0 .0 .0 .0 .0 .1), ne-eqb _ _ (q .0 .0 .0 .0 .0 .0 .0 .1), ne-eqb _ _ (q .0 .0 .0 .0 .0 .0 .1), ne-eqb _ _ (q .0 .0 .0 .0 .0 .1), ne-eqb _ _ (λ e. q .0 .0 .0 .0 .1 (inl e)), ne-eqb _ _ (λ e. q .0 .0 .0 .0 .1 (inr e)), ne-eqb _ _ (q .0 .0 .0 .1), ne-eqb _ _ (q .0 .0 .1), ne-eqb _ _ (λ e. q .0 .1 (inl e)), ne-eqb _ _ (λ e. q .0 .1 (inr e)), ne-eqb _ _ (q .1), ne-eqb _ _ (r .1))
+    simp (ne-eqb _ _ (q .0 .0 .0 .0 .0 .0 .0 .0 .0 .0 .1), ne-eqb _ _ (q .0 .0 .0 .0 .0 .0 .0 .0 .0 .1), ne-eqb _ _ (q .0 .0 .0 .0 .0 .0 .0 .0 .1), ne-eqb _ _ (q .0 .0 .0 .0 .0 .0 .0 .1), ne-eqb _ _ (q .0 .0 .0 .0 .0 .0 .1), ne-eqb _ _ (λ e. q .0 .0 .0 .0 .0 .1 (inl e)), ne-eqb _ _ (λ e. q .0 .0 .0 .0 .0 .1 (inr e)), ne-eqb _ _ (q .0 .0 .0 .0 .1), ne-eqb _ _ (q .0 .0 .0 .1), ne-eqb _ _ (λ e. q .0 .0 .1 (inl e)), ne-eqb _ _ (λ e. q .0 .0 .1 (inr e)), ne-eqb _ _ (q .0 .1), ne-eqb _ _ (q .1), ne-eqb _ _ (r .1))
 
 pub form-of-spec : {M : Type 1} → statement M
 form-of-spec =
@@ -105,6 +117,8 @@ form-of-spec =
     in-parent-requires-9
     in-parent-requires-10
     in-parent-requires-11
+    in-parent-requires-12
+    in-parent-requires-13
     returns
     returns-2
     returns-3
@@ -116,4 +130,5 @@ form-of-spec =
     returns-9
     returns-10
     returns-11
-    returns-12)
+    returns-12
+    returns-13)

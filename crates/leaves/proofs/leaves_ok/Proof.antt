@@ -20,14 +20,14 @@ use Rattle.leaves.proofs.leaves_ok.Statement.{statement}
 use Rattle.leaves.proofs.leaves_ok.Tie as tie
 
 -- what the code asked of the atom is what the definition asks
-here : (rule : LeafRule) (p k : ℕ) (f : Form) (a : List ℕ) (b : Bool) → k ≡ kindOf a → f ≡ formOf p k → b ≡ leafOk rule f a → atomOk rule p a ≡ b
-here rule p k f a b e g h = rw (← e, ← g) (sym h)
+here : (rule : LeafRule) (wide : Bool) (p k : ℕ) (f : Form) (a : List ℕ) (b : Bool) → k ≡ kindOf a → f ≡ formOf wide p k → b ≡ leafOk rule f a → atomOk rule wide p a ≡ b
+here rule wide p k f a b e g h = rw (← e, ← g) (sym h)
 
 abbrev Inv-loop : tie.InvT-loop
-Inv-loop body parent rule t₀ t = leavesOk rule parent t ≡ leavesOk rule parent body
+Inv-loop body parent rule wide t₀ t = leavesOk rule wide parent t ≡ leavesOk rule wide parent body
 
 abbrev μ-loop : tie.MeasureT-loop
-μ-loop body parent rule t₀ t = length t
+μ-loop body parent rule wide t₀ t = length t
 
 loop-holds : tie.Need-loop-holds Inv-loop μ-loop
 loop-holds c = search needs
@@ -39,7 +39,7 @@ returns : tie.Need-returns Inv-loop μ-loop
 returns c =
     let a = c .before .before .before .before .args in
     let l = c .before .before .loop in
-    sym (all-none (a .parent) (now (l .t)) _ (c .before .size-in .ensures .0) (atomOk (a .rule) (a .parent)) (c .if1 .taken)) ∙ l .inv
+    sym (all-none (a .parent) (now (l .t)) _ (c .before .size-in .ensures .0) (atomOk (a .rule) (a .wide) (a .parent)) (c .if1 .taken)) ∙ l .inv
 
 slice-aggregate-atom : tie.Need-slice-aggregate-atom Inv-loop μ-loop
 slice-aggregate-atom c = sym (length-take-le _ _ (c .before .before .size-in .ensures .1))
@@ -57,8 +57,8 @@ returns-2 : tie.Need-returns-2 Inv-loop μ-loop
 returns-2 c =
     let a = c .before .before .before .before .before .before .before .before .before .args in
     let l = c .before .before .before .before .before .before .before .loop in
-    sym (all-stop (a .parent) (now (l .t)) _ (c .before .before .before .before .before .before .size-in .ensures .0) (atomOk (a .rule) (a .parent)) (c .before .before .before .before .before .if1 .left)
-    (here (a .rule) (a .parent) _ _ _ _ (c .before .before .before .u32-at .ensures) (c .before .before .form-of .ensures) (c .before .leaf-ok .ensures) ∙ not-true _ (c .if2 .taken))) ∙ l .inv
+    sym (all-stop (a .parent) (now (l .t)) _ (c .before .before .before .before .before .before .size-in .ensures .0) (atomOk (a .rule) (a .wide) (a .parent)) (c .before .before .before .before .before .if1 .left)
+    (here (a .rule) (a .wide) (a .parent) _ _ _ _ (c .before .before .before .u32-at .ensures) (c .before .before .form-of .ensures) (c .before .leaf-ok .ensures) ∙ not-true _ (c .if2 .taken))) ∙ l .inv
 
 sub-t : tie.Need-sub-t Inv-loop μ-loop
 sub-t c = search needs
@@ -81,8 +81,8 @@ loop-again c =
     let l = c .before .before .before .before .before .before .before .before .loop in
     let n = c .before .before .before .before .before .before .before .size-in .result in
     rw (rest n (now (l .t)))
-    (sym (all-next (a .parent) (now (l .t)) n (c .before .before .before .before .before .before .before .size-in .ensures .0) (atomOk (a .rule) (a .parent)) (c .before .before .before .before .before .before .if1 .left)
-    (here (a .rule) (a .parent) _ _ _ _ (c .before .before .before .before .u32-at .ensures) (c .before .before .before .form-of .ensures) (c .before .before .leaf-ok .ensures) ∙ not-false _ (c .before .if2 .left))) ∙ l .inv)
+    (sym (all-next (a .parent) (now (l .t)) n (c .before .before .before .before .before .before .before .size-in .ensures .0) (atomOk (a .rule) (a .wide) (a .parent)) (c .before .before .before .before .before .before .if1 .left)
+    (here (a .rule) (a .wide) (a .parent) _ _ _ _ (c .before .before .before .before .u32-at .ensures) (c .before .before .before .form-of .ensures) (c .before .before .leaf-ok .ensures) ∙ not-false _ (c .before .if2 .left))) ∙ l .inv)
 
 pub leaves-ok-spec : {M : Type 1} → statement M
 leaves-ok-spec =

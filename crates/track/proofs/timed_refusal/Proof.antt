@@ -11,7 +11,7 @@ use native.Mathlib.Omega.{arith}
 use denote.Ref.{now}
 use lib.Dec.{ltb}
 use lib.ListN.{length}
-use Rattle.atoms.specs.Kinds.{stsz}
+use Rattle.atoms.specs.Kinds.{stsc}
 use Rattle.structure.proofs.Lengths.{table-short}
 use Rattle.edits.specs.Edits.{editTotal}
 use Rattle.track.proofs.Rows.{timed-10, timed-11, timed-19, timed-12, timed-13, timed-0, chunk-past-end-by, wrong-by}
@@ -24,7 +24,7 @@ over c = sym (c .is-over .ensures ∙ ap (λ (l : List ℕ). ltb 4294967295 (edi
 
 -- whether a chunk passes the file's end
 ends : (c : tie.After-chunks-end-within) → chunkPastEnd (c .before .before .before .before .before .before .before .before .before .before .before .before .args .len) (now (c .before .before .before .before .before .before .before .before .before .before .before .before .args .trak)) ≡ not (c .chunks-end-within .result)
-ends c = sym (chunk-past-end-by _ _ _ _ _ _ (c .before .before .table2 .ensures) (c .before .before .before .table .ensures) (c .before .table3 .ensures) (c .chunks-end-within .ensures))
+ends c = sym (chunk-past-end-by _ _ _ _ _ _ (c .before .before .table2 .ensures) (c .before .before .before .table .ensures) (c .before .offset-table .ensures) (c .chunks-end-within .ensures))
 
 -- whether the edit list is wrong
 shows : (c : tie.After-edits-ok) → wrongEdits (c .before .before .before .before .before .before .before .before .before .before .before .before .before .before .before .args .movie) (now (c .before .before .before .before .before .before .before .before .before .before .before .before .before .before .before .args .trak)) ≡ not (c .edits-ok .result)
@@ -64,13 +64,13 @@ table-requires c κs = search needs
 table-requires-2 : tie.Need-table-requires-2
 table-requires-2 c κs = search needs
 
-table-requires-3 : tie.Need-table-requires-3
-table-requires-3 c κs = search needs
+offset-table-requires : tie.Need-offset-table-requires
+offset-table-requires c κs = search needs
 
 chunks-end-within-requires : tie.Need-chunks-end-within-requires
 chunks-end-within-requires c κs =
     let s = c .before .before .before .before .before .before .before .before .before .before .before in
-    omega (arith, ap length (c .before .before .table .ensures), table-short stsz (now (s .args .trak)), s .pre)
+    omega (arith, ap length (c .before .table2 .ensures), table-short stsc (now (s .args .trak)), s .pre)
 
 returns-4 : tie.Need-returns-4
 returns-4 c =
@@ -115,7 +115,7 @@ timed-refusal-spec =
     returns-3
     table-requires
     table-requires-2
-    table-requires-3
+    offset-table-requires
     chunks-end-within-requires
     returns-4
     media-scale-requires

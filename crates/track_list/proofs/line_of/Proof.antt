@@ -23,8 +23,8 @@ table-requires c κs = search needs
 u32-at-requires : tie.Need-u32-at-requires
 u32-at-requires c κs = search needs
 
-table-requires-2 : tie.Need-table-requires-2
-table-requires-2 c κs = search needs
+offset-table-requires : tie.Need-offset-table-requires
+offset-table-requires c κs = search needs
 
 u32-at-requires-2 : tie.Need-u32-at-requires-2
 u32-at-requires-2 c κs = search needs
@@ -52,7 +52,7 @@ line-of-spec =
     media-total-requires
     table-requires
     u32-at-requires
-    table-requires-2
+    offset-table-requires
     u32-at-requires-2
     edit-list-requires
     u32-at-requires-3

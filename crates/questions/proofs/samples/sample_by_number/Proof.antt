@@ -2,7 +2,7 @@
 -- Assumes nothing.
 use borrow.Author.Needs.{needs}
 use Rattle.questions.proofs.Asking.{asked-track, asked-short, asked-total}
-use Rattle.questions.proofs.Found.{no-track, sample-zero, sample-past, sample-index, sample-found}
+use Rattle.questions.proofs.Found.{no-track, sample-zero, sample-past, sample-index, sample-found, offset-low}
 use Rattle.questions.proofs.samples.sample_by_number.Statement.{statement}
 use Rattle.questions.proofs.samples.sample_by_number.Tie as tie
 
@@ -44,6 +44,8 @@ sample-in-requires c κs =
       asked-track _ _ _ _ _ (k .before .before .ask-refusal .ensures) (k .before .if1 .left) (k .track-asked .ensures) .agree,
       sample-index _ _ _ _ _ _ (k .before .before .ask-refusal .ensures) (k .before .if1 .left) (k .track-asked .ensures) _ _ (u .before .table .ensures) (u .u32-at .ensures) (u .before .before .if2 .left) (c .if3 .left),
       asked-track _ _ _ _ _ (k .before .before .ask-refusal .ensures) (k .before .if1 .left) (k .track-asked .ensures) .shape .few-samples,
+      offset-low _ _ _ _ _ (k .before .before .ask-refusal .ensures) (k .before .if1 .left) (k .track-asked .ensures) _
+          (sample-index _ _ _ _ _ _ (k .before .before .ask-refusal .ensures) (k .before .if1 .left) (k .track-asked .ensures) _ _ (u .before .table .ensures) (u .u32-at .ensures) (u .before .before .if2 .left) (c .if3 .left)),
     )
 
 returns-4 : tie.Need-returns-4

@@ -1,7 +1,7 @@
 -- `questions::samples::sample_bytes` meets its contract: the part of the file is the one that the sample's answer gives.
 -- Assumes nothing.
 use borrow.Author.Needs.{needs}
-use Rattle.questions.proofs.Found.{found-fits, found-part, refused-part}
+use Rattle.questions.proofs.Found.{found-in-file, found-part, refused-part}
 use Rattle.questions.proofs.samples.sample_bytes.Statement.{statement}
 use Rattle.questions.proofs.samples.sample_bytes.Tie as tie
 
@@ -15,7 +15,7 @@ enum-known-answer : tie.Need-enum-known-answer
 enum-known-answer c = search needs
 
 part-of-requires : tie.Need-part-of-requires
-part-of-requires c κs = found-fits _ _ _ _ _ _ (c .before .before .before .sample-by-number .ensures) (c .before .answer .given .1)
+part-of-requires c κs = found-in-file _ _ _ _ _ _ (c .before .before .before .before .whole .ensures) (c .before .before .before .sample-by-number .ensures) (c .before .answer .given .1)
 
 enum-told : tie.Need-enum-told
 enum-told c = search needs

@@ -26,17 +26,17 @@ composition-offset-requires c κs = search needs
 table-requires-3 : tie.Need-table-requires-3
 table-requires-3 c κs = search needs
 
+offset-table-requires : tie.Need-offset-table-requires
+offset-table-requires c κs = search needs
+
 table-requires-4 : tie.Need-table-requires-4
 table-requires-4 c κs = search needs
-
-table-requires-5 : tie.Need-table-requires-5
-table-requires-5 c κs = search needs
 
 u32-at-requires : tie.Need-u32-at-requires
 u32-at-requires c κs = search needs
 
 locate-requires : tie.Need-locate-requires
-locate-requires c κs = table-fits _ _ _ (c .before .table5 .ensures) (c .before .before .before .before .before .before .before .before .before .pre .0)
+locate-requires c κs = table-fits _ _ _ (c .before .table4 .ensures) (c .before .before .before .before .before .before .before .before .before .pre .0)
 
 shifted-requires : tie.Need-shifted-requires
 shifted-requires c κs =
@@ -45,8 +45,8 @@ shifted-requires c κs =
     let a = r .before .before .before in
     (starts-low _ _ _ _ (r .before .table .ensures) (r .timing-of .ensures) (a .pre .1), rw (kept (o .composition-offset .result) (o .composition-offset .ok)) (o .composition-offset .ensures .1))
 
-table-requires-6 : tie.Need-table-requires-6
-table-requires-6 c κs = search needs
+table-requires-5 : tie.Need-table-requires-5
+table-requires-5 c κs = search needs
 
 add-is-sync : tie.Need-add-is-sync
 add-is-sync c = let a = c .before .before .before .before .before .before .before .before .before .before .before .before in record { fits = omega (arith, a .pre .3, a .pre .4) }
@@ -58,7 +58,7 @@ add-t16 : tie.Need-add-t16
 add-t16 c =
     let p = c .before .before .before .before in
     let a = p .before .before .before .before .before .before .before .before .before .before in
-    let h = chunk-fits _ _ (a .pre .2) (a .pre .3) _ _ _ _ (p .before .before .before .table4 .ensures) (p .before .before .table5 .ensures) (p .before .u32-at .ensures) (p .before .u32-at .ok) (p .locate .ensures) in
+    let h = chunk-fits _ _ (a .pre .2) (a .pre .3) _ _ _ _ (p .before .before .before .offset-table .ensures) (p .before .before .table4 .ensures) (p .before .u32-at .ensures) (p .before .u32-at .ok) (p .locate .ensures) in
     record { fits = omega arith }
 
 located-offset-requires : tie.Need-located-offset-requires
@@ -77,8 +77,8 @@ returns c =
     let s = c .before .before .before .before .before in
     let comp = kept (s .shifted .result) (s .shifted .ok) ∙ s .shifted .ensures ∙ ap (λ z. pos (r .timing-of .result .start) +ℤ z) (kept (o .composition-offset .result) (o .composition-offset .ok)) in
     sample-made _ _ _ _ _ _ _ _ _ _ _ _ _ _ _ _ (a .pre .3) (r .before .table .ensures) (r .timing-of .ensures) (o .before .table2 .ensures) (o .composition-offset .ensures .0) comp
-    (p .before .before .before .before .table3 .ensures) (p .before .before .before .table4 .ensures) (p .before .before .table5 .ensures) (p .before .u32-at .ensures) (p .locate .ensures)
-    (y .before .table6 .ensures) (y .is-sync .ensures) (c .before .located-offset .ensures) (c .size-of .ensures)
+    (p .before .before .before .before .table3 .ensures) (p .before .before .before .offset-table .ensures) (p .before .before .table4 .ensures) (p .before .u32-at .ensures) (p .locate .ensures)
+    (y .before .table5 .ensures) (y .is-sync .ensures) (c .before .located-offset .ensures) (c .size-of .ensures) (a .pre .5)
 
 pub sample-in-spec : {M : Type 1} → statement M
 sample-in-spec =
@@ -89,12 +89,12 @@ sample-in-spec =
     table-requires-2
     composition-offset-requires
     table-requires-3
+    offset-table-requires
     table-requires-4
-    table-requires-5
     u32-at-requires
     locate-requires
     shifted-requires
-    table-requires-6
+    table-requires-5
     add-is-sync
     is-sync-requires
     add-t16

@@ -1,0 +1,37 @@
+-- `leaf_checks::is_wrong_track_size` meets its contract, by what the calls ensure.
+-- Assumes nothing.
+use mathlib.Core.Path.{ap, _∙_}
+use mathlib.Core.Bool.{not}
+use Rattle.leaf_checks.specs.LeafChecks.{profileOk}
+use Rattle.leaf_checks.specs.LeafChecks.{wrongTrackSize}
+use Rattle.structure.proofs.Or.{either-are}
+use Rattle.leaf_checks.proofs.is_wrong_track_size.Statement.{statement}
+use Rattle.leaf_checks.proofs.is_wrong_track_size.Tie as tie
+
+has-short-video-description-requires : tie.Need-has-short-video-description-requires
+has-short-video-description-requires c κs = tt
+
+track-profile-requires : tie.Need-track-profile-requires
+track-profile-requires c κs = tt
+
+profile-ok-requires : tie.Need-profile-ok-requires
+profile-ok-requires c κs = tt
+
+either-requires : tie.Need-either-requires
+either-requires c κs = tt
+
+returns : tie.Need-returns
+unfolding wrongTrackSize
+returns c =
+    let b = c .before in
+    either-are (c .either .ensures) (b .before .before .has-short-video-description .ensures) (ap not (b .profile-ok .ensures ∙ ap profileOk (b .before .track-profile .ensures)))
+
+pub is-wrong-track-size-spec : {M : Type 1} → statement M
+is-wrong-track-size-spec =
+    tie.close
+    (tie.spec
+    has-short-video-description-requires
+    track-profile-requires
+    profile-ok-requires
+    either-requires
+    returns)

@@ -1,0 +1,4 @@
+pub mod Tracks
+pub mod Shaped
+pub mod Callers
+mod Examples

@@ -1,0 +1,88 @@
+-- The two ways in agree: rows 1 to 6 are the same (Shapes), the tracks are those of the same moov, and the limit of refusal 12 is the file's length.
+-- Assumes nothing.
+use Prim.Native.Nat.{ℕ}
+use mathlib.Core.Path.{_≡_, refl, sym, ap, _∙_}
+use mathlib.Core.List.{List, [], _∷_}
+use mathlib.Core.Bool.{Bool, true, false}
+use lib.ListN.{length}
+use Rattle.structure.specs.declared.source.Source.{Source}
+use Rattle.structure.specs.Source.{wholeFile, moovAlone, strictly, lengthOf}
+use Rattle.structure.specs.Rows.{some, first, orElse}
+use Rattle.structure.specs.Movie.{moovOf, tracksOf}
+use Rattle.track.specs.Refusals.{otherDuration}
+use Rattle.movie.specs.Refusals.{filmRefusal}
+use Rattle.movie.specs.TableRows.{tableRows, tablesRefusal}
+use Rattle.movie.proofs.Tables.{film-is}
+use Rattle.track_list.specs.TrackList.{trackLines, listRefusal}
+use Rattle.questions.specs.Asked.{askRefusal, trackAsked}
+use Rattle.questions.specs.Samples.{sampleRefusal}
+use Rattle.questions.specs.Times.{atRefusal, atNumber, atEntry, mappedOf}
+use Rattle.profiles.specs.Profiles.{profileAsked, profileNumbers, profileRefusal}
+use Rattle.ways.specs.Ways.{moovAtom, BothWays}
+use Rattle.ways.specs.Agree.{SameAnswers, WaysAgree}
+use Rattle.ways.proofs.Shapes.{moov-same, shape-same}
+
+-- ---- rows 7 to 13 and 19 ask for nothing of the source but whether it is strict
+
+some-same : (f g : List ℕ → Bool) → ((t : List ℕ) → f t ≡ g t) → (ts : List (List ℕ)) → some f ts ≡ some g ts
+unfolding some
+some-same f g h [] = refl
+some-same f g h (t ∷ ts) = rw (h t, some-same f g h ts)
+
+module _ (w v : Source) (e : v .strict ≡ w .strict) where
+  durations-same : (t : List ℕ) → otherDuration v t ≡ otherDuration w t
+  unfolding otherDuration
+  durations-same t = rw e
+
+  tables-same : (len : ℕ) (m : List ℕ) → tablesRefusal v len m ≡ tablesRefusal w len m
+  unfolding tablesRefusal tableRows first
+  tables-same len m = rw (some-same (otherDuration v) (otherDuration w) durations-same (tracksOf m))
+
+-- ---- the answers, from the film's refusal and its moov
+
+module _ (s m : List ℕ) (w v : Source) (e : filmRefusal m v ≡ filmRefusal s w) (d : moovOf m ≡ moovOf s) where
+  ask-same : (id : ℕ) → askRefusal m v id ≡ askRefusal s w id
+  unfolding askRefusal
+  ask-same id = rw (e, d)
+
+  track-same : (id : ℕ) → trackAsked m id ≡ trackAsked s id
+  unfolding trackAsked
+  track-same id = rw d
+
+  same-answers : SameAnswers s w m v
+  unfolding trackLines listRefusal sampleRefusal atRefusal atNumber atEntry mappedOf profileAsked profileNumbers profileRefusal
+  same-answers = record {
+    refusal = e;
+    tracks = λ room. (rw (e, d), rw (e, d));
+    sample = λ id n. rw (ask-same id, track-same id);
+    sample-at = λ id t. rw (ask-same id, track-same id);
+    media-time = λ id t. rw (ask-same id, track-same id, d);
+    feature = λ id code. rw (ask-same id, track-same id, d);
+    peak = λ id code. rw (ask-same id, track-same id);
+    profile = λ id room. (rw (e, ask-same id, track-same id, d), rw (e, ask-same id, track-same id, d));
+  }
+
+-- ---- a file and its moov
+
+module _ (s : List ℕ) (b : BothWays s) (w v : Source) (wa : w .alone ≡ false) (va : v .alone ≡ true) (vl : v .length ≡ length s) (e : v .strict ≡ w .strict) where
+  length-first : lengthOf w s ≡ length s
+  unfolding lengthOf
+  length-first = rw wa
+
+  length-second : lengthOf v (moovAtom s) ≡ length s
+  unfolding lengthOf
+  length-second = rw va vl
+
+  film-same : filmRefusal (moovAtom s) v ≡ filmRefusal s w
+  film-same =
+      film-is (moovAtom s) v
+      ∙ rw (shape-same s b w v wa va vl, length-second, moov-same s b, tables-same w v e (length s) (moovOf s)) (sym (film-is s w ∙ rw length-first))
+
+  agree : SameAnswers s w (moovAtom s) v
+  agree = same-answers s (moovAtom s) w v film-same (moov-same s b)
+
+pub ways-agree : (s : List ℕ) → BothWays s → WaysAgree s
+ways-agree s b = record {
+  default = agree s b wholeFile (moovAlone (length s)) refl refl refl refl;
+  strict = agree s b (strictly wholeFile) (strictly (moovAlone (length s))) refl refl refl refl;
+}

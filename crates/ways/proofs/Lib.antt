@@ -1,0 +1,4 @@
+mod Top
+mod Trees
+mod Shapes
+pub mod Agree

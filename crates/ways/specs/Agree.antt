@@ -1,0 +1,36 @@
+-- What it is that the two ways in agree: the film is refused with the same number, and every question gets the same answer and leaves the same in
+-- lent room. Sample bytes "aren't offered" by the second way.
+use Prim.Native.Nat.{ℕ}
+use mathlib.Core.Path.{_≡_}
+use mathlib.Core.List.{List}
+use lib.ListN.{length}
+use Rattle.edits.specs.declared.MediaTime.{MediaTime}
+use Rattle.edits.specs.declared.MovieTime.{MovieTime}
+use Rattle.structure.specs.declared.source.Source.{Source}
+use Rattle.structure.specs.Source.{wholeFile, moovAlone, strictly}
+use Rattle.movie.specs.Rooms.{roomAfter}
+use Rattle.movie.specs.Refusals.{filmRefusal}
+use Rattle.track_list.specs.TrackList.{trackLines, listRefusal, listAnswer}
+use Rattle.questions.specs.Samples.{sampleAnswer}
+use Rattle.questions.specs.Times.{atAnswer, mapAnswer}
+use Rattle.questions.specs.Feature.{featureAnswer, peakAnswer}
+use Rattle.profiles.specs.Profiles.{profileNumbers, profileRefusal, profileAnswer}
+use Rattle.ways.specs.Ways.{moovAtom, BothWays}
+
+-- the film of the bytes s and the source w, and that of the bytes m and the source v
+pub record SameAnswers (s : List ℕ) (w : Source) (m : List ℕ) (v : Source) : Type 0 where
+  pub refusal : filmRefusal m v ≡ filmRefusal s w
+  pub tracks : (room : List ℕ) → (listAnswer m v room ≡ listAnswer s w room)
+      × (roomAfter (listRefusal m v room) (trackLines m) room ≡ roomAfter (listRefusal s w room) (trackLines s) room)
+  pub sample : (id n : ℕ) → sampleAnswer m v id n ≡ sampleAnswer s w id n
+  pub sample-at : (id : ℕ) (t : MediaTime) → atAnswer m v id t ≡ atAnswer s w id t
+  pub media-time : (id : ℕ) (t : MovieTime) → mapAnswer m v id t ≡ mapAnswer s w id t
+  pub feature : (id code : ℕ) → featureAnswer m v id code ≡ featureAnswer s w id code
+  pub peak : (id code : ℕ) → peakAnswer m v id code ≡ peakAnswer s w id code
+  pub profile : (id : ℕ) (room : List ℕ) → (profileAnswer m v id room ≡ profileAnswer s w id room)
+      × (roomAfter (profileRefusal m v id room) (profileNumbers m id) room ≡ roomAfter (profileRefusal s w id room) (profileNumbers s id) room)
+
+-- a file that both ways can be asked of, by its moov alone with its length, by default and strictly; refused films too
+pub record WaysAgree (s : List ℕ) : Type 0 where
+  pub default : SameAnswers s wholeFile (moovAtom s) (moovAlone (length s))
+  pub strict : SameAnswers s (strictly wholeFile) (moovAtom s) (strictly (moovAlone (length s)))
