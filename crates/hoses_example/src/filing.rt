@@ -23,7 +23,7 @@ enum FilmTime {
 }
 
 // From a up to b.
-fn between(a: u32, b: u32) -> u32 {
+fn between(a: u64, b: u64) -> u64 {
     if a < b {
         return b - a;
     }
@@ -34,7 +34,7 @@ fn between(a: u32, b: u32) -> u32 {
 fn filed_by(bytes: &[u8]) -> FilmTime {
     let mut room = [0u32; PLACES];
     match read_slip(bytes, &mut room) {
-        SlipRead::Accepted(head) => FilmTime::Units(between(head.a, head.b)),
+        SlipRead::Accepted(head) => FilmTime::Units(narrow(between(head.a, head.b))),
         SlipRead::Malformed(_) => FilmTime::Refused(17),
         SlipRead::NoRoom => FilmTime::Refused(16),
     }

@@ -7,7 +7,7 @@ use mathlib.Core.Bool.{Bool, true, false, cond}
 use lib.Dec.{eqb, ltb}
 use lib.ListN.{length}
 use Rattle.slip.specs.Slip.{Outcome, accepted, malformed, refused, numbersFor, roomFor}
-use Rattle.slip.specs.declared.Head.{Head}
+use Rattle.slip_head.specs.declared.Head.{Head}
 use Rattle.structure.specs.Rows.{orElse}
 use Rattle.movie.specs.Rooms.{noRoom, filledRoom, roomAfter}
 use Rattle.hand.specs.Places.{refusalIn, valuesIn}

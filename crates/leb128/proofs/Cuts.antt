@@ -71,7 +71,7 @@ joined-cut (b ∷ bs) = go (ltb b 128) (joined-cut bs)
     go false ih = joined-onto b (cut bs) ∙ ap (λ (l : List ℕ). b ∷ l) ih
 
 -- pieces that are numbers so written are the bytes of these numbers
-written-writes : (bound : ℕ) (ps : List (List ℕ)) → allWritten bound ps ≡ true → (joined ps ≡ writes (values ps)) × Below bound (values ps)
+pub written-writes : (bound : ℕ) (ps : List (List ℕ)) → allWritten bound ps ≡ true → (joined ps ≡ writes (values ps)) × Below bound (values ps)
 unfolding joined allWritten written values writes
 written-writes bound [] e = (refl, tt)
 written-writes bound (p ∷ ps) e =

@@ -8,18 +8,17 @@ use Prim.Native.Nat.{ℕ, zero, suc, _+_, _-_, _*_, _<_, _≤_, _^_}
 use native.Mathlib.Omega.{arith}
 use native.Mathlib.Nat.{mul-add, mul-assoc, mul-le-mul-left}
 use native.Mathlib.Numerals.{add-one}
-use lib.Dec.{eqb}
+use lib.Dec.{eqb, lit<, lit≤}
 use lib.ListN.{length, drop, getD, drop-of-length-le, length-drop, length-append}
 use lib.Seq.{drop-cons, getD-drop}
 use borrow.Author.Tests.{eqb-false, lt-ltb, le-ltb, eq-eqb, ne-eqb}
 use Rattle.leb128.specs.Numbers.{groupsIn}
-use Rattle.leb128.specs.Reading.{limit, Reading, good, broken, short, after, number, readOf, readAt, countedUp, movedBy, stepAt}
+use Rattle.leb128.specs.Reading.{limit, Reading, good, broken, short, after, number, readOf, readAt, moreOf, topOf}
 use Rattle.leb128.specs.Joining.{joined}
 use Rattle.leb128.specs.declared.number.NumberRead.{NumberRead}
 use Rattle.leb128.specs.declared.number.NumberRead.the-variants.{Good, Broken, Short}
-use Rattle.leb128.specs.declared.cursor.Cursor.{Cursor}
-use Rattle.leb128.specs.declared.cursor.Step.{Step}
-use Rattle.leb128.proofs.Groups.{Written, number-written, groups-some, limit-pred}
+use Rattle.leb128.proofs.Groups.{Written, number-written, number-groups, groups-some, limit-pred, limit32, limit64}
+use Rattle.leb128.proofs.Cuts.{small-ten}
 
 module _ (top : ℕ) (bs : List ℕ) (at : ℕ) where
   pub read-end : (k : ℕ) → length bs ≤ at → readAt k top bs at ≡ Short (length bs)
@@ -174,31 +173,24 @@ read-next top bs at k m next p t are e =
     let w = read-written top bs at k m next p t are e in
     omega (arith, w .count, groups-some k m, ap length (w .bytes), length-append (groupsIn k m) (drop (next - at) (drop at bs)), length-drop at bs, read-good top bs at k m next e .2)
 
--- the step at a cursor, by what was read there
-unfoldable pub stepWith : Cursor → NumberRead → Step
-stepWith c r = record { cursor = movedBy r c; read = r }
+-- a number that is good is good by wider limits too
+pub read-wider : (k top k′ top′ : ℕ) (bs : List ℕ) (at : ℕ) → 0 < top → top ≤ 128 → k ≤ 9 → top′ ≤ 128 → limit k top ≤ limit k′ top′ → limit k top ≤ 2 ^ 64 → ((i : ℕ) → getD bs i 0 < 256)
+    → (n next : ℕ) → readAt k top bs at ≡ Good n next → readAt k′ top′ bs at ≡ Good n next
+unfolding readAt readOf
+read-wider k top k′ top′ bs at p t nine t′ l w are n next e =
+    let r = read-good top bs at k n next e in
+    let v = number-written k top 9 (drop at bs) n (r .0) p t nine (λ i. rw (getD-drop at bs i 0) (are (at + i))) (r .1) in
+    let g : number k′ top′ (drop at bs) ≡ good n (r .0) =
+    ap (number k′ top′) (v .bytes) ∙ number-groups k′ top′ 9 n (drop (r .0) (drop at bs)) t′ (omega (arith, v .below)) (small-ten n (omega (arith, v .below))) ∙ ap (good n) (sym (v .count)) in
+    ap (readOf (length bs) at) g ∙ ap (Good n) (sym (r .2))
 
-module _ (bs : List ℕ) (c : Cursor) (r : NumberRead) (e : r ≡ readAt 4 16 bs (c .at)) where
-  pub step-good : (n next : ℕ) → r ≡ Good n next → stepAt bs c ≡ record { cursor = record { at = next; count = countedUp (c .count) }; read = Good n next }
-  unfolding stepWith movedBy
-  step-good n next g = ap (stepWith c) (sym e ∙ g)
+-- the two widths: what their limits keep to
+pub record Width (k top : ℕ) : Type 0 where
+  pub some : 0 < top
+  pub seven : top ≤ 128
+  pub ten : k ≤ 9
+  pub fits : limit k top ≤ 2 ^ 64
 
-  pub step-broken : (q : ℕ) → r ≡ Broken q → stepAt bs c ≡ record { cursor = c; read = r }
-  unfolding stepWith movedBy
-  step-broken q g = ap (stepWith c) (sym e ∙ g) ∙ ap (λ (x : NumberRead). record { cursor = c; read = x }) (sym g)
-
-  pub step-short : (q : ℕ) → r ≡ Short q → stepAt bs c ≡ record { cursor = c; read = r }
-  unfolding stepWith movedBy
-  step-short q g = ap (stepWith c) (sym e ∙ g) ∙ ap (λ (x : NumberRead). record { cursor = c; read = x }) (sym g)
-
--- a step that read a good number: where its cursor is
-pub step-moved : (bs : List ℕ) (c : Cursor) (t : Step) → t ≡ stepAt bs c → (n next : ℕ) → t .read ≡ Good n next → (t .cursor .at ≡ next) × (t .cursor .count ≡ countedUp (c .count))
-unfolding movedBy
-step-moved bs c t e n next g =
-    let same : t .cursor ≡ movedBy (Good n next) c = ap (λ (x : Step). x .cursor) e ∙ ap (λ (r : NumberRead). movedBy r c) (sym (ap (λ (x : Step). x .read) e) ∙ g) in
-    (ap (λ (x : Cursor). x .at) same, ap (λ (x : Cursor). x .count) same)
-
--- below the largest count one is added
-pub counted-one : (n : ℕ) → n < 2 ^ 64 - 1 → countedUp n ≡ n + 1
-unfolding countedUp
-counted-one n h = rw (lt-ltb n (2 ^ 64 - 1) h)
+pub width : (wide : Bool) → Width (moreOf wide) (topOf wide)
+width true = record { some = lit< tt; seven = lit≤ tt; ten = lit≤ tt; fits = omega (arith, limit64) }
+width false = record { some = lit< tt; seven = lit≤ tt; ten = lit≤ tt; fits = omega (arith, limit32) }

@@ -1,14 +1,12 @@
 -- Reading one number at a place, and where reading stops: past a good number, on a broken one's first byte, at the end for one cut short.
 -- Over the width: at most k + 1 groups, and the last of k + 1 groups below top. `limit 4 16` is 2 ^ 32, `limit 9 2` is 2 ^ 64.
-use mathlib.Core.Bool.{cond}
+use mathlib.Core.Bool.{Bool, cond}
 use mathlib.Core.List.{List, [], _∷_}
-use Prim.Native.Nat.{ℕ, zero, suc, _+_, _-_, _*_, _^_}
+use Prim.Native.Nat.{ℕ, zero, suc, _+_, _-_, _*_}
 use lib.Dec.{ltb, eqb}
 use lib.ListN.{length, drop}
 use Rattle.leb128.specs.declared.number.NumberRead.{NumberRead}
 use Rattle.leb128.specs.declared.number.NumberRead.the-variants.{Good, Broken, Short}
-use Rattle.leb128.specs.declared.cursor.Cursor.{Cursor}
-use Rattle.leb128.specs.declared.cursor.Step.{Step}
 
 -- how many numbers k + 1 groups write, if the last is below top
 unfoldable pub limit : ℕ → ℕ → ℕ
@@ -42,15 +40,9 @@ readOf end at short = Short end
 unfoldable pub readAt : ℕ → ℕ → List ℕ → ℕ → NumberRead
 readAt k top bs at = readOf (length bs) at (number k top (drop at bs))
 
--- one number more; the largest count stays, and no slip reaches it, since each number takes a byte
-unfoldable pub countedUp : ℕ → ℕ
-countedUp n = cond (ltb n (2 ^ 64 - 1)) (n + 1) n
+-- the two widths of document 02: numbers below 2 ^ 64 in up to ten bytes, the tenth below 2, and numbers below 2 ^ 32 in up to five, the fifth below 16
+abbrev pub moreOf : Bool → ℕ
+moreOf wide = cond wide 9 4
 
--- "The reading place moves past each number and counts the numbers read": past a good one; else it stays
-unfoldable pub movedBy : NumberRead → Cursor → Cursor
-movedBy (Good n next) c = record { at = next; count = countedUp (c .count) }
-movedBy (Broken p) c = c
-movedBy (Short p) c = c
-
-abbrev pub stepAt : List ℕ → Cursor → Step
-stepAt bs c = record { cursor = movedBy (readAt 4 16 bs (c .at)) c; read = readAt 4 16 bs (c .at) }
+abbrev pub topOf : Bool → ℕ
+topOf wide = cond wide 2 16

@@ -2,7 +2,7 @@
 ghost use mathlib.Core.Path.{_≡_};
 ghost use Prim.Native.Nat.{_+_, _*_, _≤_, _<_, _^_};
 ghost use lib.Dec.{eqb};
-ghost use Rattle.leb128.specs.Reading.{limit, readAt};
+ghost use Rattle.leb128.specs.Reading.{limit, moreOf, topOf, readAt};
 ghost use Rattle.leb128.specs.Joining.{joined};
 ghost use Rattle.leb128.specs.declared.number.NumberRead.the-variants.{Good};
 
@@ -56,9 +56,12 @@ fn number_in(bytes: &[u8], at: usize, more: usize, top: u8) -> NumberRead
     NumberRead::Short(bytes.len())
 }
 
-// The number below 2^32 at a place: five groups, the fifth below 16.
-pub fn number_at(bytes: &[u8], at: usize) -> NumberRead
-    ensures { λ r. ⌜ r ≡ readAt 4 16 (now (bytes .entry)) at ⌝ }
+// The number at a place: below 2^64 where wide, in ten groups at most, the tenth below 2; else below 2^32, in five, the fifth below 16.
+pub fn number_at(bytes: &[u8], at: usize, wide: bool) -> NumberRead
+    ensures { λ r. ⌜ r ≡ readAt (moreOf wide) (topOf wide) (now (bytes .entry)) at ⌝ }
 {
+    if wide {
+        return number_in(bytes, at, 9, 2);
+    }
     number_in(bytes, at, 4, 16)
 }

@@ -3,32 +3,38 @@
 -- Assumes nothing.
 use mathlib.Core.Path.{_≡_, refl, ap, sym, subst, _∙_}
 use mathlib.Core.Logic.{⊎-elim}
-use mathlib.Core.Bool.{Bool, true, false, cond}
+use mathlib.Core.Bool.{Bool, true, false, cond, _&&_}
 use mathlib.Core.List.{List, [], _∷_}
 use Prim.Native.Nat.{ℕ, zero, suc, _+_, _*_, _<_, _≤_, _^_}
 use native.Mathlib.Omega.{arith}
 use lib.Dec.{eqb, lit<, lit≤}
 use lib.ListN.{length, getD, drop, length-drop}
 use borrow.Author.Tests.{eqb-true, eqb-false, eq-eqb, ne-eqb}
-use Rattle.leb128.specs.Numbers.{value, cut, written, cutShort}
+use Rattle.leb128.specs.Numbers.{writes, value, cut, written, values, cutShort}
 use Rattle.leb128.specs.Reading.{limit, readAt}
 use Rattle.leb128.specs.declared.number.NumberRead.{NumberRead}
 use Rattle.leb128.specs.declared.number.NumberRead.the-variants.{Good, Broken, Short}
 use Rattle.leb128.proofs.Pieces.{cut-none, IsNumber, piece-good, piece-broken, piece-short}
-use Rattle.slip.specs.Slip.{allowed, keeps, wanted, Fault, at, faultFrom}
-use Rattle.slip.specs.Steps.{NumberRun, all, stopped, prepend, ruled, run, afterPairs, afterHead, restIn, byForm, scanIn}
-use Rattle.slip.specs.declared.read.SlipScan.the-variants.{Slip, Malformed}
-use Rattle.slip.proofs.Runs.{run-ran}
+use Rattle.slip_head.specs.Bytes.{afterForm}
+use Rattle.slip_head.proofs.Forms.{below-narrow, widen, rules-at, all-below, but-count}
+use Rattle.slip_scan.specs.Rules.{allowed}
+use Rattle.slip.specs.Slip.{wanted, Fault, at, faultFrom, wideFault, restFault, slipFault}
+use Rattle.slip_scan.specs.Steps.{NumberRun, all, stopped, prepend, ruled, run, afterPairs, afterHead, restIn, widened, wideIn, byForm, scanIn, valuesFrom}
+use Rattle.slip_scan.specs.declared.SlipScan.{SlipScan}
+use Rattle.slip_scan.specs.declared.SlipScan.the-variants.{Slip, Malformed}
+use Rattle.slip_scan.proofs.Runs.{run-ran}
+use Rattle.slip.proofs.Slips.{rules-none}
+use Rattle.slip.proofs.Rests.{rest-only}
 
 -- ---- one piece
 
 module _ (k bound i prev want place : ℕ) (n : i ≡ want → ⊥) where
-  fault-next : (p : List ℕ) (ps : List (List ℕ)) (m : ℕ) → IsNumber k bound p m → keeps i prev m ≡ true
+  fault-next : (p : List ℕ) (ps : List (List ℕ)) (m : ℕ) → IsNumber k bound p m → allowed i prev m ≡ true
       → faultFrom k bound i prev want place (p ∷ ps) ≡ faultFrom k bound (suc i) m (wanted i want m) (place + length p) ps
   unfolding faultFrom
   fault-next p ps m is o = rw (ne-eqb i want n, is .ended, is .right, is .count, o)
 
-  fault-rule : (p : List ℕ) (ps : List (List ℕ)) (m : ℕ) → IsNumber k bound p m → keeps i prev m ≡ false → faultFrom k bound i prev want place (p ∷ ps) ≡ at place
+  fault-rule : (p : List ℕ) (ps : List (List ℕ)) (m : ℕ) → IsNumber k bound p m → allowed i prev m ≡ false → faultFrom k bound i prev want place (p ∷ ps) ≡ at place
   unfolding faultFrom
   fault-rule p ps m is o = rw (ne-eqb i want n, is .ended, is .right, is .count, o)
 
@@ -45,18 +51,14 @@ module _ (k bound i prev want place : ℕ) (n : i ≡ want → ⊥) where
   fault-end = rw (ne-eqb i want n)
 
 -- the number before has a say in b's rule alone
-keeps-any : (i prev other n : ℕ) → (i ≡ 4 → ⊥) → keeps i prev n ≡ keeps i other n
-unfolding keeps allowed
-keeps-any i prev other n h = rw (ne-eqb i 4 h)
+allowed-any : (i prev other n : ℕ) → (i ≡ 4 → ⊥) → allowed i prev n ≡ allowed i other n
+unfolding allowed
+allowed-any i prev other n h = rw (ne-eqb i 4 h)
 
 fault-any : (k bound i prev other want place : ℕ) (ps : List (List ℕ)) → (i ≡ 4 → ⊥) → faultFrom k bound i prev want place ps ≡ faultFrom k bound i other want place ps
 unfolding faultFrom
 fault-any k bound i prev other want place [] h = refl
-fault-any k bound i prev other want place (p ∷ ps) h = rw (keeps-any i prev other (value p) h)
-
-keeps-past : (i prev m : ℕ) → 0 < i → keeps i prev m ≡ allowed i prev m
-unfolding keeps
-keeps-past i prev m h = rw (ne-eqb i 0 (λ z. omega arith))
+fault-any k bound i prev other want place (p ∷ ps) h = rw (allowed-any i prev other (value p) h)
 
 -- ---- the number at a place
 
@@ -66,7 +68,7 @@ module _ (k top : ℕ) (pos : 0 < top) (t : top ≤ 128) (nine : k ≤ 9) (w : l
   faultAt i prev want place = faultFrom k (limit k top) i prev want place (cut (drop place bs))
 
   module _ (i prev want place : ℕ) (n : i ≡ want → ⊥) where
-    at-good : (m next : ℕ) → readAt k top bs place ≡ Good m next → keeps i prev m ≡ true → (faultAt i prev want place ≡ faultAt (suc i) m (wanted i want m) next) × (next ≤ length bs)
+    at-good : (m next : ℕ) → readAt k top bs place ≡ Good m next → allowed i prev m ≡ true → (faultAt i prev want place ≡ faultAt (suc i) m (wanted i want m) next) × (next ≤ length bs)
     at-good m next e o =
         let g = piece-good k top pos t nine w bs are place m next e in (
           ap (faultFrom k (limit k top) i prev want place) (g .1)
@@ -75,7 +77,7 @@ module _ (k top : ℕ) (pos : 0 < top) (t : top ≤ 128) (nine : k ≤ 9) (w : l
           g .4,
         )
 
-    at-rule : (m next : ℕ) → readAt k top bs place ≡ Good m next → keeps i prev m ≡ false → faultAt i prev want place ≡ at place
+    at-rule : (m next : ℕ) → readAt k top bs place ≡ Good m next → allowed i prev m ≡ false → faultAt i prev want place ≡ at place
     at-rule m next e o =
         let g = piece-good k top pos t nine w bs are place m next e in
         ap (faultFrom k (limit k top) i prev want place) (g .1) ∙ fault-rule k (limit k top) i prev want place n (g .0) (cut (drop next bs)) m (g .2) o
@@ -117,13 +119,13 @@ module _ (k top : ℕ) (pos : 0 < top) (t : top ≤ 128) (nine : k ≤ 9) (w : l
   leads-next c i prev want place m next (stopped p) e r = e ∙ r
 
   -- as many numbers are wanted, and of the head no more than it has before its count is read
-  leads : (c i prev want place : ℕ) → 0 < i → i + c ≤ want → (i ≤ 5 → i + c ≤ 6) → place ≤ length bs → Leads c i prev want place (run k top bs c i prev place)
+  leads : (c i prev want place : ℕ) → i + c ≤ want → (i ≤ 5 → i + c ≤ 6) → place ≤ length bs → Leads c i prev want place (run k top bs c i prev place)
   unfolding run ruled wanted
-  leads zero i prev want place s h g l = let z : i ≡ i + 0 = omega arith in (ap (λ (x : ℕ). faultAt x prev want place) z, l)
-  leads (suc c) i prev want place s h g l = go (readAt k top bs place) refl (λ m next. leads c (i + 1) m (wanted i want m) next)
+  leads zero i prev want place h g l = let z : i ≡ i + 0 = omega arith in (ap (λ (x : ℕ). faultAt x prev want place) z, l)
+  leads (suc c) i prev want place h g l = go (readAt k top bs place) refl (λ m next. leads c (i + 1) m (wanted i want m) next)
     where
       IH : Type 0
-      IH = (m next : ℕ) → 0 < i + 1 → i + 1 + c ≤ wanted i want m → (i + 1 ≤ 5 → i + 1 + c ≤ 6) → next ≤ length bs
+      IH = (m next : ℕ) → i + 1 + c ≤ wanted i want m → (i + 1 ≤ 5 → i + 1 + c ≤ 6) → next ≤ length bs
           → Leads c (i + 1) m (wanted i want m) next (run k top bs c (i + 1) m next)
 
       n : i ≡ want → ⊥
@@ -139,10 +141,10 @@ module _ (k top : ℕ) (pos : 0 < top) (t : top ≤ 128) (nine : k ≤ 9) (w : l
       by-rule : (m next : ℕ) → readAt k top bs place ≡ Good m next → IH → (f : Bool) → allowed i prev m ≡ f
           → Leads (suc c) i prev want place (cond f (prepend m (run k top bs c (i + 1) m next)) (stopped place))
       by-rule m next e ih true f =
-          let a = at-good i prev want place n m next e (keeps-past i prev m s ∙ f) in
+          let a = at-good i prev want place n m next e f in
           let z : suc i ≡ i + 1 = omega arith in
-          leads-next c i prev want place m next (run k top bs c (i + 1) m next) (a .0 ∙ ap (λ (x : ℕ). faultAt x m (wanted i want m) next) z) (ih m next (omega arith) (enough m (eqb i 5) refl) few (a .1))
-      by-rule m next e ih false f = at-rule i prev want place n m next e (keeps-past i prev m s ∙ f)
+          leads-next c i prev want place m next (run k top bs c (i + 1) m next) (a .0 ∙ ap (λ (x : ℕ). faultAt x m (wanted i want m) next) z) (ih m next (enough m (eqb i 5) refl) few (a .1))
+      by-rule m next e ih false f = at-rule i prev want place n m next e f
 
       go : (r : NumberRead) → readAt k top bs place ≡ r → IH → Leads (suc c) i prev want place (ruled (allowed i prev) place (λ m next. run k top bs c (i + 1) m next) r)
       go (Good m next) e ih = by-rule m next e ih (allowed i prev m) refl
@@ -150,12 +152,12 @@ module _ (k top : ℕ) (pos : 0 < top) (t : top ≤ 128) (nine : k ≤ 9) (w : l
       go (Short q) e ih = at-short i prev want place n q e l
 
   -- a run by what it is
-  leads-all : (c i prev want place : ℕ) (ns : List ℕ) (end : ℕ) → 0 < i → i + c ≤ want → (i ≤ 5 → i + c ≤ 6) → place ≤ length bs → run k top bs c i prev place ≡ all ns end
+  leads-all : (c i prev want place : ℕ) (ns : List ℕ) (end : ℕ) → i + c ≤ want → (i ≤ 5 → i + c ≤ 6) → place ≤ length bs → run k top bs c i prev place ≡ all ns end
       → (faultAt i prev want place ≡ faultAt (i + c) (prevAfter prev ns) (wantAfter i want ns) end) × (end ≤ length bs)
-  leads-all c i prev want place ns end s h g l e = subst (Leads c i prev want place) e (leads c i prev want place s h g l)
+  leads-all c i prev want place ns end h g l e = subst (Leads c i prev want place) e (leads c i prev want place h g l)
 
-  leads-stopped : (c i prev want place p : ℕ) → 0 < i → i + c ≤ want → (i ≤ 5 → i + c ≤ 6) → place ≤ length bs → run k top bs c i prev place ≡ stopped p → faultAt i prev want place ≡ at p
-  leads-stopped c i prev want place p s h g l e = subst (Leads c i prev want place) e (leads c i prev want place s h g l)
+  leads-stopped : (c i prev want place p : ℕ) → i + c ≤ want → (i ≤ 5 → i + c ≤ 6) → place ≤ length bs → run k top bs c i prev place ≡ stopped p → faultAt i prev want place ≡ at p
+  leads-stopped c i prev want place p h g l e = subst (Leads c i prev want place) e (leads c i prev want place h g l)
 
   -- ---- past the last number
 
@@ -195,7 +197,7 @@ module _ (k top : ℕ) (pos : 0 < top) (t : top ≤ 128) (nine : k ≤ 9) (w : l
       go₃ ns ps place end h r false f e′ =
           let want = 6 + 2 * getD ns 4 0 in
           let q : end ≡ p = cc in
-          let w = leads-all (2 * getD ns 4 0) 6 0 want place ps end (omega arith) (omega arith) (λ z. absurd (omega arith)) h r in
+          let w = leads-all (2 * getD ns 4 0) 6 0 want place ps end (omega arith) (λ z. absurd (omega arith)) h r in
           w .0 ∙ ap (λ (x : ℕ). faultAt want (prevAfter 0 ps) x end) (want-pairs 6 want ps (omega arith)) ∙ surplus want (prevAfter 0 ps) end (w .1) (eqb-false end (length bs) f) ∙ ap at q
 
       go₂ : (ns : List ℕ) (place : ℕ) → place ≤ length bs → (u : NumberRun) → run k top bs (2 * getD ns 4 0) 6 0 place ≡ u → afterPairs bs ns place u ≡ Malformed p
@@ -203,11 +205,11 @@ module _ (k top : ℕ) (pos : 0 < top) (t : top ≤ 128) (nine : k ≤ 9) (w : l
       go₂ ns place h (all ps end) r e′ = go₃ ns ps place end h r (eqb end (length bs)) refl e′
       go₂ ns place h (stopped x) r e′ =
           let q : x ≡ p = cc in
-          leads-stopped (2 * getD ns 4 0) 6 0 (6 + 2 * getD ns 4 0) place x (omega arith) (omega arith) (λ z. absurd (omega arith)) h r ∙ ap at q
+          leads-stopped (2 * getD ns 4 0) 6 0 (6 + 2 * getD ns 4 0) place x (omega arith) (λ z. absurd (omega arith)) h r ∙ ap at q
 
       go₁ : (u : NumberRun) → run k top bs 5 1 0 from ≡ u → afterHead k top bs u ≡ Malformed p → faultAt 1 0 6 from ≡ at p
       go₁ (all ns place) r e′ =
-          let w = leads-all 5 1 0 6 from ns place (omega arith) (omega arith) (λ z. omega arith) l r in
+          let w = leads-all 5 1 0 6 from ns place (omega arith) (λ z. omega arith) l r in
           let c = run-ran k top bs 5 1 0 from ns place pos t nine are r .count in
           w .0
           ∙ ap (λ (x : ℕ). faultAt 6 (prevAfter 0 ns) x place) (want-head ns c)
@@ -215,26 +217,63 @@ module _ (k top : ℕ) (pos : 0 < top) (t : top ≤ 128) (nine : k ≤ 9) (w : l
           ∙ go₂ ns place (w .1) (run k top bs (2 * getD ns 4 0) 6 0 place) refl e′
       go₁ (stopped x) r e′ =
           let q : x ≡ p = cc in
-          leads-stopped 5 1 0 6 from x (omega arith) (omega arith) (λ z. omega arith) l r ∙ ap at q
+          leads-stopped 5 1 0 6 from x (omega arith) (λ z. omega arith) l r ∙ ap at q
 
 -- ---- the form, and what follows it
 
-pub found-fault : (bs : List ℕ) → ((x : ℕ) → getD bs x 0 < 256) → (p : ℕ) → scanIn bs ≡ Malformed p → faultFrom 4 (2 ^ 32) 0 0 6 0 (cut bs) ≡ at p
-unfolding scanIn byForm limit keeps wanted
-found-fault bs are p e = go (readAt 4 16 bs 0) refl e
-  where
-    n : _≡_ {A = ℕ} 0 6 → ⊥
-    n z = omega arith
+module _ (any : Bool) (bs : List ℕ) (are : (x : ℕ) → getD bs x 0 < 256) where
+  -- a good form: the fault is past it
+  form-good : (m next : ℕ) → readAt 4 16 bs 0 ≡ Good m next → (slipFault any (cut bs) ≡ restFault any m next (cut (drop next bs))) × (next ≤ length bs)
+  unfolding slipFault limit
+  form-good m next q =
+      let g = piece-good 4 16 (lit< tt) (lit≤ tt) (lit≤ tt) (omega arith) bs are 0 m next q in
+      let e : length (g .0) ≡ next = omega (arith, g .3) in
+      (ap (slipFault any) (g .1) ∙ rw (g .2 .ended, g .2 .right, g .2 .count, e), g .4)
 
-    test : (m next : ℕ) → readAt 4 16 bs 0 ≡ Good m next → (f : Bool) → eqb m 1 ≡ f → cond f (restIn 4 16 bs next) (Malformed 0) ≡ Malformed p → faultFrom 4 (2 ^ 32) 0 0 6 0 (cut bs) ≡ at p
-    test m next q true f e′ =
-        let g = at-good 4 16 (lit< tt) (lit≤ tt) (lit≤ tt) (omega arith) bs are 0 0 6 0 n m next q f in
-        g .0 ∙ rest-fault 4 16 (lit< tt) (lit≤ tt) (lit≤ tt) (omega arith) bs are m next p (g .1) e′
-    test m next q false f e′ =
-        let z : 0 ≡ p = cc in
-        at-rule 4 16 (lit< tt) (lit≤ tt) (lit≤ tt) (omega arith) bs are 0 0 6 0 n m next q f ∙ ap at z
+  form-broken : (q : ℕ) → readAt 4 16 bs 0 ≡ Broken q → slipFault any (cut bs) ≡ at q
+  unfolding slipFault limit
+  form-broken q e =
+      let g = piece-broken 4 16 (lit< tt) (lit≤ tt) (lit≤ tt) (omega arith) bs are 0 q e in
+      ap (slipFault any) (g .2) ∙ rw (g .3, g .4) (ap at (sym (g .5)))
 
-    go : (r : NumberRead) → readAt 4 16 bs 0 ≡ r → byForm bs r ≡ Malformed p → faultFrom 4 (2 ^ 32) 0 0 6 0 (cut bs) ≡ at p
-    go (Good m next) q e′ = test m next q (eqb m 1) refl e′
-    go (Broken x) q e′ = let z : x ≡ p = cc in at-broken 4 16 (lit< tt) (lit≤ tt) (lit≤ tt) (omega arith) bs are 0 0 6 0 n x q ∙ ap at z
-    go (Short x) q e′ = let z : x ≡ p = cc in at-short 4 16 (lit< tt) (lit≤ tt) (lit≤ tt) (omega arith) bs are 0 0 6 0 n x q (omega arith) ∙ ap at z
+  form-short : (q : ℕ) → readAt 4 16 bs 0 ≡ Short q → slipFault any (cut bs) ≡ at q
+  unfolding slipFault limit
+  form-short q e =
+      let g = piece-short 4 16 (lit< tt) (lit≤ tt) (lit≤ tt) (omega arith) bs are 0 q e (omega arith) in
+      ⊎-elim (λ c. ap (slipFault any) (c .0) ∙ ap at (c .1 ∙ sym (g .0))) (λ c. let z : length (c .0) ≡ q = omega (arith, c .4, g .0) in ap (slipFault any) (c .2) ∙ rw (c .3) (ap at z)) (g .1)
+
+  -- past form 2
+  wide-fault : (next p : ℕ) → next ≤ length bs → wideIn bs next ≡ Malformed p → wideFault (values (cut (drop next bs))) (faultFrom 9 (2 ^ 64) 1 2 6 next (cut (drop next bs))) ≡ at p
+  unfolding wideIn widened wideFault limit
+  wide-fault next p l e = go (restIn 4 16 bs next) refl e
+    where
+      go : (u : SlipScan) → restIn 4 16 bs next ≡ u → widened u (restIn 9 2 bs next) ≡ Malformed p → wideFault (values (cut (drop next bs))) (faultFrom 9 (2 ^ 64) 1 2 6 next (cut (drop next bs))) ≡ at p
+      go (Slip h place) f e′ =
+          let z : 0 ≡ p = cc in
+          let r = rest-only 4 16 4 16 (lit≤ tt) (lit< tt) (lit≤ tt) bs (λ x n y w. w) next h place are f in
+          let ps = valuesFrom 4 16 bs (2 * h .pairs) place in
+          let c : cut (drop next bs) ≡ cut (writes (afterForm h ps)) = ap cut (r .bytes) in
+          let b = all-below (2 ^ 32) h ps (omega arith) (r .rules) in
+          let wide = rules-at (2 ^ 32) (2 ^ 64) h ps (r .rules) (but-count (2 ^ 64) h ps (widen (2 ^ 32) (2 ^ 64) (afterForm h ps) (omega arith) b)) in
+          let n = rules-none 9 (2 ^ 64) 2 next h ps (omega arith) (omega arith) wide in
+          rw c (rw (n .0, n .1, below-narrow (afterForm h ps) b) (ap at z))
+      go (Malformed x) f e′ = ap (wideFault (values (cut (drop next bs)))) (rest-fault 9 2 (lit< tt) (lit≤ tt) (lit≤ tt) (omega arith) bs are 2 next p l e′)
+
+  pub found-fault : (p : ℕ) → scanIn any bs ≡ Malformed p → slipFault any (cut bs) ≡ at p
+  unfolding scanIn byForm restFault limit
+  found-fault p e = go (readAt 4 16 bs 0) refl e
+    where
+      second : (m next : ℕ) → next ≤ length bs → (f : Bool) → cond f (wideIn bs next) (Malformed 0) ≡ Malformed p
+          → cond f (wideFault (values (cut (drop next bs))) (faultFrom 9 (2 ^ 64) 1 2 6 next (cut (drop next bs)))) (at 0) ≡ at p
+      second m next l true e′ = wide-fault next p l e′
+      second m next l false e′ = let z : 0 ≡ p = cc in ap at z
+
+      first : (m next : ℕ) → next ≤ length bs → (f : Bool) → cond f (restIn 4 16 bs next) (cond (any && eqb m 2) (wideIn bs next) (Malformed 0)) ≡ Malformed p
+          → cond f (faultFrom 4 (2 ^ 32) 1 1 6 next (cut (drop next bs))) (cond (any && eqb m 2) (wideFault (values (cut (drop next bs))) (faultFrom 9 (2 ^ 64) 1 2 6 next (cut (drop next bs)))) (at 0)) ≡ at p
+      first m next l true e′ = rest-fault 4 16 (lit< tt) (lit≤ tt) (lit≤ tt) (omega arith) bs are 1 next p l e′
+      first m next l false e′ = second m next l (any && eqb m 2) e′
+
+      go : (r : NumberRead) → readAt 4 16 bs 0 ≡ r → byForm any bs r ≡ Malformed p → slipFault any (cut bs) ≡ at p
+      go (Good m next) q e′ = let g = form-good m next q in g .0 ∙ first m next (g .1) (eqb m 1) e′
+      go (Broken x) q e′ = let z : x ≡ p = cc in form-broken x q ∙ ap at z
+      go (Short x) q e′ = let z : x ≡ p = cc in form-short x q ∙ ap at z

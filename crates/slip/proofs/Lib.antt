@@ -1,7 +1,7 @@
 pub mod Examples
-pub mod Runs
 pub mod Slips
+pub mod Rests
 pub mod Faults
 pub mod Found
 pub mod Promises
-pub mod Writes
+pub mod Readers

@@ -1,4 +1,4 @@
--- What every answer of `read_slip` keeps, whatever the bytes and the room: a slip written reads back, given room, as the same numbers; a slip accepted is the
+-- What every answer of `read_slip` and `read_any_slip` keeps, whatever the bytes and the room: a slip written reads back, given room, as the same numbers; a slip accepted is the
 -- only writing of its numbers; bytes are refused 17 exactly if they are the writing of no numbers that keep document 01's rules. The idea: `slip-read` and
 -- `slip-only` decide what the bytes are, and an answer is decided by its numbers.
 -- Assumes nothing.
@@ -11,13 +11,14 @@ use lib.ListN.{length, take, drop}
 use lib.Seq.{take-at}
 use lib.Dec.{ltb}
 use borrow.Author.Tests.{lt-ltb, le-ltb, ltb-true, ltb-false}
-use Rattle.slip.specs.Slip.{headNumbers, slipBytes, Outcome, accepted, malformed, slipIn, Rules, IsSlip, slipReadNumbers, numbersFor, roomFor, Reads}
-use Rattle.slip.specs.declared.Head.{Head}
-use Rattle.slip.specs.declared.read.SlipRead.{SlipRead}
-use Rattle.slip.specs.declared.read.SlipRead.the-variants.{Accepted, Malformed, NoRoom}
+use Rattle.slip_head.specs.Bytes.{afterForm, headNumbers, anyWide, formFor, slipBytes, Rules}
+use Rattle.slip_head.specs.declared.Head.{Head}
+use Rattle.slip_head.proofs.Writes.{put-slip}
+use Rattle.slip.specs.Slip.{Outcome, accepted, malformed, slipIn, boundOf, IsSlip, slipReadNumbers, numbersFor, roomFor, Reads}
+use Rattle.slip.specs.declared.SlipRead.{SlipRead}
+use Rattle.slip.specs.declared.SlipRead.the-variants.{Accepted, Malformed, NoRoom}
 use Rattle.slip.proofs.Slips.{slip-read, slip-only}
 use Rattle.leb128.proofs.Puts.{Put}
-use Rattle.slip.proofs.Writes.{put-slip}
 
 -- no two answers have the same numbers
 pub numbers-only : (r s : SlipRead) → slipReadNumbers r ≡ slipReadNumbers s → r ≡ s
@@ -39,41 +40,41 @@ numbers-only NoRoom (Malformed q) e = absurd (let z : _≡_ {A = ℕ} 16 17 = cc
 numbers-only NoRoom NoRoom e = refl
 
 -- the slip of some numbers is one
-pub one-slip : (bs cs : List ℕ) (h : Head) (pairs : List ℕ) → IsSlip bs h pairs → IsSlip cs h pairs → bs ≡ cs
-one-slip bs cs h pairs s t = s .bytes ∙ sym (t .bytes)
+pub one-slip : (any : Bool) (bs cs : List ℕ) (h : Head) (pairs : List ℕ) → IsSlip any bs h pairs → IsSlip any cs h pairs → bs ≡ cs
+one-slip any bs cs h pairs s t = s .bytes ∙ sym (t .bytes)
 
-module _ (bs room : List ℕ) (r : SlipRead) (after : List ℕ) (reads : Reads bs room r after) where
+module _ (any : Bool) (bs room : List ℕ) (r : SlipRead) (after : List ℕ) (reads : Reads any bs room r after) where
   -- a slip written reads back, given room, as the same numbers
-  pub reads-back : (h : Head) (pairs : List ℕ) → IsSlip bs h pairs → length pairs ≤ length room → (r ≡ Accepted h) × (after ≡ pairs ++ drop (length pairs) room)
+  pub reads-back : (h : Head) (pairs : List ℕ) → IsSlip any bs h pairs → length pairs ≤ length room → (r ≡ Accepted h) × (after ≡ pairs ++ drop (length pairs) room)
   unfolding slipReadNumbers numbersFor roomFor
   reads-back h pairs s l =
-      let e = slip-read bs h pairs s in
+      let e = slip-read any bs h pairs s in
       let enough = le-ltb (length room) (length pairs) l in
       (numbers-only r (Accepted h) (reads .numbers ∙ ap (numbersFor (length room)) e ∙ rw enough), reads .places ∙ ap (roomFor room) e ∙ rw enough)
 
   -- with less room it is refused 16, and the room stays
-  pub reads-no-room : (h : Head) (pairs : List ℕ) → IsSlip bs h pairs → length room < length pairs → (r ≡ NoRoom) × (after ≡ room)
+  pub reads-no-room : (h : Head) (pairs : List ℕ) → IsSlip any bs h pairs → length room < length pairs → (r ≡ NoRoom) × (after ≡ room)
   unfolding slipReadNumbers numbersFor roomFor
   reads-no-room h pairs s l =
-      let e = slip-read bs h pairs s in
+      let e = slip-read any bs h pairs s in
       let short = lt-ltb (length room) (length pairs) l in
       (numbers-only r NoRoom (reads .numbers ∙ ap (numbersFor (length room)) e ∙ rw short), reads .places ∙ ap (roomFor room) e ∙ rw short)
 
   -- bytes that are malformed are refused 17 with their place, and the room stays
-  pub reads-malformed : (p : ℕ) → slipIn bs ≡ malformed p → (r ≡ Malformed p) × (after ≡ room)
+  pub reads-malformed : (p : ℕ) → slipIn any bs ≡ malformed p → (r ≡ Malformed p) × (after ≡ room)
   unfolding slipReadNumbers numbersFor roomFor
   reads-malformed p e = (numbers-only r (Malformed p) (reads .numbers ∙ ap (numbersFor (length room)) e), reads .places ∙ ap (roomFor room) e)
 
   -- bytes that are no slip are refused 17, and the room stays
-  pub none-malformed : ((h : Head) (pairs : List ℕ) → IsSlip bs h pairs → ⊥) → (p : ℕ) × (r ≡ Malformed p) × (after ≡ room)
-  none-malformed none = go (slipIn bs) refl
+  pub none-malformed : ((h : Head) (pairs : List ℕ) → IsSlip any bs h pairs → ⊥) → (p : ℕ) × (r ≡ Malformed p) × (after ≡ room)
+  none-malformed none = go (slipIn any bs) refl
     where
-      go : (o : Outcome) → slipIn bs ≡ o → (p : ℕ) × (r ≡ Malformed p) × (after ≡ room)
-      go (accepted h pairs) e = absurd (none h pairs (slip-only bs h pairs e))
+      go : (o : Outcome) → slipIn any bs ≡ o → (p : ℕ) × (r ≡ Malformed p) × (after ≡ room)
+      go (accepted h pairs) e = absurd (none h pairs (slip-only any bs h pairs e))
       go (malformed p) e = let m = reads-malformed p e in (p, m .0, m .1)
 
   -- and only those are
-  pub malformed-none : (p : ℕ) → r ≡ Malformed p → (h : Head) (pairs : List ℕ) → IsSlip bs h pairs → ⊥
+  pub malformed-none : (p : ℕ) → r ≡ Malformed p → (h : Head) (pairs : List ℕ) → IsSlip any bs h pairs → ⊥
   malformed-none p e h pairs s = go (ltb (length room) (length pairs)) refl
     where
       go : (f : Bool) → ltb (length room) (length pairs) ≡ f → ⊥
@@ -81,27 +82,28 @@ module _ (bs room : List ℕ) (r : SlipRead) (after : List ℕ) (reads : Reads b
       go false f = let q = reads-back h pairs s (ltb-false (length room) (length pairs) f) .0 in let z : _≡_ {A = ℕ} 0 1 = cc in omega arith
 
   -- a slip accepted is the only writing of its numbers, and the room has its pairs
-  pub accepted-only : (h : Head) → r ≡ Accepted h → (pairs : List ℕ) × IsSlip bs h pairs × (after ≡ pairs ++ drop (length pairs) room)
-  accepted-only h e = go (slipIn bs) refl
+  pub accepted-only : (h : Head) → r ≡ Accepted h → (pairs : List ℕ) × IsSlip any bs h pairs × (after ≡ pairs ++ drop (length pairs) room)
+  accepted-only h e = go (slipIn any bs) refl
     where
       Only : Head → Type 0
-      Only g = (pairs : List ℕ) × IsSlip bs g pairs × (after ≡ pairs ++ drop (length pairs) room)
+      Only g = (pairs : List ℕ) × IsSlip any bs g pairs × (after ≡ pairs ++ drop (length pairs) room)
 
-      test : (g : Head) (pairs : List ℕ) → IsSlip bs g pairs → (f : Bool) → ltb (length room) (length pairs) ≡ f → Only h
+      test : (g : Head) (pairs : List ℕ) → IsSlip any bs g pairs → (f : Bool) → ltb (length room) (length pairs) ≡ f → Only h
       test g pairs s true f = absurd (let q = reads-no-room g pairs s (ltb-true (length room) (length pairs) f) .0 in let z : _≡_ {A = ℕ} 0 1 = cc in omega arith)
       test g pairs s false f =
           let b = reads-back g pairs s (ltb-false (length room) (length pairs) f) in
           let q : g ≡ h = cc in
           subst Only q (pairs, s, b .1)
 
-      go : (o : Outcome) → slipIn bs ≡ o → Only h
-      go (accepted g pairs) f = test g pairs (slip-only bs g pairs f) (ltb (length room) (length pairs)) refl
+      go : (o : Outcome) → slipIn any bs ≡ o → Only h
+      go (accepted g pairs) f = test g pairs (slip-only any bs g pairs f) (ltb (length room) (length pairs)) refl
       go (malformed p) f = absurd (let q = reads-malformed p f .0 in let z : _≡_ {A = ℕ} 0 1 = cc in omega arith)
 
--- a slip that was put number by number into lent bytes reads back from them
-pub put-reads-back : (out₀ : List ℕ) (h : Head) (pairs : List ℕ) (at : ℕ) (out : List ℕ) → length (slipBytes h pairs) ≤ length out₀ → Put out₀ (headNumbers h pairs) at out → Rules (2 ^ 32) h pairs
-    → (room : List ℕ) (r : SlipRead) (after : List ℕ) → length pairs ≤ length room → Reads (take at out) room r after → (r ≡ Accepted h) × (after ≡ pairs ++ drop (length pairs) room)
-put-reads-back out₀ h pairs at out fits put rules room r after l reads = reads-back (take at out) room r after reads h pairs (record { bytes = whole; rules = rules }) l
+-- a slip that was put number by number into lent bytes, after the form that its numbers want, reads back from them
+pub put-reads-back : (any : Bool) (out₀ : List ℕ) (h : Head) (pairs : List ℕ) (wide : Bool) → anyWide (afterForm h pairs) ≡ wide → (at : ℕ) (out : List ℕ)
+    → length (slipBytes h pairs) ≤ length out₀ → Put out₀ (headNumbers (formFor wide) h pairs) at out → Rules (boundOf any) h pairs
+    → (room : List ℕ) (r : SlipRead) (after : List ℕ) → length pairs ≤ length room → Reads any (take at out) room r after → (r ≡ Accepted h) × (after ≡ pairs ++ drop (length pairs) room)
+put-reads-back any out₀ h pairs wide form at out fits put rules room r after l reads = reads-back any (take at out) room r after reads h pairs (record { bytes = whole; rules = rules }) l
   where
     whole : take at out ≡ slipBytes h pairs
-    whole = let p = put-slip out₀ h pairs at out fits put in ap (take at) (p .1) ∙ take-at (slipBytes h pairs) (drop (length (slipBytes h pairs)) out₀) at (sym (p .0))
+    whole = let p = put-slip out₀ h pairs wide form at out fits put in ap (take at) (p .1) ∙ take-at (slipBytes h pairs) (drop (length (slipBytes h pairs)) out₀) at (sym (p .0))

@@ -1,2 +1,1 @@
 pub mod Slip
-pub mod Steps

@@ -1,37 +1,18 @@
--- Document 01, "The slip", and document 02, Ask 5: what a slip is, where bytes go wrong that are none, and what reading one answers.
+-- Document 01, "The slip", and document 02, Asks 5 and 9: what a slip is, where bytes go wrong that are none, and what reading one answers.
 use mathlib.Core.Path.{_≡_}
-use mathlib.Core.Bool.{Bool, true, cond, _&&_}
+use mathlib.Core.Bool.{Bool, cond, _&&_}
 use mathlib.Core.List.{List, [], _∷_, _++_}
-use Prim.Native.Nat.{ℕ, suc, _+_, _*_, _^_, _<_, _≤_}
-use lib.Dec.{ltb, leb, eqb}
+use Prim.Native.Nat.{ℕ, suc, _+_, _*_, _^_}
+use lib.Dec.{ltb, eqb}
 use lib.ListN.{length, getD, drop}
-use Rattle.leb128.specs.Numbers.{writes, Below, value, cut, written, values, cutShort}
-use Rattle.slip.specs.declared.Head.{Head}
-use Rattle.slip.specs.declared.read.SlipRead.{SlipRead}
-use Rattle.slip.specs.declared.read.SlipRead.the-variants.{Accepted, Malformed, NoRoom}
-
--- "In order: 1 (the form), track ID, scale, a, b, number of pairs, pairs." A pair is two numbers.
-abbrev pub headNumbers : Head → List ℕ → List ℕ
-headNumbers h pairs = 1 ∷ h .id ∷ h .scale ∷ h .a ∷ h .b ∷ h .pairs ∷ pairs
-
--- the bytes of a slip
-unfoldable pub slipBytes : Head → List ℕ → List ℕ
-slipBytes h pairs = writes (headNumbers h pairs)
+use Rattle.leb128.specs.Numbers.{value, cut, written, values, cutShort}
+use Rattle.slip_head.specs.declared.Head.{Head}
+use Rattle.slip_head.specs.Bytes.{anyWide, slipBytes, Rules}
+use Rattle.slip_scan.specs.Rules.{allowed}
+use Rattle.slip.specs.declared.SlipRead.{SlipRead}
+use Rattle.slip.specs.declared.SlipRead.the-variants.{Accepted, Malformed, NoRoom}
 
 -- ---- where bytes go wrong, number after number
-
--- the rule of the number n that stands at index i, counted from 0, the form being the first; prev is the number before it. "ID and scale are not 0,
--- a < b, there are 1 to 1,048,576 pairs"; "b at or below a is b's fault". A number of a pair, and a, may be any
-unfoldable pub allowed : ℕ → ℕ → ℕ → Bool
-allowed i prev n =
-    cond (leb 6 i) true
-    (cond (ltb i 3) (ltb 0 n)
-    (cond (eqb i 4) (ltb prev n)
-    (cond (eqb i 5) (ltb 0 n && leb n 1048576) true)))
-
--- the same with the rule of the form: "the form is 1"
-unfoldable pub keeps : ℕ → ℕ → ℕ → Bool
-keeps i prev n = cond (eqb i 0) (eqb n 1) (allowed i prev n)
 
 -- how many numbers there are in all, once the number n at index i is read: "number of pairs, pairs", each pair two numbers
 unfoldable pub wanted : ℕ → ℕ → ℕ → ℕ
@@ -51,10 +32,27 @@ faultFrom k bound i prev want place (p ∷ ps) =
     cond (eqb i want) (at place)
     -- the slip ends within a number: its length
     (cond (cutShort k p) (at (place + length p))
-    (cond (written bound p && keeps i prev (value p)) (faultFrom k bound (suc i) (value p) (wanted i want (value p)) (place + length p) ps)
+    (cond (written bound p && allowed i prev (value p)) (faultFrom k bound (suc i) (value p) (wanted i want (value p)) (place + length p) ps)
     -- "the first byte of the first number that breaks a rule": one that "isn't in its fewest bytes, is 2^32 or more, has the top bit set on its
-    -- fifth byte or .. breaks 01's rule for it"
+    -- fifth byte or .. breaks 01's rule for it"; in form 2 "Ask 5's 2^32 and fifth byte become 2^64 and tenth"
     (at place)))
+
+-- form 2 without a number of 2^32 or more "is malformed at place 0, if no other rule is broken"
+unfoldable pub wideFault : List ℕ → Fault → Fault
+wideFault ns none = cond (anyWide ns) none (at 0)
+wideFault ns (at p) = at p
+
+-- the first fault past the form, which took the bytes before the place; any: whether form 2 is read too. Another form is at fault itself
+unfoldable pub restFault : Bool → ℕ → ℕ → List (List ℕ) → Fault
+restFault any form place ps =
+    cond (eqb form 1) (faultFrom 4 (2 ^ 32) 1 1 6 place ps)
+    (cond (any && eqb form 2) (wideFault (values ps) (faultFrom 9 (2 ^ 64) 1 2 6 place ps))
+    (at 0))
+
+-- "The form itself is always read by form 1's limits"
+unfoldable pub slipFault : Bool → List (List ℕ) → Fault
+slipFault any [] = at 0
+slipFault any (p ∷ ps) = cond (cutShort 4 p) (at (length p)) (cond (written (2 ^ 32) p) (restFault any (value p) (length p) ps) (at 0))
 
 -- what bytes are: a slip, by its numbers, or none, by the place where it goes wrong
 pub data Outcome : Type 0 where
@@ -68,25 +66,19 @@ unfoldable pub outcomeOf : Fault → List ℕ → Outcome
 outcomeOf none ns = accepted (headOf ns) (drop 6 ns)
 outcomeOf (at p) ns = malformed p
 
--- "Accepted exactly if each number is so written" and the rules hold: if the pieces have no fault
-unfoldable pub slipIn : List ℕ → Outcome
-slipIn bs = outcomeOf (faultFrom 4 (2 ^ 32) 0 0 6 0 (cut bs)) (values (cut bs))
+-- "Accepted exactly if each number is so written" and the rules hold: if the pieces have no fault. any: whether form 2 is read too
+unfoldable pub slipIn : Bool → List ℕ → Outcome
+slipIn any bs = outcomeOf (slipFault any (cut bs)) (values (cut bs))
 
 -- ---- the same as a sentence: bytes are the writing of numbers that keep the rules
 
--- the rules of a slip's numbers, each below the bound
-pub record Rules (bound : ℕ) (h : Head) (pairs : List ℕ) : Type 0 where
-  pub some-id : 0 < h .id
-  pub some-scale : 0 < h .scale
-  pub order : h .a < h .b
-  pub some-pairs : 0 < h .pairs
-  pub few-pairs : h .pairs ≤ 1048576
-  pub all-pairs : length pairs ≡ 2 * h .pairs
-  pub below : Below bound (h .id ∷ h .scale ∷ h .a ∷ h .b ∷ pairs)
+-- what the numbers of the slips that are read are below: form 1 has "Numbers below 2^32", "form 2 has numbers below 2^64"
+abbrev pub boundOf : Bool → ℕ
+boundOf any = cond any (2 ^ 64) (2 ^ 32)
 
-pub record IsSlip (bs : List ℕ) (h : Head) (pairs : List ℕ) : Type 0 where
+pub record IsSlip (any : Bool) (bs : List ℕ) (h : Head) (pairs : List ℕ) : Type 0 where
   pub bytes : bs ≡ slipBytes h pairs
-  pub rules : Rules (2 ^ 32) h pairs
+  pub rules : Rules (boundOf any) h pairs
 
 -- ---- what reading a slip answers
 
@@ -111,7 +103,7 @@ unfoldable pub roomFor : List ℕ → Outcome → List ℕ
 roomFor room (accepted h pairs) = cond (ltb (length room) (length pairs)) room (pairs ++ drop (length pairs) room)
 roomFor room (malformed place) = room
 
--- the promise of reading bytes into a room: the answer r, and the room after it
-pub record Reads (bs room : List ℕ) (r : SlipRead) (after : List ℕ) : Type 0 where
-  pub numbers : slipReadNumbers r ≡ numbersFor (length room) (slipIn bs)
-  pub places : after ≡ roomFor room (slipIn bs)
+-- the promise of reading bytes into a room, where any says whether form 2 is read too: the answer r, and the room after it
+pub record Reads (any : Bool) (bs room : List ℕ) (r : SlipRead) (after : List ℕ) : Type 0 where
+  pub numbers : slipReadNumbers r ≡ numbersFor (length room) (slipIn any bs)
+  pub places : after ≡ roomFor room (slipIn any bs)

@@ -6,9 +6,9 @@ fn text(s: &[u8]) {
     io::write_all(libc::STDOUT_FILENO, s);
 }
 
-fn say(words: &[u8], n: u32) {
+fn say(words: &[u8], n: u64) {
     text(words);
-    io::print_decimal(libc::STDOUT_FILENO, n as u64);
+    io::print_decimal(libc::STDOUT_FILENO, n);
 }
 
 fn hex(b: u8) {
@@ -25,7 +25,7 @@ fn write(out: &mut [u8]) -> usize {
         b: 73,
         pairs: 2,
     };
-    let offset = slip::put_head(out, head);
+    let offset = slip::put_head(out, head, false);
     let length = leb128::put_number(out, offset, 1100);
     let offset_2 = leb128::put_number(out, length, 50);
     let length_2 = leb128::put_number(out, offset_2, 900);
@@ -51,8 +51,8 @@ fn print_head(head: Head) {
 }
 
 fn print_pair(offset: u32, length: u32) {
-    say(b"", length);
-    say(b" bytes of film from byte ", offset);
+    say(b"", length as u64);
+    say(b" bytes of film from byte ", offset as u64);
     text(b" of the file\n");
 }
 

@@ -7,9 +7,9 @@ mod writing;
 use bigendian::after;
 use bigendian::u32_at;
 use bigendian::u64_at;
-use leb128::Cursor;
 
-// The kinds of cases: a number read, a slip read, a number written, a slip written.
+// The kinds of cases: a number below 2^32 read, a slip of form 1 read, a number written, a slip written, a slip of either form read, a number
+// below 2^64 read.
 const READ_NUMBER: u32 = 1;
 
 const READ_SLIP: u32 = 2;
@@ -18,7 +18,12 @@ const WRITE_NUMBER: u32 = 3;
 
 const WRITE_SLIP: u32 = 4;
 
-// A case begins with its kind and the length of the room lent, 32 bits each, and with a count or a number to write, and a place, 64 bits each.
+const READ_ANY_SLIP: u32 = 5;
+
+const READ_WIDE_NUMBER: u32 = 6;
+
+// A case begins with its kind and the length of the room lent, 32 bits each, and with a count, a number to write or 1 for form 2, and a place,
+// 64 bits each.
 // The bytes to read, or the numbers to write, follow.
 const BODY: usize = 24;
 
@@ -28,13 +33,12 @@ fn answer(case: &[u8]) {
     let n = u64_at(case, 8);
     let at = u64_at(case, 16) as usize;
     match u32_at(case, 0) {
-        READ_NUMBER => {
-            let count = n as usize;
-            reading::number(body, Cursor { at, count });
-        }
+        READ_NUMBER => reading::number(body, n, at, false),
+        READ_WIDE_NUMBER => reading::number(body, n, at, true),
         READ_SLIP => reading::slip(body, room),
+        READ_ANY_SLIP => reading::any_slip(body, room),
         WRITE_NUMBER => writing::number(n, at, room),
-        WRITE_SLIP => writing::slip(body, room),
+        WRITE_SLIP => writing::slip(body, n == 1, room),
         _ => show::text(b": no case"),
     }
 }

@@ -1,6 +1,6 @@
 // What the lines are made of. A number is written with a blank before it.
-use leb128::Cursor;
 use leb128::NumberRead;
+use number_cursor::Cursor;
 use slip::SlipRead;
 
 pub fn text(s: &[u8]) {
@@ -38,6 +38,15 @@ fn number_32(n: u32) {
 }
 
 // Words, and numbers after them.
+pub fn wide_numbers(words: &[u8], s: &[u64]) {
+    text(words);
+    let mut i = 0;
+    while i < s.len() {
+        number(s[i]);
+        i += 1;
+    }
+}
+
 pub fn numbers(words: &[u8], s: &[u32]) {
     text(words);
     let mut i = 0;
@@ -71,7 +80,7 @@ pub fn slip_read(r: SlipRead) {
     match r {
         SlipRead::Accepted(h) => {
             let head = [h.id, h.scale, h.a, h.b, h.pairs];
-            numbers(b": accepted", &head);
+            wide_numbers(b": accepted", &head);
         }
         SlipRead::NoRoom => text(b": refused 16"),
         SlipRead::Malformed(place) => field(b": refused 17 at", place as u64),

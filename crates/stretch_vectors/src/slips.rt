@@ -56,19 +56,19 @@ fn scale_of(film: &[u8], id: u32) -> u32 {
 
 // Whether a head has the numbers of the question, the scale that the list of tracks has, and so many pairs.
 fn is_head(film: &[u8], ask: Ask, head: Head, count: usize) -> bool {
-    if head.id != ask.id {
+    if head.id != ask.id as u64 {
         return false;
     }
-    if head.scale != scale_of(film, ask.id) {
+    if head.scale != scale_of(film, ask.id) as u64 {
         return false;
     }
-    if head.a != ask.a {
+    if head.a != ask.a as u64 {
         return false;
     }
-    if head.b != ask.b {
+    if head.b != ask.b as u64 {
         return false;
     }
-    head.pairs as usize == count
+    head.pairs == count as u64
 }
 
 // Whether two rooms have the same numbers in all their places.

@@ -266,23 +266,23 @@ pub fn put_number(out: &mut [u8], at: usize, n: u64) -> usize {
     put(out, at, &writing(u128::from(n)))
 }
 
-/// The writing of the numbers before a slip's pairs, the form included.
-fn head_writing(head: Head) -> Vec<u8> {
-    let mut bytes = writing(1);
+/// The writing of the numbers before a slip's pairs, after the form 2 where wide, else 1.
+fn head_writing(head: Head<u64>, wide: bool) -> Vec<u8> {
+    let mut bytes = writing(if wide { 2 } else { 1 });
     for n in [head.id, head.scale, head.a, head.b, head.pairs] {
         bytes.extend(writing(u128::from(n)));
     }
     bytes
 }
 
-/// How many bytes the numbers before a slip's pairs are written in, the form included.
-pub fn head_len(head: Head) -> usize {
-    head_writing(head).len()
+/// How many bytes the numbers before a slip's pairs are written in, the form included, which takes one byte.
+pub fn head_len(head: Head<u64>) -> usize {
+    head_writing(head, false).len()
 }
 
 /// Writes the numbers before a slip's pairs at the beginning of the bytes.
-pub fn put_head(out: &mut [u8], head: Head) -> usize {
-    put(out, 0, &head_writing(head))
+pub fn put_head(out: &mut [u8], head: Head<u64>, wide: bool) -> usize {
+    put(out, 0, &head_writing(head, wide))
 }
 
 #[cfg(test)]

@@ -23,21 +23,6 @@ read-slip-requires c κs = search needs
 enum-known-h : tie.Need-enum-known-h
 enum-known-h c = search needs
 
-cast-t15 : tie.Need-cast-t15
-cast-t15 c = search needs
-
-cast-t16 : tie.Need-cast-t16
-cast-t16 c = search needs
-
-cast-t17 : tie.Need-cast-t17
-cast-t17 c = search needs
-
-cast-t18 : tie.Need-cast-t18
-cast-t18 c = search needs
-
-cast-t19 : tie.Need-cast-t19
-cast-t19 c = search needs
-
 slice-aggregate-hand : tie.Need-slice-aggregate-hand
 slice-aggregate-hand c = search needs
 
@@ -71,9 +56,9 @@ same-length-2 c = search needs
 returns-2 : tie.Need-returns-2
 unfolding slipReadNumbers
 returns-2 c =
-    let q = c .before .before .before .before .before .before .before .before .before .before .before .before .before .before .before .read-slip .ensures in
-    fills-first _ _ _ _ _ _ _ _ _ _ (read-first _ _) (sym (q .numbers) ∙ ap slipReadNumbers (c .before .before .before .before .before .before .before .before .before .before .before .h .given .1))
-    (c .before .before .before .before .before .before .before .before .before .before .before .before .before .before .before .before .before .if1 .left)
+    let q = c .before .before .before .before .before .before .before .before .before .before .read-slip .ensures in
+    fills-first _ _ _ _ _ _ _ _ _ _ (read-first _ _) (sym (q .numbers) ∙ ap slipReadNumbers (c .before .before .before .before .before .before .h .given .1))
+    (c .before .before .before .before .before .before .before .before .before .before .before .before .if1 .left)
     (c .before .before .hand .ensures)
     (q .places ∙ read-room _ _)
 
@@ -116,11 +101,6 @@ hand-read-slip-spec =
     returns
     read-slip-requires
     enum-known-h
-    cast-t15
-    cast-t16
-    cast-t17
-    cast-t18
-    cast-t19
     slice-aggregate-hand
     hand-requires
     enum-known-place

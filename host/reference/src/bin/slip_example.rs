@@ -3,7 +3,7 @@ use reference::slip::{put_head, put_number, read_slip, Head};
 
 fn main() {
     let mut out = [0u8; 16];
-    let mut at = put_head(&mut out, Head { id: 1, scale: 600, a: 24, b: 73, pairs: 2 });
+    let mut at = put_head(&mut out, Head { id: 1, scale: 600, a: 24, b: 73, pairs: 2 }, false);
     for n in [1100, 50, 900, 70] {
         at = put_number(&mut out, at, n);
     }

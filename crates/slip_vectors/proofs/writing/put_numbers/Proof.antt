@@ -21,11 +21,8 @@ field-requires c κs = search needs
 loop-holds : tie.Need-loop-holds Inv-loop μ-loop
 loop-holds c = search needs
 
-u32-at-requires : tie.Need-u32-at-requires Inv-loop μ-loop
-u32-at-requires c κs = search needs
-
-cast-put-number : tie.Need-cast-put-number Inv-loop μ-loop
-cast-put-number c = search needs
+u64-at-requires : tie.Need-u64-at-requires Inv-loop μ-loop
+u64-at-requires c κs = search needs
 
 put-number-requires : tie.Need-put-number-requires Inv-loop μ-loop
 put-number-requires c κs = search needs
@@ -63,8 +60,7 @@ put-numbers-spec =
     slice-aggregate-field
     field-requires
     loop-holds
-    u32-at-requires
-    cast-put-number
+    u64-at-requires
     put-number-requires
     number-requires
     sub-t
