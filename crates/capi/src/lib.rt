@@ -164,7 +164,7 @@ pub extern "C" fn chaldoref_write_slip(
 // Reads a slip: its pairs in the room, and in six places track ID, scale, a, b, how many pairs, and 0; or zeros and, with refusal 17, the place where the slip goes wrong.
 #[no_mangle]
 pub extern "C" fn chaldoref_read_slip(bytes: &[u8], room: &mut [u32], places: &mut [u64]) -> u32
-    ensures { λ r. ⌜ Fills (ofSlipReading (now (bytes .entry)) (now (room .entry))) (now (places .entry)) (pairsOf (slipIn false (now (bytes .entry)))) (now (room .entry)) r (now (places .exit)) (now (room .exit)) ⌝ }
+    ensures { λ r. ⌜ Fills (ofSlipReading false (now (bytes .entry)) (now (room .entry))) (now (places .entry)) (pairsOf (slipIn false (now (bytes .entry)))) (now (room .entry)) r (now (places .exit)) (now (room .exit)) ⌝ }
 {
     hand_read_slip(bytes, room, places)
 }

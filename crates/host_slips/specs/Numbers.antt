@@ -1,14 +1,14 @@
 -- The numbers of a slip that is read, in the order of documents 01 and 02: the refusal, 0 for none, and the values, zeros with a refusal
 -- but for the place of 17.
 use Prim.Native.Nat.{ℕ}
-use mathlib.Core.Bool.{false}
+use mathlib.Core.Bool.{Bool}
 use mathlib.Core.List.{List, []}
 use lib.ListN.{length}
 use Rattle.slip.specs.Slip.{Outcome, accepted, malformed, slipIn, numbersFor}
 
--- "the numbers after the form": ID, scale, a, b and the number of pairs; and the place that "refusal 17 shall carry", 0 without it
-abbrev pub ofSlipReading : List ℕ → List ℕ → List ℕ
-ofSlipReading bs room = numbersFor (length room) (slipIn false bs)
+-- by the reader of form 1, or of any form. "the numbers after the form": ID, scale, a, b and the number of pairs; and the place that "refusal 17 shall carry", 0 without it
+abbrev pub ofSlipReading : Bool → List ℕ → List ℕ → List ℕ
+ofSlipReading any bs room = numbersFor (length room) (slipIn any bs)
 
 -- "the pairs in lent 32-bit numbers"
 unfoldable pub pairsOf : Outcome → List ℕ

@@ -23,7 +23,7 @@ fn slip_refusal(bytes: &[u8]) -> u32
 
 // Reads a slip: its pairs in the room, and in six places track ID, scale, a, b, how many pairs, and 0; or zeros and, with refusal 17, the place where the slip goes wrong.
 pub fn hand_read_slip(bytes: &[u8], room: &mut [u32], places: &mut [u64]) -> u32
-    ensures { λ r. ⌜ Fills (ofSlipReading (now (bytes .entry)) (now (room .entry))) (now (places .entry)) (pairsOf (slipIn false (now (bytes .entry)))) (now (room .entry)) r (now (places .exit)) (now (room .exit)) ⌝ }
+    ensures { λ r. ⌜ Fills (ofSlipReading false (now (bytes .entry)) (now (room .entry))) (now (places .entry)) (pairsOf (slipIn false (now (bytes .entry)))) (now (room .entry)) r (now (places .exit)) (now (room .exit)) ⌝ }
 {
     if places.len() < 6 {
         return or_short(slip_refusal(bytes));
