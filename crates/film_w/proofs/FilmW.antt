@@ -36,7 +36,7 @@ use Rattle.movie.specs.Refusals.{sameIds, idIsZero, movieScaleIsZero, scaleIsZe
 use Rattle.leb128.specs.Numbers.{groupsIn, groups, writes}
 use Rattle.slip.specs.Slip.{slipBytes}
 use Rattle.questions.specs.Asked.{askRefusal, trackAsked}
-use Rattle.questions.specs.Times.{atRefusal, atNumber, atEntry}
+use Rattle.time_questions.specs.Times.{atRefusal, atNumber, atEntry}
 use Rattle.questions.specs.Samples.{sampleOf, sampleRefusal}
 use Rattle.stretch.specs.Stretches.{firstIn, pastIn, pairsIn, bytesIn, stretchPairs, spanRefusal, stretchRefusal}
 use Rattle.stretch.specs.Slips.{slipHead, slipOfStretch, slipRefusal}

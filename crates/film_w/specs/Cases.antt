@@ -10,12 +10,12 @@ use Rattle.pairs.specs.Pairs.{flat}
 use Rattle.edits.specs.declared.MediaTime.{MediaTime}
 use Rattle.structure.specs.declared.source.Source.{Source}
 use Rattle.movie.specs.Rooms.{roomAfter}
-use Rattle.questions.specs.Times.{atAnswer}
+use Rattle.time_questions.specs.Times.{atAnswer}
 use Rattle.questions.specs.Samples.{sampleAnswer}
 use Rattle.stretch.specs.Stretches.{stretchPairs, stretchRefusal, stretchAnswer}
 use Rattle.stretch.specs.Slips.{slipOfStretch, slipRefusal, slipAnswer}
-use Rattle.questions.specs.declared.times.NumberAnswer.{NumberAnswer}
-use Rattle.questions.specs.declared.times.NumberAnswer.the-variants as times
+use Rattle.time_questions.specs.declared.NumberAnswer.{NumberAnswer}
+use Rattle.time_questions.specs.declared.NumberAnswer.the-variants as times
 use Rattle.questions.specs.declared.samples.SampleAnswer.{SampleAnswer}
 use Rattle.questions.specs.declared.samples.SampleAnswer.the-variants as samples
 use Rattle.stretch.specs.declared.StretchAnswer.{StretchAnswer}

@@ -2,7 +2,7 @@
 use Prim.Native.Nat.{ℕ}
 use mathlib.Core.List.{List}
 use Rattle.structure.specs.declared.source.Source.{Source}
-use Rattle.questions.specs.Feature.{featureAnswer, featureNumbers, peakAnswer, peakNumbers}
+use Rattle.feature_questions.specs.Feature.{featureAnswer, featureNumbers, peakAnswer, peakNumbers}
 
 -- the feature's value
 abbrev pub ofFeature : List ℕ → Source → ℕ → ℕ → List ℕ

@@ -1,9 +1,9 @@
 // A feature of a track, by its code, and where its peak is, for a caller in another language: the values in lent places.
+use feature_questions::FeatureAnswer;
+use feature_questions::PeakAnswer;
+use feature_questions::feature_by_code;
+use feature_questions::peak_by_code;
 use hand::hand;
-use questions::feature::FeatureAnswer;
-use questions::feature::PeakAnswer;
-use questions::feature::feature_by_code;
-use questions::feature::peak_by_code;
 use structure::source::Source;
 ghost use Rattle.hand.specs.Places.{Answers};
 ghost use Rattle.host_features.specs.Numbers.{ofFeature, ofPeak};

@@ -3,7 +3,7 @@
 use Prim.Native.Nat.{ℕ}
 use mathlib.Core.List.{List}
 use Rattle.structure.specs.declared.source.Source.{Source}
-use Rattle.questions.specs.Times.{atAnswer, numberNumbers, mapAnswer, timeNumbers}
+use Rattle.time_questions.specs.Times.{atAnswer, numberNumbers, mapAnswer, timeNumbers}
 use Rattle.hand.specs.Times.{media, movie}
 
 -- "the n with decode time ≤ t < decode time plus duration", and "the position, from 1, of the entry that holds the answered sample"

@@ -2,11 +2,11 @@
 use edits::MediaTime;
 use edits::MovieTime;
 use hand::hand;
-use questions::times::NumberAnswer;
-use questions::times::TimeAnswer;
-use questions::times::media_time_of;
-use questions::times::sample_at_time;
 use structure::source::Source;
+use time_questions::NumberAnswer;
+use time_questions::TimeAnswer;
+use time_questions::media_time_of;
+use time_questions::sample_at_time;
 ghost use Rattle.hand.specs.Places.{Answers};
 ghost use Rattle.host_times.specs.Numbers.{ofSampleAt, ofMediaTime};
 

@@ -1,7 +1,6 @@
-// Versions and sizes of the read leaves and of profiles: refusals 4 and 5. `wide` is true of a moov alone, in which co64 is a read leaf.
+// Sizes of profiles and of the descriptions of pictures: what refusal 5 asks beside the size of each read leaf, which the walk over the tree looks at.
 use atoms::kinds;
 use bigendian::u32_at;
-use leaves::LeafRule;
 use leaves::has_sized_entries;
 use leaves::holds_entries;
 use structure::either;
@@ -9,13 +8,9 @@ use structure::moov::movie_profile;
 use structure::trak::subtype;
 use structure::trak::table;
 use structure::trak::track_profile;
-use tree::Rule;
-use tree::holds;
 ghost use mathlib.Core.Path.{_≡_};
-ghost use Rattle.leaf_checks.specs.LeafChecks.{profileOk, wrongVersion, wrongSize, shortVideoDescription, wrongTrackSize};
-
-// How many levels a moov has.
-const MOOV_LEVELS: u32 = 5;
+ghost use Rattle.leaf_checks.specs.LeafChecks.{profileOk, shortVideoDescription, wrongTrackSize};
+ghost use Rattle.structure.specs.Movie.{movieProfile};
 
 // Whether a profile has its size; where there is none, nothing is asked.
 fn profile_ok(profile: &[u8]) -> bool
@@ -47,28 +42,9 @@ pub fn is_wrong_track_size(trak: &[u8]) -> bool
     either(small, !sized)
 }
 
-// 4, from the body of the moov.
-pub fn is_wrong_version(moov: &[u8], wide: bool) -> bool
-    ensures { λ r. ⌜ r ≡ wrongVersion wide (now (moov .entry)) ⌝ }
+// Whether the movie's profile has its size, from the body of the moov.
+pub fn is_profile_sized(moov: &[u8]) -> bool
+    ensures { λ r. ⌜ r ≡ profileOk (movieProfile (now (moov .entry))) ⌝ }
 {
-    !holds(
-        moov,
-        kinds::MOOV,
-        MOOV_LEVELS,
-        Rule::Leaves(LeafRule::Version, wide),
-    )
-}
-
-// 5 in the movie, from the body of the moov.
-pub fn is_wrong_size(moov: &[u8], wide: bool) -> bool
-    ensures { λ r. ⌜ r ≡ wrongSize wide (now (moov .entry)) ⌝ }
-{
-    let sized = holds(
-        moov,
-        kinds::MOOV,
-        MOOV_LEVELS,
-        Rule::Leaves(LeafRule::Size, wide),
-    );
-    let profile = profile_ok(movie_profile(moov));
-    either(!sized, !profile)
+    profile_ok(movie_profile(moov))
 }

@@ -1,13 +1,12 @@
 // The read leaves of a movie: which atoms they are, their version and their size.
 use atoms::kinds;
-use atoms::size_in;
 use bigendian::byte_at;
 use bigendian::u32_at;
 ghost use mathlib.Core.Path.{_≡_};
 ghost use mathlib.Core.Bool.{cond};
 ghost use Prim.Native.Nat.{_≤_};
 ghost use lib.ListN.{length};
-ghost use Rattle.leaves.specs.Leaves.{formOf, skipped, versionOk, holdsEntries, sizeEntry, filledWith, sizedEntries, sizeOk, leafOk, leavesOk};
+ghost use Rattle.leaves.specs.Leaves.{formOf, skipped, versionOk, holdsEntries, sizeEntry, filledWith, sizedEntries, sizeOk, leafOk};
 
 // How an atom's size is judged: not at all, an atom that is skipped; a number of bytes; 16 bytes and entries of one width;
 // stsz; 16 bytes and entries that state their own size, at least so many bytes each.
@@ -33,7 +32,7 @@ fn in_parent(there: bool, f: Form) -> Form
 }
 
 // The form of an atom of that kind in that parent; `wide` is true in a moov alone, where co64 is read.
-fn form_of(parent: u32, kind: u32, wide: bool) -> Form
+pub fn form_of(parent: u32, kind: u32, wide: bool) -> Form
     ensures { λ r. ⌜ r ≡ formOf wide parent kind ⌝ }
 {
     match kind {
@@ -152,30 +151,12 @@ fn size_ok(f: Form, atom: &[u8]) -> bool
     }
 }
 
-fn leaf_ok(rule: LeafRule, f: Form, atom: &[u8]) -> bool
+// Whether the rule holds of an atom of that form.
+pub fn leaf_ok(rule: LeafRule, f: Form, atom: &[u8]) -> bool
     ensures { λ r. ⌜ r ≡ leafOk rule f (now (atom .entry)) ⌝ }
 {
     match rule {
         LeafRule::Version => version_ok(f, atom),
         LeafRule::Size => size_ok(f, atom),
-    }
-}
-
-// Whether the rule holds of each read leaf in the body of that parent.
-pub fn leaves_ok(body: &[u8], parent: u32, rule: LeafRule, wide: bool) -> bool
-    ensures { λ r. ⌜ r ≡ leavesOk rule wide parent (now (body .entry)) ⌝ }
-{
-    let mut t = body;
-    loop {
-        let n = size_in(t, parent);
-        if n < 8 {
-            return true;
-        }
-        let atom = &t[..n];
-        let f = form_of(parent, u32_at(atom, 4), wide);
-        if !leaf_ok(rule, f, atom) {
-            return false;
-        }
-        t = &t[n..];
     }
 }

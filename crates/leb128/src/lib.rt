@@ -6,3 +6,4 @@ pub use number::NumberRead;
 pub use number::number_at;
 pub use write::number_len;
 pub use write::put_number;
+pub use write::store_number;

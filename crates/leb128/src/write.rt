@@ -19,8 +19,8 @@ pub fn number_len(n: u64) -> usize
     len
 }
 
-// Writes a number's groups from a place on, where they fit.
-fn store_number(out: &mut [u8], at: usize, n: u64) -> usize
+// Writes a number's groups from a place on, where it is known that they fit, and answers the place past them.
+pub fn store_number(out: &mut [u8], at: usize, n: u64) -> usize
     requires { ⌜ at + length (groups n) ≤ length (now out) ⌝ }
     ensures { λ r. ⌜ (r ≡ at + length (groups n)) × (now (out .exit) ≡ sets (now (out .entry)) at (groups n)) ⌝ }
 {

@@ -23,11 +23,11 @@ use Rattle.track.specs.Track.{trackOf}
 use Rattle.track.specs.Refusals.{totalIn, wrongEdits}
 use Rattle.questions.specs.Asked.{askRefusal, trackAsked}
 use Rattle.questions.specs.Samples.{sampleOf, sampleAnswer}
-use Rattle.questions.specs.Times.{mappedIn, mappedOf, toAnswer, atAnswer, atEntry, mapAnswer}
+use Rattle.time_questions.specs.Times.{mappedIn, mappedOf, toAnswer, atAnswer, atEntry, mapAnswer}
 use Rattle.questions.specs.declared.samples.Sample.{Sample}
 use Rattle.questions.specs.declared.samples.SampleAnswer.the-variants.{Found}
-use Rattle.questions.specs.declared.times.NumberAnswer.the-variants.{Number}
-use Rattle.questions.specs.declared.times.TimeAnswer.the-variants.{Shown}
+use Rattle.time_questions.specs.declared.NumberAnswer.the-variants.{Number}
+use Rattle.time_questions.specs.declared.TimeAnswer.the-variants.{Shown}
 use Rattle.questions.proofs.Asking.{asked}
 use Rattle.theorems.proofs.Answers.{found-known, at-is, at-known}
 use Rattle.nothing_skipped.specs.Shown.{noEntry, entriesOf, entryAt, startAt, Inside, Met, MetBetween, OfTrack, NothingSkipped}

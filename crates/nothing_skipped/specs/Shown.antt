@@ -14,11 +14,11 @@ use Rattle.structure.specs.Track.{scaleOf, elstOf}
 use Rattle.structure.specs.Movie.{moovOf, movieScale}
 use Rattle.questions.specs.Asked.{askRefusal, trackAsked}
 use Rattle.questions.specs.Samples.{sampleAnswer}
-use Rattle.questions.specs.Times.{atAnswer, mapAnswer}
+use Rattle.time_questions.specs.Times.{atAnswer, mapAnswer}
 use Rattle.questions.specs.declared.samples.Sample.{Sample}
 use Rattle.questions.specs.declared.samples.SampleAnswer.the-variants.{Found}
-use Rattle.questions.specs.declared.times.NumberAnswer.the-variants.{Number}
-use Rattle.questions.specs.declared.times.TimeAnswer.the-variants.{Shown}
+use Rattle.time_questions.specs.declared.NumberAnswer.the-variants.{Number}
+use Rattle.time_questions.specs.declared.TimeAnswer.the-variants.{Shown}
 
 -- the entries of the edit list of the track that is asked; past the last one there is none that shows media
 abbrev pub noEntry : Edit

@@ -19,11 +19,11 @@ use Rattle.pairs.proofs.Walking.{at-end, at-past, at-once, from-start}
 
 -- ---- some pairs and the rest
 
-flat-append : (qs l : List Pair) → flat (qs ++ l) ≡ flat qs ++ flat l
+pub flat-append : (qs l : List Pair) → flat (qs ++ l) ≡ flat qs ++ flat l
 flat-append [] l = refl
 flat-append (q ∷ qs) l = ap (λ r. q .offset ∷ q .length ∷ r) (flat-append qs l)
 
-flat-length : (qs : List Pair) → length (flat qs) ≡ 2 * length qs
+pub flat-length : (qs : List Pair) → length (flat qs) ≡ 2 * length qs
 flat-length [] = refl
 flat-length (q ∷ qs) = omega (arith, flat-length qs)
 
@@ -31,19 +31,19 @@ lengths-append : (qs l : List Pair) → sum (lengthsOf (qs ++ l)) ≡ sum (lengt
 lengths-append [] l = omega arith
 lengths-append (q ∷ qs) l = omega (arith, lengths-append qs l)
 
-fitting-append : (qs l : List Pair) → Fitting (qs ++ l) → Fitting qs × Fitting l
-fitting-append [] l f = (tt, f)
-fitting-append (q ∷ qs) l f = let r = fitting-append qs l (f .2) in ((f .0, f .1, r .0), r .1)
+pub fitting-append : (b : ℕ) (qs l : List Pair) → Fitting b (qs ++ l) → Fitting b qs × Fitting b l
+fitting-append b [] l f = (tt, f)
+fitting-append b (q ∷ qs) l f = let r = fitting-append b qs l (f .2) in ((f .0, f .1, r .0), r .1)
 
 -- one pair by itself
-pub one-room : {q : Pair} {at places : ℕ} → Room (q ∷ []) at places → (q .offset < 4294967296) × (q .length < 4294967296) × (at + 2 ≤ places)
+pub one-room : {b : ℕ} {q : Pair} {at places : ℕ} → Room b (q ∷ []) at places → (q .offset < b) × (q .length < b) × (at + 2 ≤ places)
 one-room w = (w .fits .0, w .fits .1, omega (arith, w .space))
 
 pub one-put : {q : Pair} {room : List ℕ} {at : ℕ} {new : List ℕ} → new ≡ sets room at (q .offset ∷ q .length ∷ []) → Put (q ∷ []) room at (q .length) new
 one-put e = record { added = omega arith; stored = e }
 
 -- the same pairs
-pub same-room : {l m : List Pair} {at places : ℕ} → l ≡ m → Room m at places → Room l at places
+pub same-room : {b : ℕ} {l m : List Pair} {at places : ℕ} → l ≡ m → Room b m at places → Room b l at places
 same-room e w = rw e w
 
 pub same-put : {l m : List Pair} {room : List ℕ} {at bytes : ℕ} {new : List ℕ} → l ≡ m → Put l room at bytes new → Put m room at bytes new
@@ -52,23 +52,23 @@ same-put e w = rw e at w
 -- ---- the loop
 
 -- of all pairs, to be put from the place at₀ on, those of `rest` are still to be put, from the place `at` on
-pub record Filling (all : List Pair) (room₀ : List ℕ) (at₀ : ℕ) (rest : List Pair) (room : List ℕ) (at total : ℕ) : Type 0 where
-  pub fits : Fitting rest
+pub record Filling (b : ℕ) (all : List Pair) (room₀ : List ℕ) (at₀ : ℕ) (rest : List Pair) (room : List ℕ) (at total : ℕ) : Type 0 where
+  pub fits : Fitting b rest
   pub few : at + 2 * length rest ≤ length room
   pub same : length room ≡ length room₀
   pub stored : sets room at (flat rest) ≡ sets room₀ at₀ (flat all)
   pub added : total + sum (lengthsOf rest) ≡ sum (lengthsOf all)
 
-pub filling-start : (all : List Pair) (room : List ℕ) (at : ℕ) → Room all at (length room) → Filling all room at all room at 0
+pub filling-start : {b : ℕ} (all : List Pair) (room : List ℕ) (at : ℕ) → Room b all at (length room) → Filling b all room at all room at 0
 filling-start all room at w = record { fits = w .fits; few = w .space; same = refl; stored = refl; added = omega arith }
 
-pub filling-end : (all : List Pair) (room₀ : List ℕ) (at₀ : ℕ) (rest : List Pair) (room : List ℕ) (at total : ℕ) → Filling all room₀ at₀ rest room at total → rest ≡ [] → Put all room₀ at₀ total room
+pub filling-end : {b : ℕ} (all : List Pair) (room₀ : List ℕ) (at₀ : ℕ) (rest : List Pair) (room : List ℕ) (at total : ℕ) → Filling b all room₀ at₀ rest room at total → rest ≡ [] → Put all room₀ at₀ total room
 filling-end all room₀ at₀ rest room at total w e =
     let a : total + 0 ≡ sum (lengthsOf all) = rw e at (w .added) in
     record { added = omega arith; stored = rw e at (w .stored) }
 
 -- the next ones put
-module _ {all : List Pair} {room₀ : List ℕ} {at₀ : ℕ} {rest : List Pair} {room : List ℕ} {at total : ℕ} (w : Filling all room₀ at₀ rest room at total) (qs l : List Pair) (e : rest ≡ qs ++ l) where
+module _ {b : ℕ} {all : List Pair} {room₀ : List ℕ} {at₀ : ℕ} {rest : List Pair} {room : List ℕ} {at total : ℕ} (w : Filling b all room₀ at₀ rest room at total) (qs l : List Pair) (e : rest ≡ qs ++ l) where
   added : total + (sum (lengthsOf qs) + sum (lengthsOf l)) ≡ sum (lengthsOf all)
   added = omega (arith, w .added, ap (λ r. sum (lengthsOf r)) e, lengths-append qs l)
 
@@ -76,19 +76,19 @@ module _ {all : List Pair} {room₀ : List ℕ} {at₀ : ℕ} {rest : List Pair}
   few = omega (arith, w .few, ap length e, length-append qs l)
 
   module _ (h : sum (lengthsOf all) < 2 ^ 64) where
-    pub next-room : Room qs at (length room)
-    next-room = record { fits = fitting-append qs l (rw e at (w .fits)) .0; total = omega (arith, added); space = omega (arith, few) }
+    pub next-room : Room b qs at (length room)
+    next-room = record { fits = fitting-append b qs l (rw e at (w .fits)) .0; total = omega (arith, added); space = omega (arith, few) }
 
     pub next-total : total + sum (lengthsOf qs) < 2 ^ 64
     next-total = omega (arith, added)
 
   pub filling-turn : {new : List ℕ} {at′ total′ : ℕ} → new ≡ sets room at (flat qs) → at′ ≡ at + 2 * length qs → total′ ≡ total + sum (lengthsOf qs)
-      → Filling all room₀ at₀ l new at′ total′
+      → Filling b all room₀ at₀ l new at′ total′
   filling-turn {new} {at′} {total′} g a t =
       let s : length new ≡ length room = ap length g ∙ length-sets room at (flat qs) in
       let u : at + length (flat qs) ≡ at′ = omega (arith, flat-length qs) in
       record {
-        fits = fitting-append qs l (rw e at (w .fits)) .1;
+        fits = fitting-append b qs l (rw e at (w .fits)) .1;
         few = omega (arith, few);
         same = s ∙ w .same;
         stored = rw (g, ← u) (sym (sets-append room at (flat qs) (flat l)) ∙ ap (sets room at) (sym (flat-append qs l) ∙ ap flat (sym e)) ∙ w .stored);
@@ -96,31 +96,31 @@ module _ {all : List Pair} {room₀ : List ℕ} {at₀ : ℕ} {rest : List Pair}
       }
 
 -- one pair put
-module _ {all : List Pair} {room₀ : List ℕ} {at₀ : ℕ} {rest : List Pair} {room : List ℕ} {at total : ℕ} (w : Filling all room₀ at₀ rest room at total) (q : Pair) (l : List Pair) (e : rest ≡ q ∷ l) where
-  pub one-fits : sum (lengthsOf all) < 2 ^ 64 → (q .offset < 4294967296) × (q .length < 4294967296) × (at + 2 ≤ length room)
+module _ {b : ℕ} {all : List Pair} {room₀ : List ℕ} {at₀ : ℕ} {rest : List Pair} {room : List ℕ} {at total : ℕ} (w : Filling b all room₀ at₀ rest room at total) (q : Pair) (l : List Pair) (e : rest ≡ q ∷ l) where
+  pub one-fits : sum (lengthsOf all) < 2 ^ 64 → (q .offset < b) × (q .length < b) × (at + 2 ≤ length room)
   one-fits h = one-room (next-room w (q ∷ []) l e h)
 
   pub one-total : sum (lengthsOf all) < 2 ^ 64 → total + q .length < 2 ^ 64
   one-total h = omega (arith, next-total w (q ∷ []) l e h)
 
-  pub one-turn : {new : List ℕ} → new ≡ sets room at (q .offset ∷ q .length ∷ []) → Filling all room₀ at₀ l new (at + 2) (total + q .length)
+  pub one-turn : {new : List ℕ} → new ≡ sets room at (q .offset ∷ q .length ∷ []) → Filling b all room₀ at₀ l new (at + 2) (total + q .length)
   one-turn g = filling-turn w (q ∷ []) l e g (omega arith) (omega arith)
 
 -- ---- from place to place
 
-pub record Walked (stsc stsz stco : List ℕ) (chunks i j : ℕ) (room₀ : List ℕ) (p : ChunkPosition) (room : List ℕ) (at total : ℕ) : Type 0 where
+pub record Walked (b : ℕ) (stsc stsz stco : List ℕ) (chunks i j : ℕ) (room₀ : List ℕ) (p : ChunkPosition) (room : List ℕ) (at total : ℕ) : Type 0 where
   pub place : At stsc chunks i p
-  pub filling : Filling (pairsBetween stsc stsz stco chunks i j) room₀ 0 (pairsAhead stsc stsz stco chunks i j p) room at total
+  pub filling : Filling b (pairsBetween stsc stsz stco chunks i j) room₀ 0 (pairsAhead stsc stsz stco chunks i j p) room at total
 
-pub walked-start : (stsc stsz stco : List ℕ) (chunks i j : ℕ) (room : List ℕ) (p : ChunkPosition) → StartsAt stsc chunks i p → Putting stsc stsz stco chunks i j (length room)
-    → Walked stsc stsz stco chunks i j room p room 0 0
+pub walked-start : {b : ℕ} (stsc stsz stco : List ℕ) (chunks i j : ℕ) (room : List ℕ) (p : ChunkPosition) → StartsAt stsc chunks i p → Putting b stsc stsz stco chunks i j (length room)
+    → Walked b stsc stsz stco chunks i j room p room 0 0
 walked-start stsc stsz stco chunks i j room p s w =
     record {
       place = s .at;
       filling = rw (from-start stsc stsz stco chunks i j p s) (filling-start (pairsBetween stsc stsz stco chunks i j) room 0 (record { fits = w .fits; total = w .total; space = omega (arith, w .room) }));
     }
 
-module _ {stsc stsz stco : List ℕ} {chunks i j : ℕ} {room₀ : List ℕ} {p : ChunkPosition} {room : List ℕ} {at total : ℕ} (w : Walked stsc stsz stco chunks i j room₀ p room at total) where
+module _ {b : ℕ} {stsc stsz stco : List ℕ} {chunks i j : ℕ} {room₀ : List ℕ} {p : ChunkPosition} {room : List ℕ} {at total : ℕ} (w : Walked b stsc stsz stco chunks i j room₀ p room at total) where
   pub walked-end : (eqb (p .cursor .remaining) 0 || leb j (p .begin)) ≡ true
       → (total ≡ sum (lengthsOf (pairsBetween stsc stsz stco chunks i j))) × (room ≡ sets room₀ 0 (flat (pairsBetween stsc stsz stco chunks i j)))
   walked-end e =
@@ -141,14 +141,14 @@ module _ {stsc stsz stco : List ℕ} {chunks i j : ℕ} {room₀ : List ℕ} {p 
     step-at = omega (arith, few (w .filling) these others split, at-once-length stsz stco i j p n o, w .filling .same)
 
     module _ (h : sum (lengthsOf (pairsBetween stsc stsz stco chunks i j)) < 2 ^ 64) where
-      pub step-room : Room these at (length room)
+      pub step-room : Room b these at (length room)
       step-room = next-room (w .filling) these others split h
 
       pub step-total : {bytes : ℕ} {new : List ℕ} → Put these room at bytes new → total + bytes < 2 ^ 64
       step-total d = omega (arith, next-total (w .filling) these others split h, d .added)
 
     pub step-turn : {bytes : ℕ} {new : List ℕ} → Put these room at bytes new → {r : ChunkPosition} → r ≡ placePast stsc chunks n p
-        → Walked stsc stsz stco chunks i j room₀ r new (at + 2 * n) (total + bytes)
+        → Walked b stsc stsz stco chunks i j room₀ r new (at + 2 * n) (total + bytes)
     step-turn {bytes} {new} d f =
         let a : at + 2 * n ≡ at + 2 * length these = omega (arith, at-once-length stsz stco i j p n o) in
         let t : total + bytes ≡ total + sum (lengthsOf these) = omega (arith, d .added) in

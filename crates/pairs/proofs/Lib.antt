@@ -3,4 +3,3 @@ pub mod Wholes
 pub mod Walking
 pub mod Filling
 pub mod Counting
-pub mod Streaming

@@ -124,13 +124,13 @@ within-chunk i j begin p c zs o h g =
       between-split zs (max i begin) (min j (begin + p)) (begin + p) (omega arith) (omega arith),
     )
 
-pub touched-fits : (limit i j begin : ℕ) (ps cs zs : List ℕ) → i ≤ j → limit < 4294967296 → endWithin limit ps cs (drop begin zs) ≡ true → Fitting (touched i j begin ps cs zs)
+pub touched-fits : {b : ℕ} (limit i j begin : ℕ) (ps cs zs : List ℕ) → i ≤ j → limit < b → endWithin limit ps cs (drop begin zs) ≡ true → Fitting b (touched i j begin ps cs zs)
 touched-fits limit i j begin [] cs zs o l e = tt
-touched-fits limit i j begin (p ∷ ps) cs zs o l e = go (ltb limit (getD cs 0 0 + sum (take p (drop begin zs)))) refl e (λ h. touched-fits limit i j (begin + p) ps (drop 1 cs) zs o l (rw (drop-drop p begin zs) at h))
+touched-fits {b} limit i j begin (p ∷ ps) cs zs o l e = go (ltb limit (getD cs 0 0 + sum (take p (drop begin zs)))) refl e (λ h. touched-fits limit i j (begin + p) ps (drop 1 cs) zs o l (rw (drop-drop p begin zs) at h))
   where
-    go : (b : Bool) → ltb limit (getD cs 0 0 + sum (take p (drop begin zs))) ≡ b → cond b false (endWithin limit ps (drop 1 cs) (drop p (drop begin zs))) ≡ true
-        → (endWithin limit ps (drop 1 cs) (drop p (drop begin zs)) ≡ true → Fitting (touched i j (begin + p) ps (drop 1 cs) zs))
-        → Fitting (touched i j begin (p ∷ ps) cs zs)
+    go : (y : Bool) → ltb limit (getD cs 0 0 + sum (take p (drop begin zs))) ≡ y → cond y false (endWithin limit ps (drop 1 cs) (drop p (drop begin zs))) ≡ true
+        → (endWithin limit ps (drop 1 cs) (drop p (drop begin zs)) ≡ true → Fitting b (touched i j (begin + p) ps (drop 1 cs) zs))
+        → Fitting b (touched i j begin (p ∷ ps) cs zs)
     go true q h k = let y : _≡_ {A = Bool} false true = h in let z : _≡_ {A = ℕ} 0 1 = cc in absurd (omega arith)
     go false q h k = elim (decLt begin j) [
       | no n ↦ rw (past-last i j begin p (omega arith)) (k h)
@@ -143,7 +143,7 @@ touched-fits limit i j begin (p ∷ ps) cs zs o l e = go (ltb limit (getD cs 0 0
       ]
     ]
 
-pub fits-sum : (l : List Pair) → Fitting l → sum (lengthsOf l) ≤ length l * 4294967295
+pub fits-sum : (l : List Pair) → Fitting 4294967296 l → sum (lengthsOf l) ≤ length l * 4294967295
 fits-sum [] f = omega arith
 fits-sum (q ∷ l) f = omega (arith, f .1, fits-sum l (f .2))
 
@@ -155,7 +155,7 @@ some-touched i j begin (p ∷ ps) cs zs o l h = elim (decLt i (begin + p)) [
   | no k ↦ rw (before-first i j begin p (omega arith)) (some-touched i j (begin + p) ps (drop 1 cs) zs o (omega arith) (omega arith))
 ]
 
--- their numbers, one after the other, are below 2 ^ 32 each
-pub fits-below : (l : List Pair) → Fitting l → Below 4294967296 (flat l)
-fits-below [] f = tt
-fits-below (q ∷ l) f = (f .0, (f .1, fits-below l (f .2)))
+-- their numbers, one after the other, are below the bound each
+pub fits-below : (b : ℕ) (l : List Pair) → Fitting b l → Below b (flat l)
+fits-below b [] f = tt
+fits-below b (q ∷ l) f = (f .0, (f .1, fits-below b l (f .2)))

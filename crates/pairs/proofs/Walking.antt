@@ -47,6 +47,10 @@ pub pair-made : (i j begin per c : ℕ) (zs : List ℕ) (end first b n o : ℕ) 
 unfolding pairOf
 pair-made i j begin per c zs end first b n o e f g h k = rw (k, g, h, f, e)
 
+pub offset-fits : (i j begin per c : ℕ) (zs : List ℕ) (first b o : ℕ) → first ≡ max i begin → b ≡ between zs begin first → o ≡ c → pairOf i j begin per c zs .offset < 2 ^ 64 → o + b < 2 ^ 64
+unfolding pairOf
+offset-fits i j begin per c zs first b o e f g h = rw (g, f, e) h
+
 pub place-made : (stsc : List ℕ) (chunks n : ℕ) (p : ChunkPosition) (k b : ℕ) (c r : ChunkCursor) → c ≡ past n (p .cursor) → r ≡ readied stsc chunks c
     → _≡_ {A = ChunkPosition} (record { cursor = r; chunk = k; begin = b }) (record { cursor = readied stsc chunks (past n (p .cursor)); chunk = k; begin = b })
 place-made stsc chunks n p k b c r e f = rw (f, e)

@@ -2,23 +2,31 @@
 -- Assumes nothing.
 use Prim.Native.Nat.{ℕ, zero, suc, _+_, _*_, _-_, _/_, _^_, _≤_, _<_, min, max}
 use mathlib.Core.Path.{_≡_, refl, sym, ap, _∙_}
+use mathlib.Core.Bool.{Bool, true, false, cond}
 use mathlib.Core.List.{List, [], _∷_, _++_}
-use native.Mathlib.Nat.{suc-mul, zero-mul, div-add-mod', div-lt-iff-lt-mul}
+use native.Mathlib.Nat.{suc-mul, zero-mul, add-mul, div-add-mod', div-lt-iff-lt-mul, le-div-iff-mul-le}
 use native.Mathlib.Omega.{arith}
 use native.Mathlib.Decide.{ℕ-discrete}
-use borrow.Author.Tests.{eq-eqb, ne-eqb}
+use borrow.Author.Tests.{eq-eqb, ne-eqb, eqb-true, eqb-false}
 use lib.ListN.{length, getD, take, drop, replicate, length-drop}
 use lib.Seq.{length-take-le, drop-drop}
-use Rattle.bigendian.specs.BigEndian.{u32At}
+use lib.Dec.{eqb}
+use Rattle.bigendian.specs.BigEndian.{beAt, u32At}
+use Rattle.atoms.specs.Atoms.{kindOf}
+use Rattle.atoms.specs.Kinds.{co64}
 use Rattle.lists.specs.Lists.{sum, between}
 use Rattle.lists.proofs.Laws.{sum-replicate, pos-of-lt-mul, replicate-drop, replicate-take}
-use Rattle.words.specs.Words.{wordsIn, sizes, chunkOffsets}
-use Rattle.words.proofs.Turns.{offsets-in, words-none, words-next, length-words, words-drop, words-take, sizes-listed, sizes-common}
+use Rattle.words.specs.Words.{numbersIn, wordsIn, sizes, widthOf, offsetWidth, chunkOffsets}
+use Rattle.words.proofs.Turns.{offsets-in, width-is, width-above, width-positive, numbers-none, numbers-next, length-numbers, numbers-drop, numbers-take, words-drop, sizes-listed, sizes-common}
 use Rattle.pairs.specs.Pairs.{pairOf, touched}
-use Rattle.pairs.specs.Walks.{wholes, equalLengthPairs, AtOnce, wholesAt, pairsAtOnce}
+use Rattle.pairs.specs.Walks.{wholes, equalLengthPairs, firstPair, runPairs, runAt, AtOnce, wholesAt, pairsAtOnce}
 use Rattle.pairs.specs.declared.Pair.{Pair}
 use Rattle.pairs.specs.declared.ChunkPosition.{ChunkPosition}
+use Rattle.pairs.specs.declared.WholeRun.{WholeRun}
 use Rattle.pairs.proofs.Touched.{is-touched, none-between, chunk-sum}
+
+add-cancel : (a b : ℕ) → a + b - a ≡ b
+add-cancel a b = omega arith
 
 -- ---- a run's chunks, as they are touched
 
@@ -55,8 +63,9 @@ before-end count per samples h g =
     let q : samples / per < count = div-lt-iff-lt-mul {y = count} (pos-of-lt-mul count per samples g) .1 g in
     (omega arith, omega arith, omega (arith, div-add-mod' samples per))
 
-pub offsets-there : (stco : List ℕ) {part : List ℕ} → part ≡ drop 16 stco → length (chunkOffsets stco) ≡ length part / 4
-offsets-there stco e = ap length (offsets-in stco) ∙ length-words (drop 16 stco) ∙ ap (λ l. length l / 4) (sym e)
+pub offsets-there : (stco : List ℕ) {part : List ℕ} {w : ℕ} → part ≡ drop 16 stco → w ≡ offsetWidth stco → length part / w ≡ length (chunkOffsets stco)
+offsets-there stco {part} {w} e f =
+    ap (λ l. length l / w) e ∙ ap (λ (k : ℕ). length (drop 16 stco) / k) f ∙ sym (ap length (offsets-in stco) ∙ length-numbers (offsetWidth stco) (width-positive stco) (drop 16 stco))
 
 -- ---- the tables that a loop over whole chunks is given
 
@@ -65,10 +74,25 @@ wholes-length p [] zs = refl
 wholes-length p (c ∷ cs) zs = ap suc (wholes-length p cs (drop p zs))
 
 -- the offsets of n chunks, cut out of a table
-pub offsets-cut : (stco : List ℕ) {part : List ℕ} (k n : ℕ) → part ≡ drop 16 stco → wordsIn (take (k * 4 + n * 4 - k * 4) (drop (k * 4) part)) ≡ take n (drop k (chunkOffsets stco))
-offsets-cut stco {part} k n e =
-    let d : k * 4 + n * 4 - k * 4 ≡ n * 4 = omega arith in
-    ap (λ (m : ℕ). wordsIn (take m (drop (k * 4) part))) d ∙ words-take n (drop (k * 4) part) ∙ ap (take n) (words-drop k part ∙ ap (λ l. drop k (wordsIn l)) e ∙ ap (drop k) (sym (offsets-in stco)))
+module _ (stco : List ℕ) {part : List ℕ} {w : ℕ} (k n : ℕ) (e : part ≡ drop 16 stco) (f : w ≡ offsetWidth stco) where
+  pub offsets-cut : numbersIn (offsetWidth stco) (take (k * w + n * w - k * w) (drop (k * w) part)) ≡ take n (drop k (chunkOffsets stco))
+  offsets-cut =
+      let v = offsetWidth stco in
+      let p = width-positive stco in
+      let d : k * w + n * w - k * w ≡ n * v = ap (λ (x : ℕ). k * x + n * x - k * x) f ∙ add-cancel (k * v) (n * v) in
+      ap (λ (m : ℕ). numbersIn v (take m (drop (k * w) part))) d
+      ∙ numbers-take v p n (drop (k * w) part)
+      ∙ ap (λ (x : ℕ). take n (numbersIn v (drop (k * x) part))) f
+      ∙ ap (take n) (numbers-drop v p k part ∙ ap (λ l. drop k (numbersIn v l)) e ∙ ap (drop k) (sym (offsets-in stco)))
+
+  module _ (h : k + n ≤ length (chunkOffsets stco)) where
+    pub cut-within : k * w + n * w ≤ length part
+    cut-within =
+        let g : (k + n) * w ≤ length part = le-div-iff-mul-le {k = w} {x = k + n} {y = length part} (rw f (width-positive stco)) .0 (omega (arith, offsets-there stco e f)) in
+        omega (arith, add-mul k n w)
+
+    pub cut-fits : k * w + n * w ≤ length stco
+    cut-fits = omega (arith, cut-within, ap length e, length-drop 16 stco)
 
 module _ (stsz : List ℕ) {each : ℕ} (e : each ≡ u32At stsz 12) where
   pub sizes-cut : each ≡ 0 → {y z : List ℕ} (k : ℕ) → y ≡ drop 20 stsz → z ≡ drop (k * 4) y → wordsIn z ≡ drop k (sizes stsz)
@@ -88,26 +112,47 @@ module _ (stsz : List ℕ) {each : ℕ} (e : each ≡ u32At stsz 12) where
           let b : length l * per ≤ m - per = omega (arith, suc-mul (length l) per) in
           rw (replicate-take m each per a, replicate-drop m each per a, sum-replicate per each) (ap (λ r. record { offset = c; length = per * each } ∷ r) (go (m - per) l b))
 
--- both, as they are given for n chunks from a place on
-module _ (stsz stco : List ℕ) (p : ChunkPosition) (n : ℕ) (h : p .chunk + n ≤ length (chunkOffsets stco)) {part : List ℕ} (f : part ≡ drop 16 stco) where
-  pub cut-within : p .chunk * 4 + n * 4 ≤ length part
-  cut-within = omega (arith, offsets-there stco f)
+-- ---- by what the chunks have in common
 
-  pub cut-fits : p .chunk * 4 + n * 4 ≤ length stco
-  cut-fits = omega (arith, cut-within, ap length f, length-drop 16 stco)
+-- the length of a chunk's pair, by whether the sizes are listed
+by-listed : (r : WholeRun) (b : Bool) → r .listed ≡ b → (zs : List ℕ) → cond (r .listed) (sum (take (r .per) zs)) (r .bytes) ≡ cond b (sum (take (r .per) zs)) (r .bytes)
+by-listed r b e zs = ap (λ (x : Bool). cond x (sum (take (r .per) zs)) (r .bytes)) e
 
-  module _ {each : ℕ} (e : each ≡ u32At stsz 12) where
-    pub listed-given : each ≡ 0 → {y z : List ℕ} → y ≡ drop 20 stsz → z ≡ drop (p .begin * 4) y
-        → wholes (p .cursor .per) (wordsIn (take (p .chunk * 4 + n * 4 - p .chunk * 4) (drop (p .chunk * 4) part))) (wordsIn z) ≡ wholesAt stsz stco p n
-    listed-given o d g = rw (offsets-cut stco (p .chunk) n f, sizes-cut stsz e o (p .begin) d g)
+run-listed : (r : WholeRun) → r .listed ≡ true → (cs zs : List ℕ) → runPairs r cs zs ≡ wholes (r .per) cs zs
+run-listed r e [] zs = refl
+run-listed r e (c ∷ cs) zs = λ k. record { offset = c; length = by-listed r true e zs k } ∷ run-listed r e cs (drop (r .per) zs) k
 
-    pub same-given : (each ≡ 0 → ⊥) → ((u32At stsz 12 ≡ 0 → ⊥) → p .begin + n * p .cursor .per ≤ u32At stsz 16)
-        → equalLengthPairs (p .cursor .per * each) (wordsIn (take (p .chunk * 4 + n * 4 - p .chunk * 4) (drop (p .chunk * 4) part))) ≡ wholesAt stsz stco p n
-    same-given o g =
-        let cs = take n (drop (p .chunk) (chunkOffsets stco)) in
-        let l : length cs ≡ n = length-take-le n (drop (p .chunk) (chunkOffsets stco)) (omega (arith, length-drop (p .chunk) (chunkOffsets stco))) in
-        let k : p .begin + n * p .cursor .per ≤ u32At stsz 16 = g (λ z. o (e ∙ z)) in
-        ap (equalLengthPairs (p .cursor .per * each)) (offsets-cut stco (p .chunk) n f) ∙ sym (wholes-common stsz e o (p .begin) (p .cursor .per) cs (rw l k))
+run-common : (r : WholeRun) → r .listed ≡ false → (cs zs : List ℕ) → runPairs r cs zs ≡ equalLengthPairs (r .bytes) cs
+run-common r e [] zs = refl
+run-common r e (c ∷ cs) zs = λ k. record { offset = c; length = by-listed r false e zs k } ∷ run-common r e cs (drop (r .per) zs) k
+
+-- as they are made
+pub run-made : (stsz stco : List ℕ) (p : ChunkPosition) (long : Bool) (each : ℕ) → long ≡ eqb (kindOf stco) co64 → each ≡ u32At stsz 12
+    → _≡_ {A = WholeRun} (record { long = long; listed = eqb each 0; per = p .cursor .per; bytes = p .cursor .per * each }) (runAt stsz stco p)
+run-made stsz stco p long each e f = λ k. record { long = e k; listed = eqb (f k) 0; per = p .cursor .per; bytes = p .cursor .per * f k }
+
+pub first-made : (r : WholeRun) (b : Bool) (cs zs : List ℕ) (o n : ℕ) → r .listed ≡ b → o ≡ getD cs 0 0 → n ≡ cond b (sum (take (r .per) zs)) (r .bytes) → _≡_ {A = Pair} (record { offset = o; length = n }) (firstPair r cs zs)
+first-made r b cs zs o n e f g = λ k. record { offset = f k; length = (g ∙ sym (by-listed r b e zs)) k }
+
+-- as it is given for n chunks from a place on
+module _ (stsz stco : List ℕ) (p : ChunkPosition) (n : ℕ) (h : p .chunk + n ≤ length (chunkOffsets stco)) (g : (u32At stsz 12 ≡ 0 → ⊥) → p .begin + n * p .cursor .per ≤ u32At stsz 16) where
+  abbrev these : List ℕ
+  these = take n (drop (p .chunk) (chunkOffsets stco))
+
+  many : length these ≡ n
+  many = length-take-le n (drop (p .chunk) (chunkOffsets stco)) (omega (arith, length-drop (p .chunk) (chunkOffsets stco)))
+
+  here : (z : List ℕ) → z ≡ drop (p .begin * 4) (drop 20 stsz) → (b : Bool) → eqb (u32At stsz 12) 0 ≡ b → runPairs (runAt stsz stco p) these (wordsIn z) ≡ wholesAt stsz stco p n
+  here z f true q = run-listed (runAt stsz stco p) q these (wordsIn z) ∙ ap (wholes (p .cursor .per) these) (sizes-cut stsz refl (eqb-true _ _ q) (p .begin) refl f)
+  here z f false q =
+      let y : u32At stsz 12 ≡ 0 → ⊥ = eqb-false _ _ q in
+      run-common (runAt stsz stco p) q these (wordsIn z) ∙ sym (wholes-common stsz refl y (p .begin) (p .cursor .per) these (rw many (g y)))
+
+  pub run-given : (o z : List ℕ) (r : WholeRun) → numbersIn (offsetWidth stco) o ≡ take n (drop (p .chunk) (chunkOffsets stco)) → z ≡ drop (p .begin * 4) (drop 20 stsz) → r ≡ runAt stsz stco p
+      → runPairs r (numbersIn (widthOf (r .long)) o) (wordsIn z) ≡ wholesAt stsz stco p n
+  run-given o z r e f d =
+      let w : widthOf (r .long) ≡ offsetWidth stco = sym (width-is stco (ap (λ (x : WholeRun). x .long) d)) in
+      ap (λ (k : ℕ). runPairs r (numbersIn k o) (wordsIn z)) w ∙ ap (λ l. runPairs r l (wordsIn z)) e ∙ ap (λ (x : WholeRun). runPairs x these (wordsIn z)) d ∙ here z f (eqb (u32At stsz 12) 0) refl
 
 -- ---- one chunk, or whole ones
 
@@ -126,18 +171,19 @@ module _ (stsz stco : List ℕ) (i j : ℕ) (p : ChunkPosition) (n : ℕ) where
         ap length (at-once-whole z) ∙ wholes-length (p .cursor .per) (take n cs) (drop (p .begin) (sizes stsz)) ∙ length-take-le n cs (omega (arith, o .whole z .offsets, length-drop (p .chunk) (chunkOffsets stco)))
   ]
 
--- ---- a turn of such a loop
+-- ---- a turn of a loop over them
 
-module _ (t : List ℕ) {offset : ℕ} (e : offset ≡ u32At t 0) (h : 4 ≤ length t) where
-  pub equal-length-next : (bytes : ℕ) → equalLengthPairs bytes (wordsIn t) ≡ record { offset = offset; length = bytes } ∷ equalLengthPairs bytes (wordsIn (drop 4 t))
-  equal-length-next bytes = rw e (ap (equalLengthPairs bytes) (words-next t h))
+module _ (r : WholeRun) (t z : List ℕ) where
+  pub run-next : {q : Pair} {w : ℕ} {y : List ℕ} → q ≡ firstPair r (numbersIn (widthOf (r .long)) t) (wordsIn z) → w ≡ widthOf (r .long) → w ≤ length t → y ≡ drop (r .per * 4) z
+      → runPairs r (numbersIn (widthOf (r .long)) t) (wordsIn z) ≡ q ∷ runPairs r (numbersIn (widthOf (r .long)) (drop w t)) (wordsIn y)
+  run-next {q} {w} {y} e f h g =
+      let v = widthOf (r .long) in
+      let n : numbersIn v t ≡ beAt v t 0 ∷ numbersIn v (drop v t) = numbers-next v (width-above (r .long)) t (rw (← f) h) in
+      let k : firstPair r (numbersIn v t) (wordsIn z) ≡ q = sym e in
+      ap (λ l. runPairs r l (wordsIn z)) n
+      ∙ ap (λ x. x ∷ runPairs r (numbersIn v (drop v t)) (drop (r .per) (wordsIn z))) (ap (λ l. firstPair r l (wordsIn z)) (sym n) ∙ k)
+      ∙ ap (λ l. q ∷ runPairs r (numbersIn v (drop v t)) l) (sym (words-drop (r .per) z) ∙ ap wordsIn (sym g))
+      ∙ ap (λ (x : ℕ). q ∷ runPairs r (numbersIn v (drop x t)) (wordsIn y)) (sym f)
 
-  pub wholes-next : (per : ℕ) (z : List ℕ) {bytes : ℕ} {y : List ℕ} → bytes ≡ sum (take per (wordsIn z)) → y ≡ drop (per * 4) z
-      → wholes per (wordsIn t) (wordsIn z) ≡ record { offset = offset; length = bytes } ∷ wholes per (wordsIn (drop 4 t)) (wordsIn y)
-  wholes-next per z f g = rw (e, f, g, words-drop per z) (ap (λ l. wholes per l (wordsIn z)) (words-next t h))
-
-pub wholes-end : (per : ℕ) (t z : List ℕ) → length t < 4 → wholes per (wordsIn t) (wordsIn z) ≡ []
-wholes-end per t z h = ap (λ l. wholes per l (wordsIn z)) (words-none t h)
-
-pub equal-length-end : (bytes : ℕ) (t : List ℕ) → length t < 4 → equalLengthPairs bytes (wordsIn t) ≡ []
-equal-length-end bytes t h = ap (equalLengthPairs bytes) (words-none t h)
+  pub run-end : {w : ℕ} → w ≡ widthOf (r .long) → length t < w → runPairs r (numbersIn (widthOf (r .long)) t) (wordsIn z) ≡ []
+  run-end f h = ap (λ l. runPairs r l (wordsIn z)) (numbers-none (widthOf (r .long)) (width-above (r .long)) t (rw f at h))

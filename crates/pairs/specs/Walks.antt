@@ -8,12 +8,15 @@ use lib.Seq.{sets}
 use lib.Dec.{eqb}
 use Rattle.bigendian.specs.BigEndian.{u32At}
 use Rattle.lists.specs.Lists.{sum, before, holder}
+use Rattle.atoms.specs.Atoms.{kindOf}
+use Rattle.atoms.specs.Kinds.{co64}
 use Rattle.words.specs.Words.{sizes, chunkOffsets}
 use Rattle.chunks.specs.Chunks.{perChunk}
 use Rattle.chunks.specs.Cursors.{Valid, Stands, ahead, readied, past}
 use Rattle.pairs.specs.Pairs.{pairOf, touched, flat}
 use Rattle.pairs.specs.declared.Pair.{Pair}
 use Rattle.pairs.specs.declared.ChunkPosition.{ChunkPosition}
+use Rattle.pairs.specs.declared.WholeRun.{WholeRun}
 
 -- the pairs of the samples from i up to j, with C chunks; and their lengths
 abbrev pub pairsBetween : List ℕ → List ℕ → List ℕ → ℕ → ℕ → ℕ → List Pair
@@ -30,15 +33,15 @@ countBetween stsc chunks i j = length (touched i j 0 (perChunk stsc chunks) [] [
 abbrev pub chunksTo : List ℕ → ℕ → ℕ
 chunksTo ps t = min (suc (holder ps t)) (length ps)
 
--- both numbers of each pair fit 32 bits
-abbrev pub Fitting : List Pair → Type 0
-Fitting [] = Unit
-Fitting (q ∷ qs) = (q .offset < 4294967296) × (q .length < 4294967296) × Fitting qs
+-- both numbers of each pair are below b: 2 ^ 32 or 2 ^ 64, by the room
+abbrev pub Fitting : ℕ → List Pair → Type 0
+Fitting b [] = Unit
+Fitting b (q ∷ qs) = (q .offset < b) × (q .length < b) × Fitting b qs
 
 -- what is asked where pairs are put into so many places
-pub record Putting (stsc stsz stco : List ℕ) (chunks i j places : ℕ) : Type 0 where
+pub record Putting (b : ℕ) (stsc stsz stco : List ℕ) (chunks i j places : ℕ) : Type 0 where
   pub short : length stsc < 2 ^ 32
-  pub fits : Fitting (pairsBetween stsc stsz stco chunks i j)
+  pub fits : Fitting b (pairsBetween stsc stsz stco chunks i j)
   pub total : sum (lengthsOf (pairsBetween stsc stsz stco chunks i j)) < 2 ^ 64
   pub room : 2 * length (pairsBetween stsc stsz stco chunks i j) ≤ places
 
@@ -78,6 +81,24 @@ wholes p (c ∷ cs) zs = record { offset = c; length = sum (take p zs) } ∷ who
 abbrev pub equalLengthPairs : ℕ → List ℕ → List Pair
 equalLengthPairs bytes cs = map (λ c. record { offset = c; length = bytes }) cs
 
+-- the same by what the chunks have in common, which says which of the two it is; and the first of them
+abbrev pub firstPair : WholeRun → List ℕ → List ℕ → Pair
+firstPair r cs zs = record { offset = getD cs 0 0; length = cond (r .listed) (sum (take (r .per) zs)) (r .bytes) }
+
+abbrev pub runPairs : WholeRun → List ℕ → List ℕ → List Pair
+runPairs r [] zs = []
+runPairs r (c ∷ cs) zs = firstPair r (c ∷ cs) zs ∷ runPairs r cs (drop (r .per) zs)
+
+-- what the chunks of the run at a place have in common
+abbrev pub runAt : List ℕ → List ℕ → ChunkPosition → WholeRun
+runAt stsz stco p =
+    record {
+      long = eqb (kindOf stco) co64;
+      listed = eqb (u32At stsz 12) 0;
+      per = p .cursor .per;
+      bytes = p .cursor .per * u32At stsz 12;
+    }
+
 -- n chunks of the run at a place are asked for whole; their offsets are there, and their sizes, where these are common
 pub record Whole (stsz stco : List ℕ) (i j : ℕ) (p : ChunkPosition) (n : ℕ) : Type 0 where
   pub from : i ≤ p .begin
@@ -99,9 +120,9 @@ abbrev pub pairsAtOnce : List ℕ → List ℕ → ℕ → ℕ → ChunkPosition
 pairsAtOnce stsz stco i j p n =
     cond (eqb n 1) (pairOf i j (p .begin) (p .cursor .per) (getD (chunkOffsets stco) (p .chunk) 0) (sizes stsz) ∷ []) (wholesAt stsz stco p n)
 
--- some pairs can be put into so many places, from the place `at` on
-pub record Room (qs : List Pair) (at places : ℕ) : Type 0 where
-  pub fits : Fitting qs
+-- some pairs, their numbers below b, can be put into so many places, from the place `at` on
+pub record Room (b : ℕ) (qs : List Pair) (at places : ℕ) : Type 0 where
+  pub fits : Fitting b qs
   pub total : sum (lengthsOf qs) < 2 ^ 64
   pub space : at + 2 * length qs ≤ places
 

@@ -1,8 +1,6 @@
 // The byte ranges of some samples, chunk after chunk: one pass over the entries of stsc, stco and stsz that they touch. Samples are named by their index,
 // `from` up to, not including, `stop`. The functions that walk have a place by value, so that each use of the pairs is a loop of its own and no list of
 // pairs is kept.
-pub mod written;
-
 use bigendian::after;
 use bigendian::u32_at;
 use chunks::ChunkCursor;
@@ -12,19 +10,19 @@ use chunks::seek;
 use words::bytes_between;
 use words::chunk_offset;
 use words::first_sum;
+use words::is_long;
+use words::number_in;
 ghost use mathlib.Core.Path.{_≡_};
 ghost use mathlib.Core.Bool.{_||_};
 ghost use lib.Dec.{eqb, leb};
 ghost use Prim.Native.Nat.{_+_, _*_, _-_, _≤_, _<_, _^_, min, max};
-ghost use lib.ListN.{length, getD};
+ghost use lib.ListN.{length, getD, take, drop};
 ghost use Rattle.bigendian.specs.BigEndian.{u32At};
-ghost use Rattle.words.specs.Words.{wordsIn, sizes, chunkOffsets};
+ghost use Rattle.words.specs.Words.{numbersIn, wordsIn, sizes, widthOf, offsetWidth, chunkOffsets};
 ghost use Rattle.chunks.specs.Chunks.{perChunk};
-ghost use lib.Seq.{sets};
-ghost use mathlib.Core.List.{[], _∷_};
-ghost use Rattle.lists.specs.Lists.{sum, between};
-ghost use Rattle.pairs.specs.Pairs.{pairOf, flat};
-ghost use Rattle.pairs.specs.Walks.{pairsBetween, lengthsOf, countBetween, chunksTo, Putting, StartsAt, placeAfter, placePast, wholes, equalLengthPairs, AtOnce, wholesAt, pairsAtOnce, Room, Put};
+ghost use Rattle.lists.specs.Lists.{between};
+ghost use Rattle.pairs.specs.Pairs.{pairOf};
+ghost use Rattle.pairs.specs.Walks.{countBetween, chunksTo, StartsAt, placeAfter, placePast, AtOnce, runAt, firstPair};
 
 // A range of bytes of the file.
 pub struct Pair {
@@ -52,7 +50,7 @@ fn larger(a: u32, b: u32) -> u32
 }
 
 // Before the chunk of the sample with an index.
-fn start_place(stsc: &[u8], chunks: u32, from: u32) -> ChunkPosition
+pub fn start_place(stsc: &[u8], chunks: u32, from: u32) -> ChunkPosition
     requires { ⌜ length (now stsc) < 2 ^ 32 ⌝ }
     ensures { λ r. ⌜ StartsAt (now (stsc .entry)) chunks from r ⌝ }
 {
@@ -67,7 +65,7 @@ fn start_place(stsc: &[u8], chunks: u32, from: u32) -> ChunkPosition
 }
 
 // Before the next chunk.
-fn next_place(stsc: &[u8], chunks: u32, p: ChunkPosition) -> ChunkPosition
+pub fn next_place(stsc: &[u8], chunks: u32, p: ChunkPosition) -> ChunkPosition
     requires { ⌜ (p .begin < 2 ^ 32) × (p .chunk < 2 ^ 63) ⌝ }
     ensures { λ r. ⌜ r ≡ placeAfter (now (stsc .entry)) chunks p ⌝ }
 {
@@ -83,7 +81,7 @@ fn next_place(stsc: &[u8], chunks: u32, p: ChunkPosition) -> ChunkPosition
 }
 
 // Whether no sample below `stop` lies ahead.
-fn is_past(p: ChunkPosition, stop: u32) -> bool
+pub fn is_past(p: ChunkPosition, stop: u32) -> bool
     ensures { λ r. ⌜ r ≡ (eqb (p .cursor .remaining) 0 || leb stop (p .begin)) ⌝ }
 {
     let c = p.cursor;
@@ -104,8 +102,8 @@ fn bytes_before(stsz: &[u8], begin: u32, first: u32) -> u64
 }
 
 // The pair of the chunk at a place.
-fn pair_at(stsz: &[u8], stco: &[u8], p: ChunkPosition, from: u32, stop: u32) -> Pair
-    requires { ⌜ p .begin < stop ⌝ }
+pub fn pair_at(stsz: &[u8], stco: &[u8], p: ChunkPosition, from: u32, stop: u32) -> Pair
+    requires { ⌜ (p .begin < stop) × (pairOf from stop (p .begin) (p .cursor .per) (getD (chunkOffsets (now stco)) (p .chunk) 0) (sizes (now stsz)) .offset < 2 ^ 64) ⌝ }
     ensures { λ r. ⌜ r ≡ pairOf from stop (p .begin) (p .cursor .per) (getD (chunkOffsets (now (stco .entry))) (p .chunk) 0) (sizes (now (stsz .entry))) ⌝ }
 {
     let c = p.cursor;
@@ -115,7 +113,7 @@ fn pair_at(stsz: &[u8], stco: &[u8], p: ChunkPosition, from: u32, stop: u32) -> 
     let first = larger(from, begin as u32);
     let before = bytes_before(stsz, begin as u32, first);
     Pair {
-        offset: chunk_offset(stco, p.chunk) as u64 + before,
+        offset: chunk_offset(stco, p.chunk) + before,
         length: bytes_between(stsz, first, end),
     }
 }
@@ -151,15 +149,6 @@ pub fn count_pairs(stsc: &[u8], chunks: u32, from: u32, stop: u32) -> u64
     begun - skipped
 }
 
-// Puts a pair's two numbers into the room, from the place `at` on.
-fn put_pair(q: Pair, room: &mut [u32], at: usize)
-    requires { ⌜ (q .offset < 4294967296) × (q .length < 4294967296) × (at + 2 ≤ length (now room)) ⌝ }
-    ensures { λ _. ⌜ now (room .exit) ≡ sets (now (room .entry)) at (q .offset ∷ q .length ∷ []) ⌝ }
-{
-    room[at] = q.offset as u32;
-    room[at + 1] = q.length as u32;
-}
-
 // Up to which sample chunks can be put at once: `stop`, but not past the last sample where the sizes are common, since from there on a size is 0.
 fn whole_end(stsz: &[u8], stop: u32) -> u32
     ensures { λ r. ⌜ (r ≤ stop) × ((u32At (now (stsz .entry)) 12 ≡ 0 → ⊥) → r ≤ u32At (now (stsz .entry)) 16) ⌝ }
@@ -189,8 +178,23 @@ fn whole_chunks(count: u64, per: u32, begin: u64, end: u32) -> u64
     samples / each
 }
 
+// How many bytes an offset has.
+pub fn width_of(long: bool) -> usize
+    ensures { λ r. ⌜ r ≡ widthOf long ⌝ }
+{
+    if long { 8 } else { 4 }
+}
+
+// How many offsets a table has.
+fn offsets_there(stco: &[u8]) -> u64
+    ensures { λ r. ⌜ r ≡ length (chunkOffsets (now (stco .entry))) ⌝ }
+{
+    let part = after(stco, 16);
+    (part.len() / width_of(is_long(stco))) as u64
+}
+
 // How many chunks of the run at a place are put at once: all that are asked for whole, or one.
-fn chunks_at_once(stsz: &[u8], stco: &[u8], p: ChunkPosition, from: u32, stop: u32) -> u64
+pub fn chunks_at_once(stsz: &[u8], stco: &[u8], p: ChunkPosition, from: u32, stop: u32) -> u64
     requires { ⌜ (p .cursor .remaining ≡ 0 → ⊥) × (p .chunk < 2 ^ 63) ⌝ }
     ensures { λ r. ⌜ AtOnce (now (stsz .entry)) (now (stco .entry)) from stop p r ⌝ }
 {
@@ -207,103 +211,73 @@ fn chunks_at_once(stsz: &[u8], stco: &[u8], p: ChunkPosition, from: u32, stop: u
     if n == 0 {
         return 1;
     }
-    let offsets = after(stco, 16);
-    let there = (offsets.len() / 4) as u64;
-    if there < p.chunk + n {
+    if offsets_there(stco) < p.chunk + n {
         return 1;
     }
     n
 }
 
-// Puts the pairs of whole chunks with `per` samples each, one for each of the offsets. The sizes begin with those of their samples.
-fn put_listed(offsets: &[u8], sizes: &[u8], per: u32, room: &mut [u32], at: usize) -> u64
-    requires { ⌜ Room (wholes per (wordsIn (now offsets)) (wordsIn (now sizes))) at (length (now room)) ⌝ }
-    ensures { λ r. ⌜ Put (wholes per (wordsIn (now (offsets .entry))) (wordsIn (now (sizes .entry)))) (now (room .entry)) at r (now (room .exit)) ⌝ }
-{
-    let mut t = offsets;
-    let mut z = sizes;
-    let mut k = at;
-    let mut total: u64 = 0;
-    while 4 <= t.len() {
-        let bytes = first_sum(z, per);
-        let offset = u32_at(t, 0) as u64;
-        let q = Pair {
-            offset,
-            length: bytes,
-        };
-        total += bytes;
-        put_pair(q, room, k);
-        k += 2;
-        t = &t[4..];
-        let others = after(z, per as usize * 4);
-        z = others;
-    }
-    total
+// What whole chunks of a run have in common: whether their offsets have 64 bits, how many samples each has, whether the sizes of these are listed, and if
+// not, how many bytes each has.
+pub struct WholeRun {
+    pub long: bool,
+    pub listed: bool,
+    pub per: u32,
+    pub bytes: u64,
 }
 
-// The same where each chunk has `bytes` bytes.
-fn put_same(offsets: &[u8], bytes: u64, room: &mut [u32], at: usize) -> u64
-    requires { ⌜ Room (equalLengthPairs bytes (wordsIn (now offsets))) at (length (now room)) ⌝ }
-    ensures { λ r. ⌜ Put (equalLengthPairs bytes (wordsIn (now (offsets .entry)))) (now (room .entry)) at r (now (room .exit)) ⌝ }
+// What the chunks of the run at a place have in common.
+pub fn run_at(stsz: &[u8], stco: &[u8], p: ChunkPosition) -> WholeRun
+    ensures { λ r. ⌜ r ≡ runAt (now (stsz .entry)) (now (stco .entry)) p ⌝ }
 {
-    let mut t = offsets;
-    let mut k = at;
-    let mut total: u64 = 0;
-    while 4 <= t.len() {
-        let offset = u32_at(t, 0) as u64;
-        let q = Pair {
-            offset,
-            length: bytes,
-        };
-        total += bytes;
-        put_pair(q, room, k);
-        k += 2;
-        t = &t[4..];
+    let c = p.cursor;
+    let per = c.per;
+    let each = u32_at(stsz, 12);
+    WholeRun {
+        long: is_long(stco),
+        listed: each == 0,
+        per,
+        bytes: per as u64 * each as u64,
     }
-    total
 }
 
-// Puts the pairs of some whole chunks from a place on.
-fn put_whole(stsz: &[u8], stco: &[u8], p: ChunkPosition, n: u64, room: &mut [u32], at: usize) -> u64
-    requires { ⌜ (p .begin < 2 ^ 32) × (p .chunk + n ≤ length (chunkOffsets (now stco))) × ((u32At (now stsz) 12 ≡ 0 → ⊥) → p .begin + n * p .cursor .per ≤ u32At (now stsz) 16) × Room (wholesAt (now stsz) (now stco) p n) at (length (now room)) ⌝ }
-    ensures { λ r. ⌜ Put (wholesAt (now (stsz .entry)) (now (stco .entry)) p n) (now (room .entry)) at r (now (room .exit)) ⌝ }
+// The offsets of n chunks from a place on.
+pub fn run_offsets<'a>(stco: &'a [u8], p: ChunkPosition, n: u64) -> &'a [u8]
+    requires { ⌜ p .chunk + n ≤ length (chunkOffsets (now stco)) ⌝ }
+    ensures { λ r. ⌜ numbersIn (offsetWidth (now (stco .entry))) (now r) ≡ take n (drop (p .chunk) (chunkOffsets (now (stco .entry)))) ⌝ }
 {
     let part = after(stco, 16);
-    let start = p.chunk as usize * 4;
-    let end = start + n as usize * 4;
-    let c = p.cursor;
-    let each = u32_at(stsz, 12);
-    if each == 0 {
-        let sizes = after(after(stsz, 20), p.begin as usize * 4);
-        return put_listed(&part[start..end], sizes, c.per, room, at);
-    }
-    put_same(&part[start..end], c.per as u64 * each as u64, room, at)
+    let width = width_of(is_long(stco));
+    let start = p.chunk as usize * width;
+    let end = start + n as usize * width;
+    &part[start..end]
 }
 
-// Puts the pairs of some chunks of the run at a place: of one, or of whole ones.
-fn put_chunks(
-    stsz: &[u8],
-    stco: &[u8],
-    p: ChunkPosition,
-    n: u64,
-    from: u32,
-    stop: u32,
-    room: &mut [u32],
-    at: usize,
-) -> u64
-    requires { ⌜ (p .begin < stop) × AtOnce (now stsz) (now stco) from stop p n × Room (pairsAtOnce (now stsz) (now stco) from stop p n) at (length (now room)) ⌝ }
-    ensures { λ r. ⌜ Put (pairsAtOnce (now (stsz .entry)) (now (stco .entry)) from stop p n) (now (room .entry)) at r (now (room .exit)) ⌝ }
+// The sizes that are listed from a place's first sample on.
+pub fn run_sizes<'a>(stsz: &'a [u8], p: ChunkPosition) -> &'a [u8]
+    requires { ⌜ p .begin < 2 ^ 32 ⌝ }
+    ensures { λ r. ⌜ now r ≡ drop (p .begin * 4) (drop 20 (now (stsz .entry))) ⌝ }
 {
-    if n == 1 {
-        let q = pair_at(stsz, stco, p, from, stop);
-        put_pair(q, room, at);
-        return q.length;
+    after(after(stsz, 20), p.begin as usize * 4)
+}
+
+// The pair of the first of some whole chunks, by their offsets and the sizes from its first sample on.
+pub fn first_pair(offsets: &[u8], sizes: &[u8], r: WholeRun) -> Pair
+    ensures { λ q. ⌜ q ≡ firstPair r (numbersIn (widthOf (r .long)) (now (offsets .entry))) (wordsIn (now (sizes .entry))) ⌝ }
+{
+    let offset = number_in(offsets, r.long, 0);
+    if r.listed {
+        let length = first_sum(sizes, r.per);
+        return Pair { offset, length };
     }
-    put_whole(stsz, stco, p, n, room, at)
+    Pair {
+        offset,
+        length: r.bytes,
+    }
 }
 
 // Before the chunk that is n further on in the same run.
-fn place_past(stsc: &[u8], chunks: u32, p: ChunkPosition, n: u64) -> ChunkPosition
+pub fn place_past(stsc: &[u8], chunks: u32, p: ChunkPosition, n: u64) -> ChunkPosition
     requires { ⌜ (p .chunk + n < 2 ^ 64) × (p .begin < 2 ^ 32) × ((n ≡ 1 → ⊥) → p .begin + n * p .cursor .per < 2 ^ 32) ⌝ }
     ensures { λ r. ⌜ r ≡ placePast (now (stsc .entry)) chunks n p ⌝ }
 {
@@ -316,29 +290,4 @@ fn place_past(stsc: &[u8], chunks: u32, p: ChunkPosition, n: u64) -> ChunkPositi
         chunk: chunk + n,
         begin: begin + n * per as u64,
     }
-}
-
-// Puts the pairs into the first places of the room, and answers their lengths, added.
-pub fn put_pairs(
-    stsc: &[u8],
-    stsz: &[u8],
-    stco: &[u8],
-    chunks: u32,
-    from: u32,
-    stop: u32,
-    room: &mut [u32],
-) -> u64
-    requires { ⌜ Putting (now stsc) (now stsz) (now stco) chunks from stop (length (now room)) ⌝ }
-    ensures { λ r. ⌜ (r ≡ sum (lengthsOf (pairsBetween (now (stsc .entry)) (now (stsz .entry)) (now (stco .entry)) chunks from stop))) × (now (room .exit) ≡ sets (now (room .entry)) 0 (flat (pairsBetween (now (stsc .entry)) (now (stsz .entry)) (now (stco .entry)) chunks from stop))) ⌝ }
-{
-    let mut p = start_place(stsc, chunks, from);
-    let mut at = 0;
-    let mut total: u64 = 0;
-    while !is_past(p, stop) {
-        let n = chunks_at_once(stsz, stco, p, from, stop);
-        total += put_chunks(stsz, stco, p, n, from, stop, room, at);
-        at += 2 * n as usize;
-        p = place_past(stsc, chunks, p, n);
-    }
-    total
 }

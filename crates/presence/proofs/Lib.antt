@@ -1,2 +1,3 @@
 pub mod And
-pub mod Offsets
+mod Offsets
+pub mod Counting

@@ -2,19 +2,19 @@
 use super::show;
 use edits::MediaTime;
 use edits::MovieTime;
-use questions::feature::FeatureAnswer;
-use questions::feature::PeakAnswer;
-use questions::feature::feature_by_code;
-use questions::feature::peak_by_code;
+use feature_questions::FeatureAnswer;
+use feature_questions::PeakAnswer;
+use feature_questions::feature_by_code;
+use feature_questions::peak_by_code;
 use questions::samples::Sample;
 use questions::samples::SampleAnswer;
 use questions::samples::sample_by_number;
 use questions::samples::sample_bytes;
-use questions::times::NumberAnswer;
-use questions::times::TimeAnswer;
-use questions::times::media_time_of;
-use questions::times::sample_at_time;
 use structure::source::Source;
+use time_questions::NumberAnswer;
+use time_questions::TimeAnswer;
+use time_questions::media_time_of;
+use time_questions::sample_at_time;
 
 // The question, the track asked and the number asked.
 fn asked(words: &[u8], id: u32, n: u32) {

@@ -25,9 +25,6 @@ use Rattle.structure.proofs.Lengths.{table-short, track-short}
 use Rattle.shape.proofs.Shaped.{Shaped, MayEnter}
 use Rattle.track.specs.Refusals.{totalIn, wrongEdits}
 use Rattle.track.proofs.Agreed.{agreed-tables}
-use Rattle.edits.proofs.Turns.{edits-few}
-use Rattle.edits.proofs.Sentences.{ok-all}
-use Rattle.features.specs.Features.{Computable, Averaged}
 use Rattle.movie.specs.Refusals.{filmRefusal}
 use Rattle.movie.specs.Tracks.{withId, hasTrack, trackWith}
 use Rattle.movie.proofs.Accepted.{Accepted, AcceptedFile, accepted}
@@ -75,11 +72,6 @@ asked s w id e =
 
 -- ---- the same, from what the code has
 
--- an edit list, where there is one, is as long as its entries
-entered-short : (a : List ℕ) → MayEnter 12 a → length a ≤ 16 + 12 * u32At a 12
-entered-short a (inl e) = omega (arith, ap length e)
-entered-short a (inr e) = omega arith
-
 -- as many sizes as the table counts
 pub sizes-count : (t : List ℕ) → Shaped t → length (sizes (tableOf stsz t)) ≡ samplesOf t
 sizes-count t h =
@@ -101,41 +93,6 @@ module _ (s t : List ℕ) (w : Source) (id r : ℕ) (e : r ≡ askRefusal s w id
 
   pub asked-total : totalIn t < 4294967296
   asked-total = omega (arith, asked-track .total-fits)
-
-  -- its features can be computed
-  pub asked-computable : Computable t
-  unfolding totalIn
-  asked-computable =
-      let a = asked-track in
-      let g = agreed-tables t (a .agree) in
-      record {
-        short = asked-short;
-        timed = record {
-          some-scale = omega (arith, a .some-scale);
-          total-fits = asked-total;
-          few = omega (arith, g .counted, a .shape .few-samples);
-          agree = sizes-count t (a .shape) ∙ sym (g .counted);
-        };
-      }
-
-  -- and its averages, m being the body of the moov
-  pub asked-averaged : (m : List ℕ) (movie : ℕ) → m ≡ moovOf s → movie ≡ movieScale m → Averaged movie t
-  unfolding totalIn wrongEdits
-  asked-averaged m movie b q =
-      let a = asked-track in
-      let g = agreed-tables t (a .agree) in
-      record {
-        small = record {
-          short = omega (arith, asked-short, table-short stts t);
-          few = omega (arith, g .counted, a .shape .few-samples);
-          total-fits = asked-total;
-        };
-        short = asked-short;
-        edited = rw (q, b) (record {
-          few = omega (arith, edits-few (elstOf t) (editsOf t) (entered-short (elstOf t) (a .shape .elst-size)), a .shape .few-edits);
-          right = ok-all (scaleOf t) (movieScale (moovOf s)) (totalIn t) (elstOf t) (not-false _ (a .edits));
-        });
-      }
 
 -- a table of it
 pub table-fits : (k : ℕ) (t x : List ℕ) → x ≡ tableOf k t → length t < 2 ^ 32 → length x < 2 ^ 32

@@ -1,4 +1,2 @@
 pub mod Asked
 pub mod Samples
-pub mod Times
-pub mod Feature

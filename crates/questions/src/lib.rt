@@ -1,7 +1,5 @@
-// The questions of one track: a sample by its number or by its media time, its bytes, movie time to media time, and features.
-pub mod feature;
+// What every question of one track begins with, and the questions of its samples: a sample by its number, and its bytes.
 pub mod samples;
-pub mod times;
 
 use movie::tracks::has_track;
 use movie::tracks::track_with;

@@ -1,3 +1,4 @@
+pub mod OneMoov
 pub mod Tracks
 pub mod Shaped
 pub mod Callers

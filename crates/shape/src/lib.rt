@@ -3,9 +3,8 @@ use atoms::body_of;
 use atoms::kinds;
 use atoms::size_in;
 use bigendian::u32_at;
-use leaf_checks::is_wrong_size;
+use leaf_checks::is_profile_sized;
 use leaf_checks::is_wrong_track_size;
-use leaf_checks::is_wrong_version;
 use limits::is_over_limits;
 use limits::is_too_many;
 use presence::both;
@@ -13,13 +12,12 @@ use structure::earlier_of;
 use structure::either;
 use structure::moov::moov_body;
 use structure::source::Source;
-use tree::Rule;
-use tree::holds;
+use tree::check_tree;
 ghost use mathlib.Core.Path.{_≡_};
 ghost use Rattle.structure.specs.Rows.{ofWhole};
 ghost use Rattle.structure.specs.ByTracks.{ofTrack};
-ghost use Rattle.shape.specs.Refusals.{fileTooLong, oneMoov, wrongAtoms, fileRows};
-ghost use Rattle.shape.specs.MovieRows.{movieRows, movieRefusal, refusalOf};
+ghost use Rattle.shape.specs.Refusals.{fileTooLong, oneMoov, wrongAtoms};
+ghost use Rattle.shape.specs.MovieRows.{filledTree, versionedMovie, sizedMovie, movieRows, movieRefusal, refusalOf};
 
 // The most bytes that are lent, and the longest file of a moov alone.
 const MOST_LENT: usize = 2147483647;
@@ -52,11 +50,12 @@ fn is_one_moov(lent: &[u8]) -> bool
     both(size == lent.len(), kind == kinds::MOOV)
 }
 
-// 2.
-fn has_wrong_atoms(lent: &[u8], source: Source) -> bool
+// 2, where it is known whether atoms fill every body.
+fn has_wrong_atoms(lent: &[u8], source: Source, filled: bool) -> bool
+    requires { ⌜ filled ≡ filledTree (now lent) ⌝ }
     ensures { λ r. ⌜ r ≡ wrongAtoms source (now (lent .entry)) ⌝ }
 {
-    if !holds(lent, kinds::FILE, FILE_LEVELS, Rule::Filled) {
+    if !filled {
         return true;
     }
     if !source.alone {
@@ -65,30 +64,15 @@ fn has_wrong_atoms(lent: &[u8], source: Source) -> bool
     !is_one_moov(lent)
 }
 
-// The refusal that the lent bytes give before the movie is judged: 1, 2 or 3; 0 where they give none.
-fn file_refusal(lent: &[u8], source: Source) -> u32
-    ensures { λ r. ⌜ r ≡ ofWhole (fileRows source) (now (lent .entry)) ⌝ }
-{
-    if is_too_long(lent, source) {
-        return 1;
-    }
-    if has_wrong_atoms(lent, source) {
-        return 2;
-    }
-    if !holds(lent, kinds::FILE, FILE_LEVELS, Rule::Present(source.alone)) {
-        return 3;
-    }
-    0
-}
-
-// The refusal that a movie gives without its tracks' own.
-fn own_refusal(moov: &[u8], wide: bool) -> u32
+// The refusal that a movie gives without its tracks' own, where it is known whether its read leaves have their versions and sizes.
+fn own_refusal(moov: &[u8], wide: bool, versions: bool, sizes: bool) -> u32
+    requires { ⌜ (versions ≡ versionedMovie wide (now moov)) × (sizes ≡ sizedMovie wide (now moov)) ⌝ }
     ensures { λ r. ⌜ r ≡ ofWhole (movieRows wide) (now (moov .entry)) ⌝ }
 {
-    if is_wrong_version(moov, wide) {
+    if !versions {
         return 4;
     }
-    if is_wrong_size(moov, wide) {
+    if !both(sizes, is_profile_sized(moov)) {
         return 5;
     }
     if is_too_many(moov) {
@@ -111,11 +95,12 @@ fn track_refusal(trak: &[u8], wide: bool) -> u32
 }
 
 // The refusal of a movie, from the body of its moov: the earliest of its own and of each track's; 0 where there is none.
-fn movie_refusal(moov: &[u8], wide: bool) -> u32
+fn movie_refusal(moov: &[u8], wide: bool, versions: bool, sizes: bool) -> u32
+    requires { ⌜ (versions ≡ versionedMovie wide (now moov)) × (sizes ≡ sizedMovie wide (now moov)) ⌝ }
     ensures { λ r. ⌜ r ≡ movieRefusal wide (now (moov .entry)) ⌝ }
 {
     let mut t = moov;
-    let mut found = own_refusal(moov, wide);
+    let mut found = own_refusal(moov, wide, versions, sizes);
     loop {
         let n = size_in(t, kinds::MOOV);
         if n < 8 {
@@ -133,9 +118,15 @@ fn movie_refusal(moov: &[u8], wide: bool) -> u32
 pub fn refusal(lent: &[u8], source: Source) -> u32
     ensures { λ r. ⌜ r ≡ refusalOf source (now (lent .entry)) ⌝ }
 {
-    let found = file_refusal(lent, source);
-    if found != 0 {
-        return found;
+    if is_too_long(lent, source) {
+        return 1;
     }
-    movie_refusal(moov_body(lent), source.alone)
+    let tree = check_tree(lent, kinds::FILE, FILE_LEVELS, source.alone);
+    if has_wrong_atoms(lent, source, tree.filled) {
+        return 2;
+    }
+    if !tree.present {
+        return 3;
+    }
+    movie_refusal(moov_body(lent), source.alone, tree.versions, tree.sizes)
 }

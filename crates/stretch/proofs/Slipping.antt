@@ -1,12 +1,12 @@
 -- Slip writing, from what the code has of the stretch: the head and then the pairs, put one after the other, are the slip's bytes.
 -- Assumes nothing.
 use Prim.Native.Nat.{ℕ, _+_, _^_, _≤_, _<_}
-use mathlib.Core.Path.{_≡_, refl, sym, ap, _∙_}
+use mathlib.Core.Path.{_≡_, refl, sym, ap, subst, _∙_}
 use mathlib.Core.List.{List, [], _∷_, _++_}
 use mathlib.Core.Bool.{Bool, true, false, cond}
 use native.Mathlib.Omega.{arith}
 use native.Mathlib.Nat.{zero-add}
-use borrow.Author.Tests.{eq-eqb, ne-eqb, lt-ltb, le-ltb}
+use borrow.Author.Tests.{eq-eqb, ne-eqb, lt-ltb, le-ltb, lt-leb}
 use lib.ListN.{length, drop, length-append}
 use lib.Dec.{eqb}
 use lib.Seq.{sets, sets-eq, length-sets}
@@ -14,65 +14,84 @@ use Rattle.lists.proofs.Stores.{sets-append}
 use Rattle.leb128.specs.Numbers.{writes}
 use Rattle.leb128.specs.Writing.{putAt, pastPut}
 use Rattle.leb128.proofs.Puts.{writes-append, writes-few, put-fits}
-use Rattle.slip.specs.Slip.{headNumbers, slipBytes}
-use Rattle.slip.specs.declared.Head.{Head}
+use Rattle.slip_head.specs.Bytes.{afterForm, headNumbers, anyWide, formFor, slipBytes}
+use Rattle.slip_head.specs.declared.Head.{Head}
+use Rattle.slip_head.proofs.Writes.{slip-form}
 use Rattle.structure.specs.declared.source.Source.{Source}
-use Rattle.structure.specs.Source.{strictly}
+use Rattle.structure.specs.Source.{wholeFile, strictly}
 use Rattle.structure.specs.Track.{scaleOf}
 use Rattle.structure.specs.Rows.{orElse}
 use Rattle.movie.specs.Rooms.{noRoom, filledRoom, roomAfter, refusedWith}
 use Rattle.movie.proofs.Answers.{puts, puts-refused}
 use Rattle.pairs.specs.Pairs.{flat}
+use Rattle.pairs.specs.declared.Pair.{Pair}
+use Rattle.pairs.specs.Walks.{pairsBetween, Fitting}
+use Rattle.pairs.proofs.Filling.{flat-length}
+use Rattle.slip_pairs.specs.Measures.{pairBytes, measuredOf, Wrote}
+use Rattle.slip_pairs.specs.declared.Measured.{Measured}
 use Rattle.edits.specs.declared.MediaTime.{MediaTime}
 use Rattle.questions.specs.Asked.{trackAsked}
-use Rattle.stretch.specs.Spans.{Usable, Spans, spanPairs, PutSlip}
+use Rattle.stretch.specs.Spans.{Usable, Spans, spanPairs, NarrowHead, PutSlip}
 use Rattle.stretch.specs.Stretches.{stretchPairs, spanAt, spanRefusal}
 use Rattle.stretch.specs.Slips.{slipHead, slipOfStretch, slipRefusal, slipAsked, slipNumbers, Slips}
 use Rattle.stretch.specs.declared.Span.{Span}
 use Rattle.stretch.specs.declared.slips.SlipAnswer.{SlipAnswer}
 use Rattle.stretch.specs.declared.slips.SlipAnswer.the-variants.{Written, Refused}
-use Rattle.stretch.proofs.Spanning.{in-span-of, pairs-few, pairs-are, flat-length}
+use Rattle.stretch.proofs.Spanning.{in-span-of, pairs-few, pairs-fit, pairs-are}
 
 -- ---- how long it is
 
-pub pairs-short : (t : List ℕ) (s : Span) → Usable t → length (writes (flat (spanPairs t s))) < 2 ^ 63
+pub pairs-short : (t : List ℕ) (s : Span) → Usable (2 ^ 64) t → length (pairBytes (spanPairs t s)) < 2 ^ 63
+unfolding pairBytes
 pairs-short t s u = omega (arith, writes-few (flat (spanPairs t s)), flat-length (spanPairs t s), pairs-few t s u)
 
-pub split : (h : Head) (ps : List ℕ) → slipBytes h ps ≡ writes (headNumbers h []) ++ writes ps
-unfolding slipBytes
-split h ps = writes-append (headNumbers h []) ps
+-- what is asked where pairs are measured
+pub may-measure : (t : List ℕ) (s : Span) → Usable (2 ^ 64) t → s .from ≤ s .stop → (l : List Pair) → l ≡ spanPairs t s → Fitting (2 ^ 64) l × (length (pairBytes l) < 2 ^ 64)
+may-measure t s u o l e = rw e (pairs-fit t s u o, omega (arith, pairs-short t s u))
 
-pub split-length : (h : Head) (ps : List ℕ) → length (slipBytes h ps) ≡ length (writes (headNumbers h [])) + length (writes ps)
-split-length h ps = ap length (split h ps) ∙ length-append (writes (headNumbers h [])) (writes ps)
+pub length-fits : (t : List ℕ) (s : Span) (h : Head) → Usable (2 ^ 64) t → (k : ℕ) (m : Measured) → k ≡ length (writes (headNumbers (formFor (m .wide)) h [])) → m ≡ measuredOf (spanPairs t s) → k + m .bytes < 2 ^ 64
+length-fits t s h u k m e f = omega (arith, pairs-short t s u, ap (λ (x : Measured). x .bytes) f, writes-few (headNumbers (formFor (m .wide)) h []))
 
-pub length-fits : (t : List ℕ) (s : Span) (h : Head) → Usable t → (k n : ℕ) → k ≡ length (writes (headNumbers h [])) → n ≡ length (writes (flat (spanPairs t s))) → k + n < 2 ^ 64
-length-fits t s h u k n e f = omega (arith, pairs-short t s u, writes-few (headNumbers h []))
+-- where the numbers before the pairs are narrow, the pairs alone tell the form
+narrow-form : (h : Head) (ps : List ℕ) → NarrowHead h → anyWide (afterForm h ps) ≡ anyWide ps
+unfolding anyWide
+narrow-form h ps n =
+    rw (lt-leb (2 ^ 32) (h .id) (n .id), lt-leb (2 ^ 32) (h .scale) (n .scale), lt-leb (2 ^ 32) (h .a) (n .a), lt-leb (2 ^ 32) (h .b) (n .b), lt-leb (2 ^ 32) (h .pairs) (n .pairs))
 
 -- ---- where it fits, and where it does not
 
-module _ (h : Head) (ps out : List ℕ) (k n : ℕ) (e : k ≡ length (writes (headNumbers h []))) (f : n ≡ length (writes ps)) where
-  pub too-long : length out < k + n → PutSlip (slipBytes h ps) out (Refused 16) out
+module _ (h : Head) (qs : List Pair) (out : List ℕ) (k : ℕ) (m : Measured) (narrow : NarrowHead h) (e : k ≡ length (writes (headNumbers (formFor (m .wide)) h []))) (f : m ≡ measuredOf qs) where
+  abbrev hd : List ℕ
+  hd = writes (headNumbers (formFor (m .wide)) h [])
+
+  split : slipBytes h (flat qs) ≡ hd ++ pairBytes qs
+  unfolding pairBytes
+  split = slip-form h (flat qs) (m .wide) (narrow-form h (flat qs) narrow ∙ sym (ap (λ (x : Measured). x .wide) f)) ∙ writes-append (headNumbers (formFor (m .wide)) h []) (flat qs)
+
+  split-length : length (slipBytes h (flat qs)) ≡ k + m .bytes
+  split-length = omega (arith, ap length split ∙ length-append hd (pairBytes qs), ap (λ (x : Measured). x .bytes) f)
+
+  pub too-long : length out < k + m .bytes → PutSlip (slipBytes h (flat qs)) out (Refused 16) out
   unfolding noRoom roomAfter
   too-long g =
-      let l = lt-ltb (length out) (length (slipBytes h ps)) (omega (arith, split-length h ps)) in
+      let l = lt-ltb (length out) (length (slipBytes h (flat qs))) (omega (arith, split-length)) in
       record { answer = rw l; places = rw l }
 
-  module _ (g : k + n ≤ length out) (at : ℕ) (half : List ℕ) (a : at ≡ pastPut out 0 (writes (headNumbers h []))) (b : half ≡ putAt out 0 (writes (headNumbers h []))) where
-    head-fits : (pastPut out 0 (writes (headNumbers h [])) ≡ 0 + length (writes (headNumbers h []))) × (putAt out 0 (writes (headNumbers h [])) ≡ sets out 0 (writes (headNumbers h [])))
-    head-fits = put-fits out 0 (writes (headNumbers h [])) (omega arith)
+  module _ (g : k + m .bytes ≤ length out) (at : ℕ) (half : List ℕ) (a : at ≡ pastPut out 0 hd) (b : half ≡ putAt out 0 hd) where
+    head-fits : (pastPut out 0 hd ≡ 0 + length hd) × (putAt out 0 hd ≡ sets out 0 hd)
+    head-fits = put-fits out 0 hd (omega arith)
 
-    pub pairs-fit : at + length (writes ps) ≤ length half
-    pairs-fit = omega (arith, a ∙ head-fits .0, ap length (b ∙ head-fits .1) ∙ length-sets out 0 (writes (headNumbers h [])))
+    pub pairs-after : at + length (pairBytes qs) ≤ length half
+    pairs-after = omega (arith, a ∙ head-fits .0, ap length (b ∙ head-fits .1) ∙ length-sets out 0 hd, ap (λ (x : Measured). x .bytes) f)
 
-    pub all-put : (r : ℕ) (after : List ℕ) → r ≡ at + length (writes ps) → after ≡ sets half at (writes ps) → PutSlip (slipBytes h ps) out (Written r) after
+    pub all-put : (r : ℕ) (after : List ℕ) → Wrote qs half at r after → PutSlip (slipBytes h (flat qs)) out (Written r) after
     unfolding noRoom roomAfter filledRoom
-    all-put r after c d =
-        let hd = writes (headNumbers h []) in
-        let l = le-ltb (length out) (length (slipBytes h ps)) (omega (arith, split-length h ps)) in
+    all-put r after d =
+        let l = le-ltb (length out) (length (slipBytes h (flat qs))) (omega (arith, split-length)) in
         let x : at ≡ 0 + length hd = a ∙ head-fits .0 in
-        let y : r ≡ length (slipBytes h ps) = omega (arith, split-length h ps) in
-        let v : after ≡ sets out 0 (slipBytes h ps) = d ∙ rw (b ∙ head-fits .1, x) (sym (ap (λ (m : List ℕ). sets out 0 m) (split h ps) ∙ sets-append out 0 hd (writes ps))) in
-        let w : sets out 0 (slipBytes h ps) ≡ slipBytes h ps ++ drop (length (slipBytes h ps)) out = rw (zero-add) at (sets-eq (slipBytes h ps) out 0 (omega (arith, split-length h ps))) in
+        let y : r ≡ length (slipBytes h (flat qs)) = omega (arith, split-length, d .ends, ap (λ (v : Measured). v .bytes) f) in
+        let v : after ≡ sets out 0 (slipBytes h (flat qs)) = d .stored ∙ rw (b ∙ head-fits .1, x) (sym (ap (λ (n : List ℕ). sets out 0 n) split ∙ sets-append out 0 hd (pairBytes qs))) in
+        let w : sets out 0 (slipBytes h (flat qs)) ≡ slipBytes h (flat qs) ++ drop (length (slipBytes h (flat qs))) out = rw (zero-add) at (sets-eq (slipBytes h (flat qs)) out 0 (omega (arith, split-length))) in
         record { answer = rw (l, ← y); places = rw l (v ∙ w) }
 
 -- ---- the answers
@@ -111,11 +130,15 @@ module _ (s t out : List ℕ) (w v : Source) (id : ℕ) (a b : MediaTime) (r : �
       let k : spanAt s (strictly w) id (a .0) (b .0) ≡ 0 = sym (e ∙ ap (λ u. spanAt s u id (a .0) (b .0)) h) ∙ z in
       rw k
 
-  pub slip-put : (y : SlipAnswer) (after : List ℕ)
-      → PutSlip (slipBytes (record { id = id; scale = scale; a = a .0; b = b .0; pairs = n }) (flat (spanPairs t p))) out y after → Slips s w id a b out y after
+  pub slip-put : (k : Head) → k ≡ record { id = id; scale = scale; a = a .0; b = b .0; pairs = n } → (y : SlipAnswer) (after : List ℕ)
+      → PutSlip (slipBytes k (flat (spanPairs t p))) out y after → Slips s w id a b out y after
   unfolding slipNumbers
-  slip-put y after i =
-      let u : PutSlip (slipOfStretch s id a b) out y after = rw bytes-are at i in
+  slip-put k x y after i =
+      let u : PutSlip (slipOfStretch s id a b) out y after = rw (ap (λ (v : Head). slipBytes v (flat (spanPairs t p))) x ∙ bytes-are) at i in
       puts slipNumbers (refusedWith 1) Refused (λ k. refl) (slipAsked s id a b) (slipOfStretch s id a b) out (slipRefusal s w id a b out) y after
       (u .answer ∙ rw then-room)
       (u .places ∙ rw then-room)
+
+-- of a whole file, by the source that the code makes
+pub of-whole : (s : List ℕ) (w : Source) (id : ℕ) (a b : MediaTime) (out : List ℕ) (r : SlipAnswer) (after : List ℕ) → w ≡ wholeFile → Slips s w id a b out r after → Slips s wholeFile id a b out r after
+of-whole s w id a b out r after h p = subst (λ v. Slips s v id a b out r after) h p

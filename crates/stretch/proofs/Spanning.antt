@@ -1,30 +1,33 @@
 -- The stretch question, from what the code has of the track: its samples, its pairs, and each of its answers.
 -- Assumes nothing.
-use Prim.Native.Nat.{ℕ, zero, suc, _+_, _*_, _-_, _/_, _≤_, _<_, max}
+use Prim.Native.Nat.{ℕ, zero, suc, _+_, _*_, _-_, _/_, _^_, _≤_, _<_, max}
 use mathlib.Core.Path.{_≡_, refl, sym, ap, subst, _∙_}
 use mathlib.Core.List.{List, [], _∷_, _++_}
 use mathlib.Core.Bool.{Bool, true, false, cond, _&&_}
 use native.Mathlib.Omega.{arith}
-use native.Mathlib.Nat.{zero-add, div-lt-iff-lt-mul}
+use native.Mathlib.Nat.{zero-add, zero-mul, suc-mul, div-lt-iff-lt-mul, mul-le-mul-right}
+use native.Mathlib.Decide.{ℕ-discrete, decLt}
 use borrow.Author.Tests.{eq-eqb, ne-eqb, lt-ltb, le-ltb, le-leb, lt-leb, not-false, ltb-true, leb-true}
-use lib.ListN.{length, drop}
+use lib.ListN.{length, getD, take, drop, replicate, length-replicate, getD-replicate, List·getD-eq-default}
 use lib.Dec.{eqb, ltb, leb, lit<}
-use lib.Seq.{sets, sets-eq}
+use lib.Seq.{sets, sets-eq, getD-drop}
 use Rattle.bigendian.specs.BigEndian.{u32At}
-use Rattle.atoms.specs.Kinds.{stts, stsc, stsz, stco}
-use Rattle.lists.specs.Lists.{sum, holder}
+use Rattle.bigendian.proofs.Laws.{beAt-below}
+use Rattle.atoms.specs.Kinds.{stts, stsc, stsz}
+use Rattle.lists.specs.Lists.{sum, between, holder}
 use Rattle.lists.proofs.Places.{holder-holds, holds-below, holder-only, holder-mono}
 use Rattle.lists.proofs.Booleans.{and-left, and-right, cond-zero}
 use Rattle.runs.specs.Runs.{perSample, sampleAt}
 use Rattle.runs.specs.declared.Lookup.{Lookup}
 use Rattle.runs.specs.declared.Lookup.the-variants.{At, Outside}
 use Rattle.runs.proofs.Sentences.{sample-holds, outside-known}
-use Rattle.words.specs.Words.{sizes, chunkOffsets}
+use Rattle.words.specs.Words.{wordsIn, sizes, chunkOffsets}
+use Rattle.words.proofs.Turns.{words-at, words-past, sizes-listed, sizes-common}
 use Rattle.chunks.specs.Chunks.{perChunk}
 use Rattle.chunks.proofs.Agreed.{samples-length}
 use Rattle.structure.specs.declared.source.Source.{Source}
-use Rattle.structure.specs.Source.{wholeFile}
-use Rattle.structure.specs.Track.{tableOf, samplesOf, chunksOf}
+use Rattle.structure.specs.Source.{wholeFile, lengthOf}
+use Rattle.structure.specs.Track.{tableOf, offsetTable, samplesOf, chunksOf}
 use Rattle.structure.specs.Rows.{orElse}
 use Rattle.structure.proofs.Callers.{none-else}
 use Rattle.track.specs.Track.{trackOf}
@@ -33,11 +36,12 @@ use Rattle.track.proofs.Agreed.{agreed-tables}
 use Rattle.movie.specs.Rooms.{noRoom, filledRoom, refusedWith}
 use Rattle.movie.proofs.Answers.{puts-refused, puts-answer}
 use Rattle.pairs.specs.Pairs.{flat}
-use Rattle.pairs.specs.Walks.{pairsBetween, lengthsOf, countBetween, Putting}
+use Rattle.pairs.specs.Walks.{pairsBetween, lengthsOf, countBetween, Fitting, Putting}
 use Rattle.pairs.specs.declared.Pair.{Pair}
 use Rattle.pairs.proofs.Touched.{touched-count, touched-few, touched-sum, touched-fits, fits-sum}
+use Rattle.pairs.proofs.Filling.{flat-length}
 use Rattle.questions.specs.Asked.{askRefusal, trackAsked}
-use Rattle.stretch.specs.Spans.{Usable, Spans, spanIn, spanAsked, spanPairs}
+use Rattle.stretch.specs.Spans.{Usable, Spans, spanIn, spanAsked, spanPairs, MayPut}
 use Rattle.stretch.specs.Stretches.{firstIn, pastIn, pairsIn, bytesIn, stretchPairs, spanAt, spanRefusal, stretchRefusal, stretchAsked, stretchNumbers, Stretches}
 use Rattle.stretch.specs.declared.Span.{Span}
 use Rattle.stretch.specs.declared.Asked.{Asked}
@@ -64,22 +68,32 @@ in-span-of s w id a b e =
 
 -- ---- the track
 
-pub usable : (s t : List ℕ) (w : Source) (id : ℕ) → askRefusal s w id ≡ 0 → t ≡ trackAsked s id → Usable t
-usable s t w id e d =
+usable-below : (bound : ℕ) (s t : List ℕ) (w : Source) (id : ℕ) → askRefusal s w id ≡ 0 → t ≡ trackAsked s id → lengthOf w s < bound → Usable bound t
+usable-below bound s t w id e d h =
     let a = asked s w id e in
     rw d (record {
       short = omega (arith, a .short, a .file .shape .short);
       agree = a .track .agree;
       few-samples = a .track .shape .few-samples;
       few-chunks = a .track .shape .few-chunks;
-      limit = length s;
-      low = a .file .shape .short;
+      limit = lengthOf w s;
+      low = h;
       within = a .track .within;
     })
 
+-- of any film, and of a whole file, which has at most 2,147,483,647 bytes
+pub usable : (s t : List ℕ) (w : Source) (id : ℕ) → askRefusal s w id ≡ 0 → t ≡ trackAsked s id → Usable (2 ^ 64) t
+usable s t w id e d = usable-below (2 ^ 64) s t w id e d (omega (arith, asked s w id e .file .shape .low))
+
+pub usable-whole : (s t : List ℕ) (w : Source) (id : ℕ) → askRefusal s w id ≡ 0 → t ≡ trackAsked s id → w ≡ wholeFile → Usable (2 ^ 32) t
+unfolding lengthOf
+usable-whole s t w id e d h =
+    let l : lengthOf w s ≡ length s = ap (λ v. lengthOf v s) h in
+    usable-below (2 ^ 32) s t w id e d (omega (arith, l, asked s w id e .file .shape .short))
+
 -- ---- the samples
 
-module _ (t x : List ℕ) (time : ℕ) (f : Lookup) (u : Usable t) (h : time < totalIn t) (d : x ≡ tableOf stts t) (g : f ≡ sampleAt (perSample x) time) where
+module _ (t x : List ℕ) (time : ℕ) (f : Lookup) (u : Usable (2 ^ 64) t) (h : time < totalIn t) (d : x ≡ tableOf stts t) (g : f ≡ sampleAt (perSample x) time) where
   inside : time < sum (perSample x)
   unfolding totalIn
   inside = rw d h
@@ -160,49 +174,92 @@ count-same : (stsc stsz stco : List ℕ) (chunks i j : ℕ) → countBetween sts
 unfolding countBetween
 count-same stsc stsz stco chunks i j = touched-count i j 0 (perChunk stsc chunks) [] [] (chunkOffsets stco) (sizes stsz)
 
-pub count-is : (t x o : List ℕ) (s : Span) (c n : ℕ) → x ≡ tableOf stsc t → o ≡ tableOf stco t → c ≡ u32At o 12 → n ≡ countBetween x c (s .from) (s .stop) → n ≡ length (spanPairs t s)
+pub count-is : (t x o : List ℕ) (s : Span) (c n : ℕ) → x ≡ tableOf stsc t → o ≡ offsetTable t → c ≡ u32At o 12 → n ≡ countBetween x c (s .from) (s .stop) → n ≡ length (spanPairs t s)
 unfolding spanPairs
 count-is t x o s c n e f g h =
     let k : c ≡ chunksOf t = g ∙ rw f in
-    h ∙ rw (e, k) (count-same (tableOf stsc t) (tableOf stsz t) (tableOf stco t) (chunksOf t) (s .from) (s .stop))
+    h ∙ rw (e, k) (count-same (tableOf stsc t) (tableOf stsz t) (offsetTable t) (chunksOf t) (s .from) (s .stop))
 
-module _ (t : List ℕ) (s : Span) (u : Usable t) where
+-- no size is above 32 bits, so that those of some samples add up to no more than as many times the largest
+all-low : (b k : ℕ) (l : List ℕ) → ((i : ℕ) → getD l i 0 ≤ b) → sum (take k l) ≤ k * b
+all-low b zero l h = omega (arith, zero-mul b)
+all-low b (suc k) [] h = omega arith
+all-low b (suc k) (x ∷ l) h = omega (arith, suc-mul k b, h 0, all-low b k l (λ i. h (suc i)))
+
+size-low : (z : List ℕ) → ((i : ℕ) → getD z i 0 < 256) → (i : ℕ) → getD (sizes z) i 0 ≤ 4294967295
+size-low z h i = elim (ℕ-discrete (u32At z 12) 0) [
+  | yes e ↦ elim (decLt i (length (drop 20 z) / 4)) [
+    | yes l ↦ omega (arith, ap (λ k. getD k i 0) (sizes-listed z refl e) ∙ words-at (drop 20 z) i l, beAt-below 4 (drop 20 z) (i * 4) (λ k. let g = getD-drop 20 z k 0 in omega (arith, h (20 + k))))
+    | no l ↦ omega (arith, ap (λ k. getD k i 0) (sizes-listed z refl e) ∙ words-past (drop 20 z) i (omega arith))
+  ]
+  | no e ↦ elim (decLt i (u32At z 16)) [
+    | yes l ↦ omega (arith, ap (λ k. getD k i 0) (sizes-common z refl e) ∙ getD-replicate (u32At z 16) i (u32At z 12) 0 l, beAt-below 4 z 12 h)
+    | no l ↦ omega (arith, ap (λ k. getD k i 0) (sizes-common z refl e) ∙ List·getD-eq-default (replicate (u32At z 16) (u32At z 12)) 0 {n = i} (omega (arith, length-replicate (u32At z 16) (u32At z 12))))
+  ]
+]
+
+between-low : (z : List ℕ) → ((i : ℕ) → getD z i 0 < 256) → (i j : ℕ) → between (sizes z) i j ≤ (j - i) * 4294967295
+between-low z h i j = all-low 4294967295 (j - i) (drop i (sizes z)) (λ k. let g = getD-drop i (sizes z) k 0 in omega (arith, size-low z h (i + k)))
+
+module _ {bound : ℕ} (t : List ℕ) (s : Span) (u : Usable bound t) where
   pub pairs-few : length (spanPairs t s) ≤ 1048576
   unfolding spanPairs
   pairs-few =
       let ps = perChunk (tableOf stsc t) (chunksOf t) in
       omega (
         arith,
-        touched-few (s .from) (s .stop) 0 ps (chunkOffsets (tableOf stco t)) (sizes (tableOf stsz t)),
+        touched-few (s .from) (s .stop) 0 ps (chunkOffsets (offsetTable t)) (sizes (tableOf stsz t)),
         samples-length (tableOf stsc t) (chunksOf t) _ (agreed-tables t (u .agree) .deals),
         u .few-chunks,
       )
 
-  pub putting : (k : ℕ) → s .from ≤ s .stop → 2 * length (spanPairs t s) ≤ k → Putting (tableOf stsc t) (tableOf stsz t) (tableOf stco t) (chunksOf t) (s .from) (s .stop) k
+  pub pairs-fit : s .from ≤ s .stop → Fitting bound (spanPairs t s)
   unfolding spanPairs chunkPastEnd
-  putting k o h =
-      let ps = perChunk (tableOf stsc t) (chunksOf t) in
-      let f = touched-fits (u .limit) (s .from) (s .stop) 0 ps (chunkOffsets (tableOf stco t)) (sizes (tableOf stsz t)) o (omega (arith, u .low)) (not-false _ (u .within)) in
-      record {
-        short = table-fits stsc t (tableOf stsc t) refl (u .short);
-        fits = f;
-        total = omega (arith, fits-sum (pairsBetween (tableOf stsc t) (tableOf stsz t) (tableOf stco t) (chunksOf t) (s .from) (s .stop)) f, pairs-few);
-        room = h;
-      }
+  pairs-fit o = touched-fits (u .limit) (s .from) (s .stop) 0 (perChunk (tableOf stsc t) (chunksOf t)) (chunkOffsets (offsetTable t)) (sizes (tableOf stsz t)) o (u .low) (not-false _ (u .within))
+
+putting : (t : List ℕ) (s : Span) → Usable (2 ^ 32) t → (k : ℕ) → s .from ≤ s .stop → 2 * length (spanPairs t s) ≤ k
+    → Putting (2 ^ 32) (tableOf stsc t) (tableOf stsz t) (offsetTable t) (chunksOf t) (s .from) (s .stop) k
+unfolding spanPairs
+putting t s u k o h =
+    let f = pairs-fit t s u o in
+    record { short = table-fits stsc t (tableOf stsc t) refl (u .short); fits = f; total = omega (arith, fits-sum (spanPairs t s) f, pairs-few t s u); room = h }
+
+-- the pairs' lengths are the sizes of the samples, added
+pub wide-putting : {x z o : List ℕ} {c : ℕ} {s : Span} {k : ℕ} → MayPut x z o c s k → ((i : ℕ) → getD z i 0 < 256) → Putting (2 ^ 64) x z o c (s .from) (s .stop) k
+wide-putting {x} {z} {o} {c} {s} {k} w y =
+    let e = touched-sum (s .from) (s .stop) 0 (perChunk x c) (chunkOffsets o) (sizes z) (w .order) (omega (arith, w .ends)) (omega arith) in
+    let g : s .stop - max (s .from) 0 ≤ 1048576 = omega (arith, w .few) in
+    record { short = w .short; fits = w .fits; total = omega (arith, e, between-low z y (max (s .from) 0) (s .stop), mul-le-mul-right 4294967295 g); room = w .room }
+
+may-wide : (t : List ℕ) (s : Span) → Usable (2 ^ 64) t → (k : ℕ) → s .from ≤ s .stop → s .stop ≤ samplesOf t → 2 * length (spanPairs t s) ≤ k
+    → MayPut (tableOf stsc t) (tableOf stsz t) (offsetTable t) (chunksOf t) s k
+unfolding spanPairs
+may-wide t s u k o n h =
+    record {
+      short = table-fits stsc t (tableOf stsc t) refl (u .short);
+      fits = pairs-fit t s u o;
+      order = o;
+      ends = omega (arith, agreed-tables t (u .agree) .dealt);
+      few = omega (arith, u .few-samples);
+      room = h;
+    }
 
 -- from what the code has of the tables
-module _ (t x z o : List ℕ) (s : Span) (c : ℕ) (ex : x ≡ tableOf stsc t) (ez : z ≡ tableOf stsz t) (eo : o ≡ tableOf stco t) (ec : c ≡ u32At o 12) where
+module _ (t x z o : List ℕ) (s : Span) (c : ℕ) (ex : x ≡ tableOf stsc t) (ez : z ≡ tableOf stsz t) (eo : o ≡ offsetTable t) (ec : c ≡ u32At o 12) where
   pub between-is : pairsBetween x z o c (s .from) (s .stop) ≡ spanPairs t s
   unfolding spanPairs
   between-is = let k : c ≡ chunksOf t = ec ∙ rw eo in rw (ex, ez, eo, k)
 
-  pub may-put : (k : ℕ) → Usable t → s .from ≤ s .stop → 2 * length (spanPairs t s) ≤ k → Putting x z o c (s .from) (s .stop) k
+  pub may-put : (k : ℕ) → Usable (2 ^ 32) t → s .from ≤ s .stop → 2 * length (spanPairs t s) ≤ k → Putting (2 ^ 32) x z o c (s .from) (s .stop) k
   may-put k u q h = let n : c ≡ chunksOf t = ec ∙ rw eo in rw (ex, ez, eo, n) (putting t s u k q h)
+
+  pub may-put-wide : (k : ℕ) → Usable (2 ^ 64) t → s .from ≤ s .stop → s .stop ≤ samplesOf t → 2 * length (spanPairs t s) ≤ k → MayPut x z o c s k
+  may-put-wide k u q l h = let n : c ≡ chunksOf t = ec ∙ rw eo in rw (ex, ez, eo, n) (may-wide t s u k q l h)
 
 -- ---- the stretch of the track that is asked
 
 module _ (s t : List ℕ) (w : Source) (id : ℕ) (a b : MediaTime) (i : InSpan s w id (a .0) (b .0)) (d : t ≡ trackAsked s id) (p : Span) (q : Spans t (a .0) (b .0) p) where
-  ready : Usable t
+  ready : Usable (2 ^ 64) t
   ready = usable s t w id (i .asks) d
 
   pub pairs-are : spanPairs t p ≡ stretchPairs s id a b
@@ -223,20 +280,19 @@ module _ (s t : List ℕ) (w : Source) (id : ℕ) (a b : MediaTime) (i : InSpan 
   pub span-order : p .from ≤ p .stop
   span-order = omega (arith, bounds .0)
 
+  pub span-ends : p .stop ≤ samplesOf t
+  span-ends = bounds .1
+
   -- the pairs' lengths are the sizes of the samples, added
   pub bytes-are : sum (lengthsOf (spanPairs t p)) ≡ bytesIn (trackOf (trackAsked s id)) a b
   unfolding spanPairs bytesIn firstIn pastIn trackOf
   bytes-are =
       let ps = perChunk (tableOf stsc t) (chunksOf t) in
-      let z = touched-sum (p .from) (p .stop) 0 ps (chunkOffsets (tableOf stco t)) (sizes (tableOf stsz t)) span-order (omega (arith, bounds .1, agreed-tables t (ready .agree) .dealt)) (omega arith) in
+      let z = touched-sum (p .from) (p .stop) 0 ps (chunkOffsets (offsetTable t)) (sizes (tableOf stsz t)) span-order (omega (arith, bounds .1, agreed-tables t (ready .agree) .dealt)) (omega arith) in
       let e : max (p .from) 0 ≡ p .from = omega arith in
       z ∙ rw e (rw (q .first, q .past, d))
 
 -- ---- the answers
-
-pub flat-length : (l : List Pair) → length (flat l) ≡ 2 * length l
-flat-length [] = refl
-flat-length (x ∷ l) = omega (arith, flat-length l)
 
 answered : (s : List ℕ) (w : Source) (id : ℕ) (a b : MediaTime) (room : List ℕ) (r : ℕ) → stretchRefusal s w id a b room ≡ r → (r ≡ 0 → ⊥) → Stretches s w id a b room (Refused r) room
 unfolding stretchNumbers

@@ -4,8 +4,8 @@ use mathlib.Core.List.{List, [], _∷_}
 use lib.ListN.{length}
 use Rattle.pairs.specs.Pairs.{flat}
 use Rattle.edits.specs.declared.MediaTime.{MediaTime}
-use Rattle.slip.specs.Slip.{slipBytes}
-use Rattle.slip.specs.declared.Head.{Head}
+use Rattle.slip_head.specs.Bytes.{slipBytes}
+use Rattle.slip_head.specs.declared.Head.{Head}
 use Rattle.structure.specs.declared.source.Source.{Source}
 use Rattle.structure.specs.Source.{strictly}
 use Rattle.structure.specs.Track.{scaleOf}

@@ -1,29 +1,29 @@
-// The byte ranges of a stretch of media time, in lent 32-bit numbers; and its slip.
+// The byte ranges of a stretch of media time, in lent numbers of 32 or 64 bits; and its slip.
 pub mod slips;
 
 use atoms::kinds;
 use bigendian::u32_at;
 use edits::MediaTime;
 use pairs::count_pairs;
-use pairs::put_pairs;
 use questions::ask_refusal;
 use questions::track_asked;
 use runs::Lookup;
 use structure::source::Source;
+use structure::trak::offset_table;
 use structure::trak::table;
 ghost use mathlib.Core.Path.{_≡_};
-ghost use Prim.Native.Nat.{_≤_, _<_, _*_};
+ghost use Prim.Native.Nat.{_≤_, _<_, _*_, _^_};
 ghost use lib.ListN.{length};
 ghost use lib.Seq.{sets};
 ghost use Rattle.lists.specs.Lists.{sum, holder};
 ghost use Rattle.runs.specs.Runs.{perSample};
 ghost use Rattle.atoms.specs.Kinds.{stts};
 ghost use Rattle.structure.specs.Source.{wholeFile};
-ghost use Rattle.structure.specs.Track.{tableOf};
+ghost use Rattle.structure.specs.Track.{tableOf, samplesOf};
 ghost use Rattle.track.specs.Refusals.{totalIn};
 ghost use Rattle.pairs.specs.Pairs.{flat};
-ghost use Rattle.pairs.specs.Walks.{lengthsOf};
-ghost use Rattle.stretch.specs.Spans.{Usable, spanIn, spanAsked, spanPairs};
+ghost use Rattle.pairs.specs.Walks.{pairsBetween, lengthsOf};
+ghost use Rattle.stretch.specs.Spans.{Usable, spanIn, spanAsked, spanPairs, MayPut};
 ghost use Rattle.stretch.specs.Stretches.{spanRefusal, Stretches};
 
 // Samples by their indices: from the first up to, not including, `stop`.
@@ -40,7 +40,7 @@ enum Asked {
 
 // The index of the sample at a media time.
 fn index_at(trak: &[u8], t: u32) -> u32
-    requires { ⌜ Usable (now trak) × (t < totalIn (now trak)) ⌝ }
+    requires { ⌜ Usable (2 ^ 64) (now trak) × (t < totalIn (now trak)) ⌝ }
     ensures { λ r. ⌜ (r ≡ holder (perSample (tableOf stts (now (trak .entry)))) t) × (r < 1048576) ⌝ }
 {
     match runs::sample_at(table(trak, kinds::STTS), t) {
@@ -52,7 +52,7 @@ fn index_at(trak: &[u8], t: u32) -> u32
 // The samples of the stretch from a to b of a track; 15 where it lies outside. That b is not above the total is known by the sample at b - 1, so that the
 // total need not be added first.
 fn span_in(trak: &[u8], a: u32, b: u32) -> Asked
-    requires { ⌜ Usable (now trak) ⌝ }
+    requires { ⌜ Usable (2 ^ 64) (now trak) ⌝ }
     ensures { λ r. ⌜ r ≡ spanIn (now (trak .entry)) a b ⌝ }
 {
     if b <= a {
@@ -93,32 +93,60 @@ pub fn span_refusal(lent: &[u8], source: Source, id: u32, a: MediaTime, b: Media
 
 // How many chunks some samples of a track touch.
 fn count_in(trak: &[u8], s: Span) -> u64
-    requires { ⌜ Usable (now trak) ⌝ }
+    requires { ⌜ Usable (2 ^ 64) (now trak) ⌝ }
     ensures { λ r. ⌜ r ≡ length (spanPairs (now (trak .entry)) s) ⌝ }
 {
     let stsc = table(trak, kinds::STSC);
-    let chunks = u32_at(table(trak, kinds::STCO), 12);
+    let chunks = u32_at(offset_table(trak), 12);
     count_pairs(stsc, chunks, s.from, s.stop)
 }
 
 // Puts the pairs of some samples of a track into the first places of the room, and answers their lengths, added.
 fn put_in(trak: &[u8], s: Span, room: &mut [u32]) -> u64
-    requires { ⌜ Usable (now trak) × (s .from ≤ s .stop) × (2 * length (spanPairs (now trak) s) ≤ length (now room)) ⌝ }
+    requires { ⌜ Usable (2 ^ 32) (now trak) × (s .from ≤ s .stop) × (2 * length (spanPairs (now trak) s) ≤ length (now room)) ⌝ }
     ensures { λ r. ⌜ (r ≡ sum (lengthsOf (spanPairs (now (trak .entry)) s))) × (now (room .exit) ≡ sets (now (room .entry)) 0 (flat (spanPairs (now (trak .entry)) s))) ⌝ }
 {
     let stsc = table(trak, kinds::STSC);
     let stsz = table(trak, kinds::STSZ);
-    let stco = table(trak, kinds::STCO);
-    put_pairs(stsc, stsz, stco, u32_at(stco, 12), s.from, s.stop, room)
+    let offsets = offset_table(trak);
+    narrow_pairs::put_pairs(
+        stsc,
+        stsz,
+        offsets,
+        u32_at(offsets, 12),
+        s.from,
+        s.stop,
+        room,
+    )
 }
 
-// The answer of `stretch_of`: how many pairs, and the total of bytes; or the number of a refusal.
+// Puts the pairs of some samples into a room of 64-bit numbers.
+fn put_wide(stsc: &[u8], stsz: &[u8], offsets: &[u8], chunks: u32, s: Span, room: &mut [u64]) -> u64
+    requires { ⌜ MayPut (now stsc) (now stsz) (now offsets) chunks s (length (now room)) ⌝ }
+    ensures { λ r. ⌜ (r ≡ sum (lengthsOf (pairsBetween (now (stsc .entry)) (now (stsz .entry)) (now (offsets .entry)) chunks (s .from) (s .stop)))) × (now (room .exit) ≡ sets (now (room .entry)) 0 (flat (pairsBetween (now (stsc .entry)) (now (stsz .entry)) (now (offsets .entry)) chunks (s .from) (s .stop)))) ⌝ }
+{
+    wide_pairs::put_pairs(stsc, stsz, offsets, chunks, s.from, s.stop, room)
+}
+
+// The same of a track.
+fn put_wide_in(trak: &[u8], s: Span, room: &mut [u64]) -> u64
+    requires { ⌜ Usable (2 ^ 64) (now trak) × (s .from ≤ s .stop) × (s .stop ≤ samplesOf (now trak)) × (2 * length (spanPairs (now trak) s) ≤ length (now room)) ⌝ }
+    ensures { λ r. ⌜ (r ≡ sum (lengthsOf (spanPairs (now (trak .entry)) s))) × (now (room .exit) ≡ sets (now (room .entry)) 0 (flat (spanPairs (now (trak .entry)) s))) ⌝ }
+{
+    let stsc = table(trak, kinds::STSC);
+    let stsz = table(trak, kinds::STSZ);
+    let offsets = offset_table(trak);
+    put_wide(stsc, stsz, offsets, u32_at(offsets, 12), s, room)
+}
+
+// The answer of `stretch_of` and `stretch_wide`: how many pairs, and the total of bytes; or the number of a refusal.
 pub enum StretchAnswer {
     Pairs(usize, u64),
     Refused(u32),
 }
 
-// The stretch of a track from a to b: a pair (offset, length) for each chunk touched, in the first places of the room. A refusal leaves the room as it is.
+// The stretch of a track of a whole file from a to b: a pair (offset, length) for each chunk touched, in the first places of the room. A refusal leaves
+// the room as it is.
 pub fn stretch_of(
     file: &[u8],
     id: u32,
@@ -140,6 +168,33 @@ pub fn stretch_of(
             }
             let bytes = put_in(trak, span, room);
             StretchAnswer::Pairs(n, bytes)
+        }
+    }
+}
+
+// The same of any film, lent whole or its moov alone, in 64-bit numbers: the file may be longer than 32 bits count.
+pub fn stretch_wide(
+    lent: &[u8],
+    source: Source,
+    id: u32,
+    a: MediaTime,
+    b: MediaTime,
+    room: &mut [u64],
+) -> StretchAnswer
+    ensures { λ r. ⌜ Stretches (now (lent .entry)) source id a b (now (room .entry)) r (now (room .exit)) ⌝ }
+{
+    let first = a.0;
+    let last = b.0;
+    match span_asked(lent, source, id, first, last) {
+        Asked::Refused(r) => StretchAnswer::Refused(r),
+        Asked::Samples(span) => {
+            let trak = track_asked(lent, id);
+            let many = count_in(trak, span) as usize;
+            if room.len() / 2 < many {
+                return StretchAnswer::Refused(16);
+            }
+            let bytes = put_wide_in(trak, span, room);
+            StretchAnswer::Pairs(many, bytes)
         }
     }
 }

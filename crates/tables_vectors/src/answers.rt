@@ -67,7 +67,7 @@ fn of_chunks(set: &[u8], question: u32, n: u32)
         asks::TOTAL_DEALT => show::total(chunks::total_dealt(stsc, n)),
         asks::LOCATE => show::located(place(set, n)),
         asks::OFFSET_AT => show::number(chunks::located_offset(stsz, stco, place(set, n), n)),
-        asks::CHUNK_OFFSET => show::number_32(words::chunk_offset(stco, n as u64)),
+        asks::CHUNK_OFFSET => show::number(words::chunk_offset(stco, n as u64)),
         _ => show::truth(chunk_ends::chunks_end_within(stsc, stsz, stco, n as u64)),
     }
 }

@@ -24,11 +24,11 @@ use Rattle.track.specs.Track.{trackOf}
 use Rattle.track.specs.Refusals.{totalIn}
 use Rattle.questions.specs.Asked.{askRefusal, trackAsked}
 use Rattle.questions.specs.Samples.{sampleOf, sampleRefusal, sampleAnswer}
-use Rattle.questions.specs.Times.{atRefusal, atNumber, atEntry, atAnswer}
+use Rattle.time_questions.specs.Times.{atRefusal, atNumber, atEntry, atAnswer}
 use Rattle.stretch.specs.Stretches.{bytesIn, stretchPairs, spanRefusal, stretchRefusal, stretchAnswer}
 use Rattle.questions.specs.declared.samples.Sample.{Sample}
 use Rattle.questions.specs.declared.samples.SampleAnswer.the-variants.{Found, Refused}
-use Rattle.questions.specs.declared.times.NumberAnswer.the-variants as number
+use Rattle.time_questions.specs.declared.NumberAnswer.the-variants as number
 use Rattle.stretch.specs.declared.StretchAnswer.the-variants as stretch
 use Rattle.theorems.proofs.Lists.{tables}
 

@@ -23,12 +23,12 @@ use Rattle.track.proofs.Agreed.{agreed-tables}
 use Rattle.questions.specs.Asked.{askRefusal, trackAsked}
 use Rattle.questions.proofs.Asking.{asked}
 use Rattle.questions.specs.Samples.{sampleOf, sampleAnswer}
-use Rattle.questions.specs.Times.{atEntry, atAnswer}
+use Rattle.time_questions.specs.Times.{atEntry, atAnswer}
 use Rattle.pairs.proofs.Counting.{touched-length}
 use Rattle.stretch.specs.Stretches.{firstIn, pastIn, pairsIn, bytesIn, stretchPairs}
 use Rattle.questions.specs.declared.samples.Sample.{Sample}
 use Rattle.questions.specs.declared.samples.SampleAnswer.the-variants.{Found}
-use Rattle.questions.specs.declared.times.NumberAnswer.the-variants as number
+use Rattle.time_questions.specs.declared.NumberAnswer.the-variants as number
 use Rattle.theorems.specs.Entries.{mediaTotal}
 use Rattle.theorems.specs.Demand.{HasTime, partIn, sizeIn, howMany, added, NoZeroDuration, OfTrack, Demand3}
 use Rattle.theorems.proofs.Added.{sizes-added, parts-added, cut-at}
@@ -36,7 +36,7 @@ use Rattle.theorems.proofs.Dealt.{gets-of, gets-only, first-low, first-
 use Rattle.theorems.proofs.Lists.{tables, Listed, listed}
 use Rattle.theorems.proofs.Entries.{total-is, count-is, entry-counts, size-at, offset-at, entry-holds}
 use Rattle.theorems.proofs.Tracks.{own-asked, own-itself}
-use Rattle.stretch.proofs.Spanning.{flat-length}
+use Rattle.pairs.proofs.Filling.{flat-length}
 use Rattle.theorems.proofs.Answers.{Known, found-is, none-is, past-is, found-known, entry-is, at-is, at-outside, at-known, pairs-is, short-is, no-stretch, pairs-known}
 
 -- ---- what a sample's answer says of the lists

@@ -40,7 +40,7 @@ use Rattle.theorems.specs.Slips.{Bytes, headOf, ReadsBack, OnlyWriting}
 use Rattle.theorems.proofs.Bytes.{scale-small, asked-id, id-small}
 use Rattle.pairs.proofs.Touched.{touched-few, some-touched, touched-fits, fits-below}
 use Rattle.theorems.proofs.Lists.{tables, listed}
-use Rattle.stretch.proofs.Spanning.{flat-length}
+use Rattle.pairs.proofs.Filling.{flat-length}
 use Rattle.theorems.proofs.Answers.{Span, pairs-is, span-known, pairs-known}
 use Rattle.theorems.proofs.Entries.{total-is}
 
@@ -107,7 +107,7 @@ slip-rules s source id a b bytes p =
       some-pairs = some-touched i j 0 ps cs zs (o .0) (omega arith) (omega (arith, o .0, o .1, l .dealt));
       few-pairs = omega (arith, touched-few i j 0 ps cs zs, l .chunks, k .track .shape .few-chunks);
       all-pairs = flat-length (touched i j 0 ps cs zs);
-      below = (id-small s id bytes (k .has), (scale-small s id bytes, (omega (arith, p .order, p .within), (omega (arith, p .within), fits-below (touched i j 0 ps cs zs) (touched-fits (length s) i j 0 ps cs zs (omega (arith, o .0)) (omega (arith, k .file .shape .short)) (chunks-end s source id (p .ask)))))));
+      below = (id-small s id bytes (k .has), (scale-small s id bytes, (omega (arith, p .order, p .within), (omega (arith, p .within), fits-below 4294967296 (touched i j 0 ps cs zs) (touched-fits (length s) i j 0 ps cs zs (omega (arith, o .0)) (omega (arith, k .file .shape .short)) (chunks-end s source id (p .ask)))))));
     }
 
 -- ---- written, and read

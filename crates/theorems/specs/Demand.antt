@@ -11,12 +11,12 @@ use Rattle.structure.specs.Movie.{moovOf, tracksOf}
 use Rattle.movie.specs.Refusals.{filmRefusal}
 use Rattle.questions.specs.Asked.{askRefusal, trackAsked}
 use Rattle.questions.specs.Samples.{sampleAnswer}
-use Rattle.questions.specs.Times.{atAnswer}
+use Rattle.time_questions.specs.Times.{atAnswer}
 use Rattle.stretch.specs.Stretches.{stretchAnswer}
 use Rattle.questions.specs.declared.samples.Sample.{Sample}
 use Rattle.questions.specs.declared.samples.SampleAnswer.{SampleAnswer}
 use Rattle.questions.specs.declared.samples.SampleAnswer.the-variants.{Found, Refused}
-use Rattle.questions.specs.declared.times.NumberAnswer.the-variants as number
+use Rattle.time_questions.specs.declared.NumberAnswer.the-variants as number
 use Rattle.stretch.specs.declared.StretchAnswer.the-variants as stretch
 use Rattle.theorems.specs.Entries.{sttsEntries, sampleDuration, countedBy, mediaTotal, stscEntries, firstChunk, samplesPerChunk}
 use Rattle.theorems.specs.Entries.{chunkOffset, sampleSize}

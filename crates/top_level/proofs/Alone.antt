@@ -85,6 +85,7 @@ module _ (a : List ℕ) (e : length a ≡ sizeIn file a) (h : 8 ≤ length a) (k
   pub one-moov : OneMoov a
   one-moov =
       record {
+        size = sym e;
         single = atoms-next file a (length a) e h ∙ rw (take-length a, drop-length a, nothing);
         kind = k;
         filling = fill-next file a (length a) e h ∙ rw (drop-length a) nothing-filled;

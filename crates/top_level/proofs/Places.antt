@@ -16,8 +16,8 @@ use Rattle.bigendian.proofs.Laws.{beAt-take}
 use Rattle.atoms.specs.Kinds.{file, moov}
 use Rattle.atoms.specs.Atoms.{kindOf, sizeIn, atoms, countIn, childIn}
 use Rattle.atoms.proofs.Laws.{size-le, atoms-next, kinds-none, kinds-next, child-here, child-next}
-use Rattle.top_level.specs.TopLevel.{moovPlace}
-use Rattle.top_level.proofs.Alone.{size-kept}
+use Rattle.top_level.specs.TopLevel.{moovPlace, OneMoov}
+use Rattle.top_level.proofs.Alone.{size-kept, one-moov}
 
 -- the first moov c of t, at the place m
 pub record Stands (t c : List ℕ) (m : ℕ) : Type 0 where
@@ -75,3 +75,7 @@ first-by (suc n) t l c = elim (decLt (sizeIn file t) 8) [
 
 pub first-stands : (t : List ℕ) → 0 < countIn file moov t → First t
 first-stands t = first-by (suc (length t)) t (omega arith)
+
+-- alone it is one moov atom
+pub moov-alone : (t : List ℕ) → 0 < countIn file moov t → OneMoov (childIn file moov 0 t)
+moov-alone t h = let f = first-stands t h in one-moov (childIn file moov 0 t) (f .size) (f .whole) (f .kind)

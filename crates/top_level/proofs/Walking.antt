@@ -26,8 +26,7 @@ use Rattle.top_level.specs.TopLevel.{headerAt, onBy, walk, walked, moovP
 use Rattle.top_level.proofs.Steps.{past-moov, past-other, step-long, step-end, step-stop, step-on}
 use Rattle.top_level.proofs.Ahead.{ahead-top}
 use Rattle.top_level.proofs.Passing.{passed, passed-next, none}
-use Rattle.top_level.proofs.Alone.{one-moov}
-use Rattle.top_level.proofs.Places.{First, first-stands}
+use Rattle.top_level.proofs.Places.{First, first-stands, moov-alone}
 
 -- what the atoms of t say, from the walk w before them
 said : List ℕ → Walk → Next
@@ -152,7 +151,7 @@ says s = go (ltb 9223372036854775807 (length s)) refl
 abbrev tag : Next → ℕ
 tag (Read w) = 0
 tag (Found at size) = 1
-tag (Refused r) = 2
+tag (Refused r) = 2 + r
 
 abbrev placeIn : Next → ℕ
 placeIn (Read w) = 0
@@ -164,38 +163,67 @@ sizeFound (Read w) = 0
 sizeFound (Found at size) = size
 sizeFound (Refused r) = 0
 
-no-refusal : (r at size : ℕ) → Refused r ≡ Found at size → ⊥
-no-refusal r at size e = let z = ap tag e in omega arith
+-- which way out an answer comes from
+module _ (x y : ℕ) where
+  abbrev outs : Bool → Bool → Bool → Next
+  outs long full one = cond long (Refused 1) (cond full (cond one (Found x y) (Refused 3)) (Refused 2))
 
--- which way out a place and a size come from
-came : (long full one : Bool) (x y at size : ℕ) → cond long (Refused 1) (cond full (cond one (Found x y) (Refused 3)) (Refused 2)) ≡ Found at size
-    → (one ≡ true) × (x ≡ at) × (y ≡ size)
-came true full one x y at size e = absurd (no-refusal _ _ _ e)
-came false false one x y at size e = absurd (no-refusal _ _ _ e)
-came false true false x y at size e = absurd (no-refusal _ _ _ e)
-came false true true x y at size e = (refl, ap placeIn e, ap sizeFound e)
+  found-out : (long full one : Bool) (at size : ℕ) → outs long full one ≡ Found at size → (full ≡ true) × (one ≡ true) × (x ≡ at) × (y ≡ size)
+  found-out true full one at size e = let z = ap tag e in absurd (omega arith)
+  found-out false false one at size e = let z = ap tag e in absurd (omega arith)
+  found-out false true false at size e = let z = ap tag e in absurd (omega arith)
+  found-out false true true at size e = (refl, refl, ap placeIn e, ap sizeFound e)
 
-module _ (s : List ℕ) (at size : ℕ) (e : walked s ≡ Found at size) where
+  two-out : (long full one : Bool) → outs long full one ≡ Refused 2 → full ≡ false
+  two-out true full one e = let z = ap tag e in absurd (omega arith)
+  two-out false false one e = refl
+  two-out false true false e = let z = ap tag e in absurd (omega arith)
+  two-out false true true e = let z = ap tag e in absurd (omega arith)
+
+  three-out : (long full one : Bool) → outs long full one ≡ Refused 3 → (full ≡ true) × (one ≡ false)
+  three-out true full one e = let z = ap tag e in absurd (omega arith)
+  three-out false false one e = let z = ap tag e in absurd (omega arith)
+  three-out false true false e = (refl, refl)
+  three-out false true true e = let z = ap tag e in absurd (omega arith)
+
+module _ (s : List ℕ) where
   abbrev the : List ℕ
   the = childIn file moov 0 s
 
-  told : (eqb (countIn file moov s) 1 ≡ true) × (moovPlace (atoms file s) ≡ at) × (length the ≡ size)
+  out-of : (n : Next) → walked s ≡ n
+      → outs (moovPlace (atoms file s)) (length the) (ltb 9223372036854775807 (length s)) (filled file s) (eqb (countIn file moov s) 1) ≡ n
   unfolding topLevel moovIn
+  out-of n e = sym (says s) ∙ e
+
+  -- refused 2 only where the atoms do not fill the file, and 3 only where they do and not one of them is a moov
+  pub only-two : walked s ≡ Refused 2 → filled file s ≡ false
+  only-two e = two-out (moovPlace (atoms file s)) (length the) (ltb 9223372036854775807 (length s)) (filled file s) (eqb (countIn file moov s) 1) (out-of (Refused 2) e)
+
+  pub only-three : walked s ≡ Refused 3 → (filled file s ≡ true) × (countIn file moov s ≡ 1 → ⊥)
+  only-three e =
+      let o = three-out (moovPlace (atoms file s)) (length the) (ltb 9223372036854775807 (length s)) (filled file s) (eqb (countIn file moov s) 1) (out-of (Refused 3) e) in
+      (o .0, eqb-false _ _ (o .1))
+
+module _ (s : List ℕ) (at size : ℕ) (e : walked s ≡ Found at size) where
+  told : (filled file s ≡ true) × (eqb (countIn file moov s) 1 ≡ true) × (moovPlace (atoms file s) ≡ at) × (length (the s) ≡ size)
   told =
-      came (ltb 9223372036854775807 (length s)) (filled file s) (eqb (countIn file moov s) 1) (moovPlace (atoms file s)) (length the) at size
-      (sym (says s) ∙ e)
+      found-out (moovPlace (atoms file s)) (length (the s)) (ltb 9223372036854775807 (length s)) (filled file s) (eqb (countIn file moov s) 1) at size
+      (out-of s (Found at size) e)
+
+  pub only-found : (filled file s ≡ true) × (countIn file moov s ≡ 1)
+  only-found = (told .0, eqb-true _ _ (told .1))
 
   stands : First s
-  stands = let n : countIn file moov s ≡ 1 = eqb-true _ _ (told .0) in first-stands s (omega arith)
+  stands = let n = only-found .1 in first-stands s (omega arith)
 
   fits : at + size ≤ length s
-  fits = rw (← told .1, ← told .2) (stands .inside)
+  fits = rw (← told .2, ← told .3) (stands .inside)
 
-  there : take size (drop at s) ≡ the
-  there = rw (← told .1, ← told .2) (stands .there)
+  there : take size (drop at s) ≡ the s
+  there = rw (← told .2, ← told .3) (stands .there)
 
   by-itself : OneMoov (take size (drop at s))
-  by-itself = rw there (one-moov the (stands .size) (stands .whole) (stands .kind))
+  by-itself = let n = only-found .1 in rw there (moov-alone s (omega arith))
 
 pub finds : (s : List ℕ) → Finds s
 finds s = record { says = says s; inside = fits s; moov-there = there s; alone = by-itself s }

@@ -6,7 +6,7 @@ use mathlib.Core.Bool.{true, cond}
 use lib.ListN.{length, take, drop}
 use lib.Dec.{ltb, eqb}
 use Rattle.atoms.specs.Kinds.{file, moov}
-use Rattle.atoms.specs.Atoms.{kindOf, atoms, filled, countIn, childIn}
+use Rattle.atoms.specs.Atoms.{kindOf, sizeIn, atoms, filled, countIn, childIn}
 use Rattle.top_level.specs.declared.Walk.{Walk}
 use Rattle.top_level.specs.declared.Next.{Next}
 use Rattle.top_level.specs.declared.Next.the-variants.{Read, Found, Refused}
@@ -46,6 +46,7 @@ topLevel s = cond (ltb 9223372036854775807 (length s)) (Refused 1) (cond (filled
 
 -- the bytes a, lent alone, are one moov atom and nothing else
 pub record OneMoov (a : List ℕ) : Type 0 where
+  pub size : sizeIn file a ≡ length a
   pub single : atoms file a ≡ a ∷ []
   pub kind : kindOf a ≡ moov
   pub filling : filled file a ≡ true

@@ -1,57 +1,99 @@
-// The rules that hold of every body of the tree, by one walk: they differ in what is asked of a body, not in the descent.
+// The rules that hold of every body of the tree, all in one walk.
 use atoms::body_of;
-use atoms::fills;
 use atoms::is_container;
 use atoms::size_in;
 use bigendian::u32_at;
 use leaves::LeafRule;
-use leaves::leaves_ok;
+use leaves::form_of;
+use leaves::leaf_ok;
+use presence::both;
 use presence::has_its_atoms;
+use presence::nothing_counted;
+use presence::with_kind;
 ghost use mathlib.Core.Path.{_≡_};
-ghost use Rattle.atoms.specs.Tree.{everywhere};
-ghost use Rattle.tree.specs.Rules.{ruleOn};
+ghost use Rattle.tree.specs.Checks.{allRight, noneRight, bothChecks, leafChecks, treeChecks};
 
-// Atoms fill the body exactly; it has the atoms that it must have; its read leaves keep a rule of theirs. The last two differ in a moov alone,
-// which the bool says.
-pub enum Rule {
-    Filled,
-    Present(bool),
-    Leaves(LeafRule, bool),
+// Whether each rule holds: atoms fill a body exactly; it has the atoms that it must have; each read leaf has its version, and its size.
+pub struct Checks {
+    pub filled: bool,
+    pub present: bool,
+    pub versions: bool,
+    pub sizes: bool,
 }
 
-// Whether the rule holds of the body of that parent.
-fn obeys(body: &[u8], parent: u32, rule: Rule) -> bool
-    ensures { λ r. ⌜ r ≡ ruleOn rule parent (now (body .entry)) ⌝ }
+fn all_right() -> Checks
+    ensures { λ r. ⌜ r ≡ allRight ⌝ }
 {
-    match rule {
-        Rule::Filled => fills(body, parent),
-        Rule::Present(wide) => has_its_atoms(body, parent, wide),
-        Rule::Leaves(leaf, wide) => leaves_ok(body, parent, leaf, wide),
+    Checks {
+        filled: true,
+        present: true,
+        versions: true,
+        sizes: true,
     }
 }
 
-// Whether the rule holds of the body of that parent and of the body of every container below it, with that many levels to go.
-pub fn holds(body: &[u8], parent: u32, level: u32, rule: Rule) -> bool
-    ensures { λ r. ⌜ r ≡ everywhere (ruleOn rule) level parent (now (body .entry)) ⌝ }
+fn none_right() -> Checks
+    ensures { λ r. ⌜ r ≡ noneRight ⌝ }
+{
+    Checks {
+        filled: false,
+        present: false,
+        versions: false,
+        sizes: false,
+    }
+}
+
+fn both_checks(a: Checks, b: Checks) -> Checks
+    ensures { λ r. ⌜ r ≡ bothChecks a b ⌝ }
+{
+    Checks {
+        filled: both(a.filled, b.filled),
+        present: both(a.present, b.present),
+        versions: both(a.versions, b.versions),
+        sizes: both(a.sizes, b.sizes),
+    }
+}
+
+// What is asked of an atom of that kind as a read leaf; nothing where it is none.
+fn leaf_checks(atom: &[u8], parent: u32, kind: u32, wide: bool) -> Checks
+    ensures { λ r. ⌜ r ≡ leafChecks wide parent kind (now (atom .entry)) ⌝ }
+{
+    let f = form_of(parent, kind, wide);
+    Checks {
+        filled: true,
+        present: true,
+        versions: leaf_ok(LeafRule::Version, f, atom),
+        sizes: leaf_ok(LeafRule::Size, f, atom),
+    }
+}
+
+// The rules of the body of that parent and of the body of every container below it, with that many levels to go.
+pub fn check_tree(body: &[u8], parent: u32, level: u32, wide: bool) -> Checks
+    ensures { λ r. ⌜ r ≡ treeChecks wide level parent (now (body .entry)) ⌝ }
 {
     if level == 0 {
-        return false;
-    }
-    if !obeys(body, parent, rule) {
-        return false;
+        return none_right();
     }
     let mut t = body;
+    let mut counts = nothing_counted();
+    let mut found = all_right();
     loop {
         let n = size_in(t, parent);
         if n < 8 {
-            return true;
+            let here = Checks {
+                filled: t.len() == 0,
+                present: has_its_atoms(counts, parent, wide),
+                versions: true,
+                sizes: true,
+            };
+            return both_checks(here, found);
         }
         let atom = &t[..n];
         let kind = u32_at(atom, 4);
+        counts = with_kind(counts, kind);
+        found = both_checks(found, leaf_checks(atom, parent, kind, wide));
         if is_container(parent, kind) {
-            if !holds(body_of(atom), kind, level - 1, rule) {
-                return false;
-            }
+            found = both_checks(found, check_tree(body_of(atom), kind, level - 1, wide));
         }
         t = &t[n..];
     }

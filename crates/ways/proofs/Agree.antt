@@ -16,7 +16,7 @@ use Rattle.movie.proofs.Tables.{film-is}
 use Rattle.track_list.specs.TrackList.{trackLines, listRefusal}
 use Rattle.questions.specs.Asked.{askRefusal, trackAsked}
 use Rattle.questions.specs.Samples.{sampleRefusal}
-use Rattle.questions.specs.Times.{atRefusal, atNumber, atEntry, mappedOf}
+use Rattle.time_questions.specs.Times.{atRefusal, atNumber, atEntry, mappedOf}
 use Rattle.profiles.specs.Profiles.{profileAsked, profileNumbers, profileRefusal}
 use Rattle.ways.specs.Ways.{moovAtom, BothWays}
 use Rattle.ways.specs.Agree.{SameAnswers, WaysAgree}

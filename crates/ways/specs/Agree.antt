@@ -12,8 +12,8 @@ use Rattle.movie.specs.Rooms.{roomAfter}
 use Rattle.movie.specs.Refusals.{filmRefusal}
 use Rattle.track_list.specs.TrackList.{trackLines, listRefusal, listAnswer}
 use Rattle.questions.specs.Samples.{sampleAnswer}
-use Rattle.questions.specs.Times.{atAnswer, mapAnswer}
-use Rattle.questions.specs.Feature.{featureAnswer, peakAnswer}
+use Rattle.time_questions.specs.Times.{atAnswer, mapAnswer}
+use Rattle.feature_questions.specs.Feature.{featureAnswer, peakAnswer}
 use Rattle.profiles.specs.Profiles.{profileNumbers, profileRefusal, profileAnswer}
 use Rattle.ways.specs.Ways.{moovAtom, BothWays}
 

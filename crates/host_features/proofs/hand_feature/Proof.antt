@@ -2,7 +2,7 @@
 -- Assumes nothing.
 use borrow.Author.Needs.{needs}
 use Rattle.hand.proofs.Answered.{handed, of-case}
-use Rattle.questions.specs.Feature.{featureNumbers}
+use Rattle.feature_questions.specs.Feature.{featureNumbers}
 use Rattle.host_features.proofs.hand_feature.Statement.{statement}
 use Rattle.host_features.proofs.hand_feature.Tie as tie
 

@@ -2,7 +2,7 @@
 -- Assumes nothing.
 use borrow.Author.Needs.{needs}
 use Rattle.hand.proofs.Answered.{handed, of-case}
-use Rattle.questions.specs.Feature.{peakNumbers}
+use Rattle.feature_questions.specs.Feature.{peakNumbers}
 use Rattle.host_features.proofs.hand_peak.Statement.{statement}
 use Rattle.host_features.proofs.hand_peak.Tie as tie
 

@@ -2,7 +2,7 @@
 -- Assumes nothing.
 use borrow.Author.Needs.{needs}
 use Rattle.hand.proofs.Answered.{handed, of-case}
-use Rattle.questions.specs.Times.{timeNumbers}
+use Rattle.time_questions.specs.Times.{timeNumbers}
 use Rattle.host_times.proofs.hand_media_time.Statement.{statement}
 use Rattle.host_times.proofs.hand_media_time.Tie as tie
 

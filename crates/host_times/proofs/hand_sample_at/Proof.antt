@@ -2,7 +2,7 @@
 -- Assumes nothing.
 use borrow.Author.Needs.{needs}
 use Rattle.hand.proofs.Answered.{handed, of-case}
-use Rattle.questions.specs.Times.{numberNumbers}
+use Rattle.time_questions.specs.Times.{numberNumbers}
 use Rattle.host_times.proofs.hand_sample_at.Statement.{statement}
 use Rattle.host_times.proofs.hand_sample_at.Tie as tie
 

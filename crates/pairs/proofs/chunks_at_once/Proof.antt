@@ -2,8 +2,6 @@
 -- Assumes nothing.
 use borrow.Author.Needs.{needs}
 use native.Mathlib.Omega.{arith}
-use denote.Ref.{now}
-use Rattle.pairs.proofs.Wholes.{offsets-there}
 use Rattle.pairs.proofs.chunks_at_once.Statement.{statement}
 use Rattle.pairs.proofs.chunks_at_once.Tie as tie
 
@@ -22,8 +20,8 @@ whole-chunks-requires c κs = search needs
 returns-3 : tie.Need-returns-3
 returns-3 c = search needs
 
-after-requires : tie.Need-after-requires
-after-requires c κs = search needs
+offsets-there-requires : tie.Need-offsets-there-requires
+offsets-there-requires c κs = search needs
 
 add-if4 : tie.Need-add-if4
 add-if4 c = search needs
@@ -44,7 +42,7 @@ returns-5 c =
       whole = λ z. record {
         from = k .before .before .before .if2 .left;
         to = omega (arith, t, e .0);
-        offsets = omega (arith, offsets-there (now (s .args .stco)) (c .before .before .after .ensures), c .if4 .left);
+        offsets = omega (arith, c .before .before .offsets-there .ensures, c .if4 .left);
         common = λ o. omega (arith, t, e .1 o);
       };
     }
@@ -58,7 +56,7 @@ chunks-at-once-spec =
     whole-end-requires
     whole-chunks-requires
     returns-3
-    after-requires
+    offsets-there-requires
     add-if4
     returns-4
     returns-5)

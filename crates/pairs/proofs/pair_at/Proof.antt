@@ -1,7 +1,7 @@
 -- `pairs::pair_at` meets its contract: the samples of the chunk that are asked for, and those before them in it.
 -- Assumes nothing.
 use borrow.Author.Needs.{needs}
-use Rattle.pairs.proofs.Walking.{pair-made}
+use Rattle.pairs.proofs.Walking.{pair-made, offset-fits}
 use Rattle.pairs.proofs.pair_at.Statement.{statement}
 use Rattle.pairs.proofs.pair_at.Tie as tie
 
@@ -32,11 +32,10 @@ bytes-before-requires c κs = search needs
 chunk-offset-requires : tie.Need-chunk-offset-requires
 chunk-offset-requires c κs = search needs
 
-cast-t12 : tie.Need-cast-t12
-cast-t12 c = search needs
-
-add-t15 : tie.Need-add-t15
-add-t15 c = search needs
+add-t13 : tie.Need-add-t13
+add-t13 c =
+    let b = c .before in
+    record { fits = offset-fits _ _ _ _ _ _ _ _ _ (b .before .larger .ensures) (b .bytes-before .ensures .0) (c .chunk-offset .ensures) (b .before .before .before .before .before .before .pre .1) }
 
 bytes-between-requires : tie.Need-bytes-between-requires
 bytes-between-requires c κs = search needs
@@ -57,7 +56,6 @@ pair-at-spec =
     cast-bytes-before
     bytes-before-requires
     chunk-offset-requires
-    cast-t12
-    add-t15
+    add-t13
     bytes-between-requires
     returns)

@@ -17,13 +17,13 @@ use Rattle.shape.proofs.movie_refusal.Statement.{statement}
 use Rattle.shape.proofs.movie_refusal.Tie as tie
 
 abbrev Inv-loop : tie.InvT-loop
-Inv-loop moov wide t₀ found₀ t found = earlierOf found (ofTracks (movieRows wide) (tracksOf t)) ≡ movieRefusal wide moov
+Inv-loop moov wide versions sizes t₀ found₀ t found = earlierOf found (ofTracks (movieRows wide) (tracksOf t)) ≡ movieRefusal wide moov
 
 abbrev μ-loop : tie.MeasureT-loop
-μ-loop moov wide t₀ found₀ t found = length t
+μ-loop moov wide versions sizes t₀ found₀ t found = length t
 
 own-refusal-requires : tie.Need-own-refusal-requires Inv-loop μ-loop
-own-refusal-requires c κs = tt
+own-refusal-requires c κs = c .before .pre
 
 loop-holds : tie.Need-loop-holds Inv-loop μ-loop
 loop-holds c =

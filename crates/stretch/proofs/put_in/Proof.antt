@@ -17,8 +17,8 @@ table-requires c κs = search needs
 table-requires-2 : tie.Need-table-requires-2
 table-requires-2 c κs = search needs
 
-table-requires-3 : tie.Need-table-requires-3
-table-requires-3 c κs = search needs
+offset-table-requires : tie.Need-offset-table-requires
+offset-table-requires c κs = search needs
 
 u32-at-requires : tie.Need-u32-at-requires
 u32-at-requires c κs = search needs
@@ -27,7 +27,7 @@ put-pairs-requires : tie.Need-put-pairs-requires
 put-pairs-requires c κs =
     let p = c .before in
     let a = p .before .before .before .before .before .before in
-    may-put _ _ _ _ _ _ (p .before .before .before .table .ensures) (p .before .before .table2 .ensures) (p .before .table3 .ensures) (p .u32-at .ensures) _ (a .pre .0) (a .pre .1) (a .pre .2)
+    may-put _ _ _ _ _ _ (p .before .before .before .table .ensures) (p .before .before .table2 .ensures) (p .before .offset-table .ensures) (p .u32-at .ensures) _ (a .pre .0) (a .pre .1) (a .pre .2)
 
 same-length : tie.Need-same-length
 same-length c = search needs
@@ -36,7 +36,7 @@ returns : tie.Need-returns
 returns c =
     let q = c .before .before in
     let p = q .before .before in
-    let e = between-is _ _ _ _ (p .before .before .before .before .before .before .args .s) _ (p .before .before .before .table .ensures) (p .before .before .table2 .ensures) (p .before .table3 .ensures) (p .u32-at .ensures) in
+    let e = between-is _ _ _ _ (p .before .before .before .before .before .before .args .s) _ (p .before .before .before .table .ensures) (p .before .before .table2 .ensures) (p .before .offset-table .ensures) (p .u32-at .ensures) in
     (q .put-pairs .ensures .0 ∙ ap (λ l. sum (lengthsOf l)) e, q .put-pairs .ensures .1 ∙ ap (λ l. sets (now (p .before .before .before .before .before .before .args .room)) 0 (flat l)) e)
 
 pub put-in-spec : {M : Type 1} → statement M
@@ -45,7 +45,7 @@ put-in-spec =
     (tie.spec
     table-requires
     table-requires-2
-    table-requires-3
+    offset-table-requires
     u32-at-requires
     put-pairs-requires
     same-length

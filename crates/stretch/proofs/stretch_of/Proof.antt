@@ -3,7 +3,7 @@
 use borrow.Author.Needs.{needs}
 use mathlib.Core.Path.{refl, sym, _∙_}
 use native.Mathlib.Omega.{arith}
-use Rattle.stretch.proofs.Spanning.{asked-refused, asked-samples, no-span, of-whole, usable, span-order, no-room, whole-stretch}
+use Rattle.stretch.proofs.Spanning.{asked-refused, asked-samples, no-span, of-whole, usable, usable-whole, span-order, no-room, whole-stretch}
 use Rattle.stretch.proofs.stretch_of.Statement.{statement}
 use Rattle.stretch.proofs.stretch_of.Tie as tie
 
@@ -38,7 +38,7 @@ put-in-requires : tie.Need-put-in-requires
 put-in-requires c κs =
     let w = asked-samples _ _ _ _ _ _ (sym (c .before .before .before .before .before .span .given .1) ∙ c .before .before .before .before .before .before .before .span-asked .ensures) in
     let d = c .before .before .before .track-asked .ensures in
-    (usable _ _ _ _ (w .2 .asks) d, span-order _ _ _ _ _ _ (w .2) d _ (rw d (w .1)), rw (← c .before .before .count-in .ensures) (omega (arith, c .before .if1 .left)))
+    (usable-whole _ _ _ _ (w .2 .asks) d (c .before .before .before .before .before .before .before .before .whole .ensures), span-order _ _ _ _ _ _ (w .2) d _ (rw d (w .1)), rw (← c .before .before .count-in .ensures) (omega (arith, c .before .if1 .left)))
 
 returns-2 : tie.Need-returns-2
 returns-2 c =

@@ -1,33 +1,38 @@
 -- `stretch::slips::put_slip` meets its contract: the head and the pairs are put where both fit.
 -- Assumes nothing.
 use borrow.Author.Needs.{needs}
-use Rattle.stretch.proofs.Slipping.{length-fits, too-long, pairs-fit, all-put}
+use Rattle.stretch.proofs.Slipping.{length-fits, too-long, pairs-after, all-put}
 use Rattle.stretch.proofs.slips.put_slip.Statement.{statement}
 use Rattle.stretch.proofs.slips.put_slip.Tie as tie
+
+measure-in-requires : tie.Need-measure-in-requires
+measure-in-requires c κs = search needs
 
 head-len-requires : tie.Need-head-len-requires
 head-len-requires c κs = search needs
 
-len-in-requires : tie.Need-len-in-requires
-len-in-requires c κs = search needs
-
 add-length : tie.Need-add-length
 add-length c =
-    let n = c in
-    let a = n .before .before .before .before in
-    record { fits = length-fits _ _ _ (a .pre) _ _ (n .before .head-len .ensures) (n .len-in .ensures) }
+    let h = c .before in
+    let a = h .before .before .before .before in
+    record { fits = length-fits _ (a .args .s) (a .args .head) (a .pre .0) _ _ (h .head-len .ensures (h .before .measure-in .result .wide)) (h .before .measure-in .ensures) }
 
 returns : tie.Need-returns
-returns c = let n = c .before in too-long _ _ _ _ _ (n .before .head-len .ensures) (n .len-in .ensures) (c .if1 .taken)
+returns c =
+    let h = c .before .before in
+    let a = h .before .before .before .before in
+    too-long (a .args .head) _ _ _ _ (a .pre .2) (h .head-len .ensures (h .before .measure-in .result .wide)) (h .before .measure-in .ensures) (c .if1 .taken)
 
 put-head-requires : tie.Need-put-head-requires
 put-head-requires c κs = search needs
 
 write-in-requires : tie.Need-write-in-requires
 write-in-requires c κs =
-    let h = c .before .before .before in
-    let n = h .before .before .before in
-    (n .before .before .before .before .pre, pairs-fit _ _ _ _ _ (n .before .head-len .ensures) (n .len-in .ensures) (h .before .before .if1 .left) _ _ (h .put-head .ensures .0) (h .put-head .ensures .1))
+    let p = c .before .before .before in
+    let i = p .before .before in
+    let h = i .before .before in
+    let a = h .before .before .before .before in
+    (a .pre .0, a .pre .1, pairs-after (a .args .head) _ _ _ _ (a .pre .2) (h .head-len .ensures (h .before .measure-in .result .wide)) (h .before .measure-in .ensures) (i .if1 .left) _ _ (p .put-head .ensures .0) (p .put-head .ensures .1))
 
 same-length : tie.Need-same-length
 same-length c = search needs
@@ -35,16 +40,18 @@ same-length c = search needs
 returns-2 : tie.Need-returns-2
 returns-2 c =
     let w = c .before .before in
-    let h = w .before .before .before .before in
-    let n = h .before .before .before in
-    all-put _ _ _ _ _ (n .before .head-len .ensures) (n .len-in .ensures) (h .before .before .if1 .left) _ _ (h .put-head .ensures .0) (h .put-head .ensures .1) _ _ (w .write-in .ensures .0) (w .write-in .ensures .1)
+    let p = w .before .before .before .before in
+    let i = p .before .before in
+    let h = i .before .before in
+    let a = h .before .before .before .before in
+    all-put (a .args .head) _ _ _ _ (a .pre .2) (h .head-len .ensures (h .before .measure-in .result .wide)) (h .before .measure-in .ensures) (i .if1 .left) _ _ (p .put-head .ensures .0) (p .put-head .ensures .1) _ _ (w .write-in .ensures)
 
 pub put-slip-spec : {M : Type 1} → statement M
 put-slip-spec =
     tie.close
     (tie.spec
+    measure-in-requires
     head-len-requires
-    len-in-requires
     add-length
     returns
     put-head-requires

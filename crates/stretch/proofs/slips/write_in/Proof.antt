@@ -1,14 +1,9 @@
 -- `stretch::slips::write_in` meets its contract.
 -- Assumes nothing.
 use borrow.Author.Needs.{needs}
-use Prim.Native.Nat.{_+_}
-use mathlib.Core.Path.{ap, _∙_}
-use denote.Ref.{now}
-use lib.ListN.{length}
-use lib.Seq.{sets}
-use Rattle.leb128.specs.Numbers.{writes}
-use Rattle.pairs.specs.Pairs.{flat}
+use Rattle.slip_pairs.proofs.Streaming.{same-fit, same-wrote}
 use Rattle.questions.proofs.Asking.{table-fits}
+use Rattle.stretch.proofs.Slipping.{may-measure}
 use Rattle.stretch.proofs.Spanning.{between-is}
 use Rattle.stretch.proofs.slips.write_in.Statement.{statement}
 use Rattle.stretch.proofs.slips.write_in.Tie as tie
@@ -19,8 +14,8 @@ table-requires c κs = search needs
 table-requires-2 : tie.Need-table-requires-2
 table-requires-2 c κs = search needs
 
-table-requires-3 : tie.Need-table-requires-3
-table-requires-3 c κs = search needs
+offset-table-requires : tie.Need-offset-table-requires
+offset-table-requires c κs = search needs
 
 u32-at-requires : tie.Need-u32-at-requires
 u32-at-requires c κs = search needs
@@ -29,7 +24,8 @@ write-pairs-requires : tie.Need-write-pairs-requires
 write-pairs-requires c κs =
     let p = c .before in
     let a = p .before .before .before .before .before .before in
-    (table-fits _ _ _ (p .before .before .before .table .ensures) (a .pre .0 .short), rw (between-is _ _ _ _ (a .args .s) _ (p .before .before .before .table .ensures) (p .before .before .table2 .ensures) (p .before .table3 .ensures) (p .u32-at .ensures)) (a .pre .1))
+    let e = between-is _ _ _ _ (a .args .s) _ (p .before .before .before .table .ensures) (p .before .before .table2 .ensures) (p .before .offset-table .ensures) (p .u32-at .ensures) in
+    (table-fits _ _ _ (p .before .before .before .table .ensures) (a .pre .0 .short), may-measure _ (a .args .s) (a .pre .0) (a .pre .1) _ e .0, same-fit _ e (a .pre .2))
 
 same-length : tie.Need-same-length
 same-length c = search needs
@@ -39,8 +35,8 @@ returns c =
     let q = c .before .before in
     let p = q .before .before in
     let a = p .before .before .before .before .before .before in
-    let e = between-is _ _ _ _ (a .args .s) _ (p .before .before .before .table .ensures) (p .before .before .table2 .ensures) (p .before .table3 .ensures) (p .u32-at .ensures) in
-    (q .write-pairs .ensures .0 ∙ ap (λ l. a .args .at + length (writes (flat l))) e, q .write-pairs .ensures .1 ∙ ap (λ l. sets (now (a .args .out)) (a .args .at) (writes (flat l))) e)
+    let e = between-is _ _ _ _ (a .args .s) _ (p .before .before .before .table .ensures) (p .before .before .table2 .ensures) (p .before .offset-table .ensures) (p .u32-at .ensures) in
+    same-wrote e (q .write-pairs .ensures)
 
 pub write-in-spec : {M : Type 1} → statement M
 write-in-spec =
@@ -48,7 +44,7 @@ write-in-spec =
     (tie.spec
     table-requires
     table-requires-2
-    table-requires-3
+    offset-table-requires
     u32-at-requires
     write-pairs-requires
     same-length

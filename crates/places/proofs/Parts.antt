@@ -1,0 +1,84 @@
+-- Parts of parts: what a walk over a part keeps of its place.
+-- Assumes nothing.
+use Prim.Native.Nat.{ℕ, zero, suc, _+_, _-_, _≤_, _<_, _^_}
+use mathlib.Core.Path.{_≡_, refl, sym, ap, _∙_}
+use mathlib.Core.List.{List, [], _∷_}
+use native.Mathlib.Omega.{arith}
+use native.Mathlib.Decide.{ℕ-discrete, decLe}
+use lib.ListN.{length, take, drop, length-take, length-drop, drop-of-length-le}
+use lib.Seq.{drop-drop}
+use Rattle.lists.proofs.Cuts.{drop-take}
+use Rattle.atoms.specs.Atoms.{headerOf, bodyOf}
+use Rattle.places.specs.Places.{partIn}
+use Rattle.places.specs.declared.Part.{Part}
+
+-- t stands at a place of s: it is what s has there, and ends within s unless it is empty
+pub record At (s t : List ℕ) (at : ℕ) : Type 0 where
+  pub here : take (length t) (drop at s) ≡ t
+  pub ends : 0 < length t → at + length t ≤ length s
+
+take-min : (n : ℕ) (l : List ℕ) → take (length (take n l)) l ≡ take n l
+take-min zero l = refl
+take-min (suc n) [] = refl
+take-min (suc n) (x ∷ l) = ap (λ (r : List ℕ). x ∷ r) (take-min n l)
+
+take-take : (n m : ℕ) (l : List ℕ) → n ≤ m → take n (take m l) ≡ take n l
+take-take zero m l h = refl
+take-take (suc n) zero l h = absurd (omega arith)
+take-take (suc n) (suc m) [] h = refl
+take-take (suc n) (suc m) (x ∷ l) h = ap (λ (r : List ℕ). x ∷ r) (take-take n m l (omega arith))
+
+pub part-at : (s : List ℕ) (p : Part) → At s (partIn s p) (p .at)
+unfolding partIn
+part-at s p = record {
+  here = take-min (p .len) (drop (p .at) s);
+  ends = λ h. omega (arith, length-take (p .len) (drop (p .at) s), length-drop (p .at) s);
+}
+
+-- the first n bytes of what stands there
+pub at-front : (s t : List ℕ) (at n : ℕ) → At s t at → n ≤ length t → take n (drop at s) ≡ take n t
+at-front s t at n a h = sym (take-take n (length t) (drop at s) h) ∙ ap (take n) (a .here)
+
+-- what follows them
+pub at-next : (s t : List ℕ) (at n : ℕ) → At s t at → n ≤ length t → At s (drop n t) (at + n)
+at-next s t at n a h =
+    let k : length t ≡ n + (length t - n) = omega arith in
+    let l : length (drop n t) ≡ length t - n = length-drop n t in
+    record {
+      here =
+          ap (λ (m : ℕ). take m (drop (at + n) s)) l
+          ∙ ap (take (length t - n)) (sym (drop-drop n at s))
+          ∙ sym (drop-take n (length t - n) (drop at s))
+          ∙ ap (λ (m : ℕ). drop n (take m (drop at s))) (sym k)
+          ∙ ap (drop n) (a .here);
+      ends = λ q. let z : at + length t ≤ length s = a .ends (omega arith) in omega arith;
+    }
+
+-- ---- the body of an atom
+
+module _ (s a b : List ℕ) (p : Part) (e : a ≡ partIn s p) (f : b ≡ bodyOf a) where
+  pub body-le : length b ≤ length a
+  unfolding bodyOf
+  body-le = omega (arith, ap length f, length-drop (headerOf a) a)
+
+  cut : drop (length a - length b) a ≡ b
+  unfolding bodyOf
+  cut = elim (decLe (headerOf a) (length a)) [
+    | yes h ↦ let z : length a - length b ≡ headerOf a = omega (arith, ap length f, length-drop (headerOf a) a) in ap (λ (n : ℕ). drop n a) z ∙ sym f
+    | no h ↦
+        let z : length b ≡ 0 = omega (arith, ap length f, length-drop (headerOf a) a) in
+        drop-of-length-le a {i = length a - length b} (omega arith) ∙ sym (f ∙ drop-of-length-le a {i = headerOf a} (omega arith))
+  ]
+
+  pub body-sum : length s < 2 ^ 63 → p .at < 2 ^ 64 → p .at + (length a - length b) < 2 ^ 64
+  body-sum h k = elim (ℕ-discrete (length a) 0) [
+    | yes z ↦ omega arith
+    | no z ↦ let g : p .at + length a ≤ length s = rw e (part-at s p .ends (omega (arith, ap length e))) in omega arith
+  ]
+
+  pub body-is : partIn s (record { at = p .at + (length a - length b); len = length b }) ≡ bodyOf (partIn s p)
+  unfolding partIn
+  body-is =
+      let q : At s a (p .at) = rw e (part-at s p) in
+      let n = at-next s a (p .at) (length a - length b) q (omega arith) in
+      rw cut at (n .here) ∙ f ∙ ap bodyOf e

@@ -1,0 +1,17 @@
+-- `places::tables::first_part` meets its contract: each test is the one of the definition.
+-- Assumes nothing.
+use borrow.Author.Tests.{eq-eqb, ne-eqb}
+use Rattle.places.proofs.tables.first_part.Statement.{statement}
+use Rattle.places.proofs.tables.first_part.Tie as tie
+
+returns : tie.Need-returns
+returns c = simp (ne-eqb _ _ (c .if1 .taken))
+
+returns-2 : tie.Need-returns-2
+returns-2 c = simp (eq-eqb _ _ (c .before .if1 .left), eq-eqb _ _ (c .if2 .taken))
+
+returns-3 : tie.Need-returns-3
+returns-3 c = simp (eq-eqb _ _ (c .before .if1 .left), ne-eqb _ _ (c .if2 .left))
+
+pub first-part-spec : {M : Type 1} → statement M
+first-part-spec = tie.close (tie.spec returns returns-2 returns-3)

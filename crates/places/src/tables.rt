@@ -1,0 +1,140 @@
+// The sample tables of a track.
+use super::Part;
+use super::body_part;
+use super::child_part;
+use super::part_of;
+use atoms::kinds;
+use atoms::size_in;
+use bigendian::u32_at;
+ghost use mathlib.Core.Path.{_≡_};
+ghost use Rattle.structure.specs.Track.{stblOf};
+ghost use Rattle.places.specs.Places.{partIn, AreTables};
+ghost use Rattle.places.specs.Finding.{firstPart, withAtom, noTables, Finds};
+
+// The part of each, its header included; empty where it is absent. The offsets are those of stco, and where there is none those of co64.
+pub struct Tables {
+    pub stts: Part,
+    pub ctts: Part,
+    pub stsc: Part,
+    pub stsz: Part,
+    pub offsets: Part,
+    pub stss: Part,
+}
+
+// Those found so far.
+pub(crate) struct Found {
+    pub stts: Part,
+    pub ctts: Part,
+    pub stsc: Part,
+    pub stsz: Part,
+    pub stco: Part,
+    pub co64: Part,
+    pub stss: Part,
+}
+
+fn none_found() -> Found
+    ensures { λ r. ⌜ r ≡ noTables ⌝ }
+{
+    let none = Part { at: 0, len: 0 };
+    Found {
+        stts: none,
+        ctts: none,
+        stsc: none,
+        stsz: none,
+        stco: none,
+        co64: none,
+        stss: none,
+    }
+}
+
+// The first part of the kind wanted: the one found before, or else the next one if it is of that kind.
+fn first_part(found: Part, wanted: u32, kind: u32, next: Part) -> Part
+    ensures { λ r. ⌜ r ≡ firstPart found wanted kind next ⌝ }
+{
+    if found.len != 0 {
+        return found;
+    }
+    if kind == wanted {
+        return next;
+    }
+    found
+}
+
+fn with_atom(f: Found, kind: u32, next: Part) -> Found
+    ensures { λ r. ⌜ r ≡ withAtom f kind next ⌝ }
+{
+    let stts = f.stts;
+    let ctts = f.ctts;
+    let stsc = f.stsc;
+    let stsz = f.stsz;
+    let stco = f.stco;
+    let co64 = f.co64;
+    let stss = f.stss;
+    Found {
+        stts: first_part(stts, kinds::STTS, kind, next),
+        ctts: first_part(ctts, kinds::CTTS, kind, next),
+        stsc: first_part(stsc, kinds::STSC, kind, next),
+        stsz: first_part(stsz, kinds::STSZ, kind, next),
+        stco: first_part(stco, kinds::STCO, kind, next),
+        co64: first_part(co64, kinds::CO64, kind, next),
+        stss: first_part(stss, kinds::STSS, kind, next),
+    }
+}
+
+// The tables in the body of an stbl, in one walk over its atoms.
+fn find_tables(lent: &[u8], stbl: Part) -> Found
+    ensures { λ r. ⌜ Finds (now (lent .entry)) (partIn (now (lent .entry)) stbl) r ⌝ }
+{
+    let body = part_of(lent, stbl);
+    let mut t = body;
+    let mut at = stbl.at;
+    let mut found = none_found();
+    loop {
+        let n = size_in(t, kinds::STBL);
+        if n < 8 {
+            return found;
+        }
+        found = with_atom(found, u32_at(t, 4), Part { at, len: n });
+        at += n;
+        t = &t[n..];
+    }
+}
+
+// The body of the stbl, from the body of a trak.
+fn stbl_part(lent: &[u8], trak: Part) -> Part
+    ensures { λ r. ⌜ partIn (now (lent .entry)) r ≡ stblOf (partIn (now (lent .entry)) trak) ⌝ }
+{
+    let mdia = child_part(lent, trak, kinds::TRAK, kinds::MDIA, 0);
+    let in_mdia = body_part(lent, mdia);
+    let minf = child_part(lent, in_mdia, kinds::MDIA, kinds::MINF, 0);
+    let in_minf = body_part(lent, minf);
+    let stbl = child_part(lent, in_minf, kinds::MINF, kinds::STBL, 0);
+    body_part(lent, stbl)
+}
+
+// The sample tables of a track, from the body of its trak.
+pub fn tables_of(lent: &[u8], trak: Part) -> Tables
+    ensures { λ r. ⌜ AreTables (now (lent .entry)) (partIn (now (lent .entry)) trak) r ⌝ }
+{
+    let found = find_tables(lent, stbl_part(lent, trak));
+    let stts = found.stts;
+    let ctts = found.ctts;
+    let stsc = found.stsc;
+    let stsz = found.stsz;
+    let stco = found.stco;
+    let co64 = found.co64;
+    let stss = found.stss;
+    let offsets = if part_of(lent, stco).len() == 0 {
+        co64
+    } else {
+        stco
+    };
+    Tables {
+        stts,
+        ctts,
+        stsc,
+        stsz,
+        offsets,
+        stss,
+    }
+}

@@ -1,0 +1,4 @@
+pub mod Runs
+pub mod Syncs
+pub mod Dealing
+pub mod Moving

@@ -1,0 +1,6 @@
+// Positions in the tables of a track, by value: each is made before the sample with an index, and moved past one sample after the other. No table is begun
+// again. A position may be another table's: every function then answers something and is safe.
+pub mod dealt;
+pub mod moving;
+pub mod run;
+pub mod sync;

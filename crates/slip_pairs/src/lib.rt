@@ -1,0 +1,210 @@
+// The numbers of the pairs as a slip writes them: measured, and written, one pair after the other.
+use bigendian::after;
+use leb128::number_len;
+use leb128::store_number;
+use pairs::ChunkPosition;
+use pairs::Pair;
+use pairs::WholeRun;
+use pairs::chunks_at_once;
+use pairs::first_pair;
+use pairs::is_past;
+use pairs::pair_at;
+use pairs::place_past;
+use pairs::run_at;
+use pairs::run_offsets;
+use pairs::run_sizes;
+use pairs::start_place;
+use pairs::width_of;
+ghost use mathlib.Core.Path.{_≡_};
+ghost use mathlib.Core.Bool.{_||_};
+ghost use mathlib.Core.List.{[], _∷_};
+ghost use Prim.Native.Nat.{_+_, _≤_, _<_, _^_};
+ghost use lib.ListN.{length};
+ghost use Rattle.words.specs.Words.{numbersIn, wordsIn, widthOf};
+ghost use Rattle.slip_head.specs.Bytes.{anyWide};
+ghost use Rattle.pairs.specs.Walks.{pairsBetween, Fitting, AtOnce, runPairs, pairsAtOnce};
+ghost use Rattle.slip_pairs.specs.Measures.{pairBytes, measuredOf, Wrote};
+
+// How many bytes some pairs are written in, and whether one of their numbers is 2^32 or more.
+pub struct Measured {
+    pub bytes: usize,
+    pub wide: bool,
+}
+
+fn is_wide(q: Pair) -> bool
+    ensures { λ r. ⌜ r ≡ anyWide (q .offset ∷ q .length ∷ []) ⌝ }
+{
+    if 4294967296 <= q.offset {
+        return true;
+    }
+    4294967296 <= q.length
+}
+
+fn measure_pair(q: Pair) -> Measured
+    ensures { λ r. ⌜ r ≡ measuredOf (q ∷ []) ⌝ }
+{
+    let first = number_len(q.offset);
+    let second = number_len(q.length);
+    Measured {
+        bytes: first + second,
+        wide: is_wide(q),
+    }
+}
+
+// Of the pairs of both.
+fn both(a: Measured, b: Measured) -> Measured
+    requires { ⌜ a .bytes + b .bytes < 2 ^ 64 ⌝ }
+    ensures { λ r. ⌜ r ≡ record { bytes = a .bytes + b .bytes; wide = a .wide || b .wide } ⌝ }
+{
+    let bytes = a.bytes + b.bytes;
+    if a.wide {
+        return Measured { bytes, wide: true };
+    }
+    Measured {
+        bytes,
+        wide: b.wide,
+    }
+}
+
+// Of the pairs of whole chunks of a run, one for each of the offsets. The sizes begin with those of their samples.
+fn measure_run(offsets: &[u8], sizes: &[u8], r: WholeRun) -> Measured
+    requires { ⌜ length (pairBytes (runPairs r (numbersIn (widthOf (r .long)) (now offsets)) (wordsIn (now sizes)))) < 2 ^ 64 ⌝ }
+    ensures { λ m. ⌜ m ≡ measuredOf (runPairs r (numbersIn (widthOf (r .long)) (now (offsets .entry))) (wordsIn (now (sizes .entry)))) ⌝ }
+{
+    let width = width_of(r.long);
+    let mut t = offsets;
+    let mut z = sizes;
+    let mut m = Measured {
+        bytes: 0,
+        wide: false,
+    };
+    while width <= t.len() {
+        let q = first_pair(t, z, r);
+        m = both(m, measure_pair(q));
+        t = &t[width..];
+        let others = after(z, r.per as usize * 4);
+        z = others;
+    }
+    m
+}
+
+// Of the pairs of some chunks of the run at a place: of one, or of whole ones.
+fn measure_chunks(
+    stsz: &[u8],
+    stco: &[u8],
+    p: ChunkPosition,
+    n: u64,
+    from: u32,
+    stop: u32,
+) -> Measured
+    requires { ⌜ (p .begin < stop) × AtOnce (now stsz) (now stco) from stop p n × Fitting (2 ^ 64) (pairsAtOnce (now stsz) (now stco) from stop p n) × (length (pairBytes (pairsAtOnce (now stsz) (now stco) from stop p n)) < 2 ^ 64) ⌝ }
+    ensures { λ m. ⌜ m ≡ measuredOf (pairsAtOnce (now (stsz .entry)) (now (stco .entry)) from stop p n) ⌝ }
+{
+    if n == 1 {
+        return measure_pair(pair_at(stsz, stco, p, from, stop));
+    }
+    let offsets = run_offsets(stco, p, n);
+    let sizes = run_sizes(stsz, p);
+    measure_run(offsets, sizes, run_at(stsz, stco, p))
+}
+
+// Of the pairs of the samples from one index up to, not including, another.
+pub fn measure_pairs(
+    stsc: &[u8],
+    stsz: &[u8],
+    stco: &[u8],
+    chunks: u32,
+    from: u32,
+    stop: u32,
+) -> Measured
+    requires { ⌜ (length (now stsc) < 2 ^ 32) × Fitting (2 ^ 64) (pairsBetween (now stsc) (now stsz) (now stco) chunks from stop) × (length (pairBytes (pairsBetween (now stsc) (now stsz) (now stco) chunks from stop)) < 2 ^ 64) ⌝ }
+    ensures { λ m. ⌜ m ≡ measuredOf (pairsBetween (now (stsc .entry)) (now (stsz .entry)) (now (stco .entry)) chunks from stop) ⌝ }
+{
+    let mut p = start_place(stsc, chunks, from);
+    let mut m = Measured {
+        bytes: 0,
+        wide: false,
+    };
+    while !is_past(p, stop) {
+        let n = chunks_at_once(stsz, stco, p, from, stop);
+        m = both(m, measure_chunks(stsz, stco, p, n, from, stop));
+        p = place_past(stsc, chunks, p, n);
+    }
+    m
+}
+
+// Writes a pair's two numbers from a place on, where they fit.
+fn write_pair(q: Pair, out: &mut [u8], at: usize) -> usize
+    requires { ⌜ at + length (pairBytes (q ∷ [])) ≤ length (now out) ⌝ }
+    ensures { λ r. ⌜ Wrote (q ∷ []) (now (out .entry)) at r (now (out .exit)) ⌝ }
+{
+    let middle = store_number(out, at, q.offset);
+    store_number(out, middle, q.length)
+}
+
+// Writes the pairs of whole chunks of a run, one for each of the offsets, and answers the place past them.
+fn write_run(offsets: &[u8], sizes: &[u8], r: WholeRun, out: &mut [u8], at: usize) -> usize
+    requires { ⌜ at + length (pairBytes (runPairs r (numbersIn (widthOf (r .long)) (now offsets)) (wordsIn (now sizes)))) ≤ length (now out) ⌝ }
+    ensures { λ past. ⌜ Wrote (runPairs r (numbersIn (widthOf (r .long)) (now (offsets .entry))) (wordsIn (now (sizes .entry)))) (now (out .entry)) at past (now (out .exit)) ⌝ }
+{
+    let width = width_of(r.long);
+    let mut t = offsets;
+    let mut z = sizes;
+    let mut k = at;
+    while width <= t.len() {
+        let q = first_pair(t, z, r);
+        k = write_pair(q, out, k);
+        t = &t[width..];
+        let others = after(z, r.per as usize * 4);
+        z = others;
+    }
+    k
+}
+
+// Writes the pairs of some chunks of the run at a place: of one, or of whole ones.
+fn write_chunks(
+    stsz: &[u8],
+    stco: &[u8],
+    p: ChunkPosition,
+    n: u64,
+    from: u32,
+    stop: u32,
+    out: &mut [u8],
+    at: usize,
+) -> usize
+    requires { ⌜ (p .begin < stop) × AtOnce (now stsz) (now stco) from stop p n × Fitting (2 ^ 64) (pairsAtOnce (now stsz) (now stco) from stop p n) × (at + length (pairBytes (pairsAtOnce (now stsz) (now stco) from stop p n)) ≤ length (now out)) ⌝ }
+    ensures { λ past. ⌜ Wrote (pairsAtOnce (now (stsz .entry)) (now (stco .entry)) from stop p n) (now (out .entry)) at past (now (out .exit)) ⌝ }
+{
+    if n == 1 {
+        let q = pair_at(stsz, stco, p, from, stop);
+        return write_pair(q, out, at);
+    }
+    let offsets = run_offsets(stco, p, n);
+    let sizes = run_sizes(stsz, p);
+    let r = run_at(stsz, stco, p);
+    write_run(offsets, sizes, r, out, at)
+}
+
+// Writes the pairs of the samples from one index up to, not including, another, from the place `at` on, and answers the place past them.
+pub fn write_pairs(
+    stsc: &[u8],
+    stsz: &[u8],
+    stco: &[u8],
+    chunks: u32,
+    from: u32,
+    stop: u32,
+    out: &mut [u8],
+    at: usize,
+) -> usize
+    requires { ⌜ (length (now stsc) < 2 ^ 32) × Fitting (2 ^ 64) (pairsBetween (now stsc) (now stsz) (now stco) chunks from stop) × (at + length (pairBytes (pairsBetween (now stsc) (now stsz) (now stco) chunks from stop)) ≤ length (now out)) ⌝ }
+    ensures { λ past. ⌜ Wrote (pairsBetween (now (stsc .entry)) (now (stsz .entry)) (now (stco .entry)) chunks from stop) (now (out .entry)) at past (now (out .exit)) ⌝ }
+{
+    let mut p = start_place(stsc, chunks, from);
+    let mut k = at;
+    while !is_past(p, stop) {
+        let n = chunks_at_once(stsz, stco, p, from, stop);
+        k = write_chunks(stsz, stco, p, n, from, stop, out, k);
+        p = place_past(stsc, chunks, p, n);
+    }
+    k
+}

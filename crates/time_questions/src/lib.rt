@@ -1,0 +1,77 @@
+// The sample at a media time, and movie time to media time.
+use atoms::kinds;
+use edits::Mapped;
+use edits::MediaTime;
+use edits::MovieTime;
+use edits::media_at;
+use questions::ask_refusal;
+use questions::track_asked;
+use runs::Looked;
+use runs::look_up;
+use structure::moov::moov_body;
+use structure::moov::movie_scale;
+use structure::source::Source;
+use structure::trak::edit_list;
+use structure::trak::media_scale;
+use structure::trak::table;
+use track::media_total;
+ghost use mathlib.Core.Path.{_≡_};
+ghost use Rattle.time_questions.specs.Times.{SampleAt, toAnswer, Maps};
+
+// The answer of `sample_at_time`: the sample's number and the position of its entry in stts, both from 1; or the number of a refusal.
+pub enum NumberAnswer {
+    Number(u32, u32),
+    Refused(u32),
+}
+
+// The sample whose media times hold t.
+pub fn sample_at_time(lent: &[u8], source: Source, id: u32, t: MediaTime) -> NumberAnswer
+    ensures { λ r. ⌜ SampleAt (now (lent .entry)) source id t r ⌝ }
+{
+    let refused = ask_refusal(lent, source, id);
+    if refused != 0 {
+        return NumberAnswer::Refused(refused);
+    }
+    let trak = track_asked(lent, id);
+    let time = t.0;
+    match look_up(table(trak, kinds::STTS), time) {
+        Looked::Hit(hit) => NumberAnswer::Number((hit.index + 1) as u32, hit.entry),
+        Looked::Outside => NumberAnswer::Refused(15),
+    }
+}
+
+// The answer of `media_time_of`: the media time that is shown; or that nothing is; or the number of a refusal.
+pub enum TimeAnswer {
+    Shown(MediaTime),
+    NothingShown,
+    NotMapped(u32),
+}
+
+fn to_answer(m: Mapped) -> TimeAnswer
+    ensures { λ r. ⌜ r ≡ toAnswer m ⌝ }
+{
+    match m {
+        Mapped::Media(t) => TimeAnswer::Shown(t),
+        Mapped::Nothing => TimeAnswer::NothingShown,
+        Mapped::Outside => TimeAnswer::NotMapped(15),
+    }
+}
+
+// The media time that a movie time shows.
+pub fn media_time_of(lent: &[u8], source: Source, id: u32, t: MovieTime) -> TimeAnswer
+    ensures { λ r. ⌜ Maps (now (lent .entry)) source id t r ⌝ }
+{
+    let refused = ask_refusal(lent, source, id);
+    if refused != 0 {
+        return TimeAnswer::NotMapped(refused);
+    }
+    let trak = track_asked(lent, id);
+    let movie = movie_scale(moov_body(lent));
+    to_answer(media_at(
+        edit_list(trak),
+        media_scale(trak),
+        movie,
+        media_total(trak),
+        t,
+    ))
+}
