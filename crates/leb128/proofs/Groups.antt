@@ -43,7 +43,7 @@ groups-some (suc k) n = go (ltb n 128)
     go true = omega arith
     go false = omega arith
 
-groups-few : (k n : ℕ) → length (groupsIn k n) ≤ k + 1
+pub groups-few : (k n : ℕ) → length (groupsIn k n) ≤ k + 1
 unfolding groupsIn
 groups-few zero n = omega arith
 groups-few (suc k) n = go (ltb n 128) (groups-few k (n / 128))

@@ -3,3 +3,4 @@ pub mod Groups
 pub mod Readings
 pub mod Pieces
 pub mod Puts
+pub mod Quick

@@ -53,7 +53,7 @@ after-read b end at (good m len) = go (eqb m 0)
 after-read b end at broken = refl
 after-read b end at short = refl
 
-read-step : (top : ℕ) (bs : List ℕ) (at b k : ℕ) → at < length bs → getD bs at 0 ≡ b → 128 ≤ b → readAt (suc k) top bs at ≡ afterRead b at (readAt k top bs (at + 1))
+pub read-step : (top : ℕ) (bs : List ℕ) (at b k : ℕ) → at < length bs → getD bs at 0 ≡ b → 128 ≤ b → readAt (suc k) top bs at ≡ afterRead b at (readAt k top bs (at + 1))
 unfolding readAt number
 read-step top bs at b k h e l = rw (drop-cons bs at 0 h, e, le-ltb b 128 l, after-read b (length bs) at, add-one)
 

@@ -9,6 +9,7 @@ use native.Mathlib.Omega.{arith}
 use native.Mathlib.Numerals.{add-one}
 use native.Mathlib.Nat.{add-zero}
 use lib.ListN.{length, getD, drop, set, length-append}
+use borrow.Author.Tests.{le-leb}
 use lib.Seq.{sets, drop-drop, getD-drop}
 use Rattle.leb128.specs.Numbers.{groups, writes, Below}
 use Rattle.leb128.specs.Reading.{limit, readAt}
@@ -136,6 +137,11 @@ module _ (k top : ℕ) (bs : List ℕ) (left i prev at : ℕ) (h : 0 < left) (r 
   pub check-short : (p : ℕ) → r ≡ Short p → checkedOf (run k top bs left i prev at) ≡ Stopped p
   unfolding checkedOf
   check-short p q = turn (stopped p) (run-short k top bs (left - 1) i prev at r read p q)
+
+-- a number of a pair has no rule of its own
+pub allowed-past : (i prev n : ℕ) → 6 ≤ i → allowed i prev n ≡ true
+unfolding allowed
+allowed-past i prev n h = rw (le-leb 6 i h)
 
 -- ---- the values that a loop stores
 

@@ -1,6 +1,7 @@
 // Stepping through a slip: one pass over its numbers to check them, one to fill the lent room.
 use leb128::NumberRead;
 use leb128::number_at;
+use leb128::quick_at;
 use number_cursor::Cursor;
 use number_cursor::next_number;
 use slip_head::Head;
@@ -79,6 +80,35 @@ fn check_numbers(bytes: &[u8], c: usize, from: Cursor) -> Checked
     Checked::All(end)
 }
 
+// Checks c numbers of pairs from a place. They have no rule but that they are there, so that their count is not looked at.
+fn check_pairs(bytes: &[u8], c: usize, from: usize, wide: bool) -> Checked
+    ensures { λ r. ⌜ r ≡ checkedOf (run (moreOf wide) (topOf wide) (now (bytes .entry)) c 6 0 from) ⌝ }
+{
+    let mut rest = c;
+    let mut at = from;
+    while 0 < rest {
+        let q = quick_at(bytes, at);
+        if 0 < q {
+            at += (q % 8) as usize;
+            rest -= 1;
+            continue;
+        }
+        match number_at(bytes, at, wide) {
+            NumberRead::Good(_, next) => {
+                at = next;
+            }
+            NumberRead::Broken(p) => {
+                return Checked::Stopped(p);
+            }
+            NumberRead::Short(p) => {
+                return Checked::Stopped(p);
+            }
+        }
+        rest -= 1;
+    }
+    Checked::All(at)
+}
+
 // The value that was read, or 0.
 fn value_of(r: NumberRead) -> u64
     ensures { λ v. ⌜ v ≡ valueOf r ⌝ }
@@ -109,6 +139,13 @@ pub fn fill_numbers(bytes: &[u8], at: usize, room: &mut [u32], n: usize)
     let mut j = 0;
     let mut p = at;
     while j < n {
+        let q = quick_at(bytes, p);
+        if 0 < q {
+            room[j] = (q / 8) as u32;
+            p += (q % 8) as usize;
+            j += 1;
+            continue;
+        }
         let r = number_at(bytes, p, false);
         room[j] = value_of(r) as u32;
         p = next_of(p, r);
@@ -124,6 +161,13 @@ pub fn fill_wide(bytes: &[u8], at: usize, room: &mut [u64], n: usize)
     let mut j = 0;
     let mut p = at;
     while j < n {
+        let q = quick_at(bytes, p);
+        if 0 < q {
+            room[j] = q / 8;
+            p += (q % 8) as usize;
+            j += 1;
+            continue;
+        }
         let r = number_at(bytes, p, true);
         room[j] = value_of(r);
         p = next_of(p, r);
@@ -153,8 +197,7 @@ fn find_rest(bytes: &[u8], from: usize, wide: bool) -> SlipScan
             let mut head = [0u64; 5];
             fill_wide(bytes, from, &mut head, 5);
             let pairs = head[4];
-            let past_head = Cursor { at, count: 6, wide };
-            match check_numbers(bytes, 2 * (pairs as usize), past_head) {
+            match check_pairs(bytes, 2 * (pairs as usize), at, wide) {
                 Checked::Stopped(p) => SlipScan::Malformed(p),
                 Checked::All(end) => {
                     if end == bytes.len() {

@@ -11,7 +11,6 @@ use Rattle.leb128.specs.Reading.{moreOf, topOf, readAt}
 use Rattle.leb128.specs.declared.number.NumberRead.the-variants.{Good}
 use Rattle.leb128.proofs.Readings.{width}
 use Rattle.slip_scan.proofs.Rest.{head-few, as-wide, filled-at, rest-head, rest-stopped, rest-surplus, rest-whole}
-use Rattle.slip_scan.proofs.Runs.{checked-long}
 use Rattle.slip_scan.proofs.find_rest.Statement.{statement}
 use Rattle.slip_scan.proofs.find_rest.Tie as tie
 
@@ -58,19 +57,11 @@ fill-wide-requires c κs = search needs
 array-read-pairs : tie.Need-array-read-pairs
 array-read-pairs c = search needs
 
-mul-check-numbers : tie.Need-mul-check-numbers
-mul-check-numbers c = omega (arith, few c)
+mul-check-pairs : tie.Need-mul-check-pairs
+mul-check-pairs c = omega (arith, few c)
 
-check-numbers-requires-2 : tie.Need-check-numbers-requires-2
-check-numbers-requires-2 c κs =
-    let t = c .before .before .before .before in
-    let b = t .before .before in
-    let w = width (b .before .before .args .wide) in
-    omega (
-      arith,
-      checked-long (moreOf (b .before .before .args .wide)) (topOf (b .before .before .args .wide)) (now (b .before .before .args .bytes)) 5 1 0 (b .before .before .args .from) _ (w .some) (w .seven) (w .ten) (are b) (sym (t .at .given .1) ∙ b .check-numbers .ensures),
-      b .before .before .pre,
-    )
+check-pairs-requires : tie.Need-check-pairs-requires
+check-pairs-requires c κs = search needs
 
 enum-known-p-2 : tie.Need-enum-known-p-2
 enum-known-p-2 c = search needs
@@ -98,21 +89,21 @@ returns-2 c =
     let s = c .before .before .before in
     let f = s .before .before in
     let t = f .before .before .before in
-    sym (rest-stopped _ _ 9 2 _ (wider (t .before .before)) _ _ _ (t .before .before .check-numbers .ensures) (t .at .given .1) _ _ (f .fill-wide .ensures) _ (s .check-numbers2 .ensures) _ (c .before .p2 .given .1))
+    sym (rest-stopped _ _ 9 2 _ (wider (t .before .before)) _ _ _ (t .before .before .check-numbers .ensures) (t .at .given .1) _ _ (f .fill-wide .ensures) _ (s .check-pairs .ensures) _ (c .before .p2 .given .1))
 
 returns-3 : tie.Need-returns-3
 returns-3 c =
     let s = c .before .before .before .before in
     let f = s .before .before in
     let t = f .before .before .before in
-    sym (rest-whole _ _ 9 2 _ (wider (t .before .before)) _ _ _ (t .before .before .check-numbers .ensures) (t .at .given .1) _ _ (f .fill-wide .ensures) _ (s .check-numbers2 .ensures) _ (c .before .before .end .given .1) (c .if1 .taken))
+    sym (rest-whole _ _ 9 2 _ (wider (t .before .before)) _ _ _ (t .before .before .check-numbers .ensures) (t .at .given .1) _ _ (f .fill-wide .ensures) _ (s .check-pairs .ensures) _ (c .before .before .end .given .1) (c .if1 .taken))
 
 returns-4 : tie.Need-returns-4
 returns-4 c =
     let s = c .before .before .before .before in
     let f = s .before .before in
     let t = f .before .before .before in
-    sym (rest-surplus _ _ 9 2 _ (wider (t .before .before)) _ _ _ (t .before .before .check-numbers .ensures) (t .at .given .1) _ _ (f .fill-wide .ensures) _ (s .check-numbers2 .ensures) _ (c .before .before .end .given .1) (c .if1 .left))
+    sym (rest-surplus _ _ 9 2 _ (wider (t .before .before)) _ _ _ (t .before .before .check-numbers .ensures) (t .at .given .1) _ _ (f .fill-wide .ensures) _ (s .check-pairs .ensures) _ (c .before .before .end .given .1) (c .if1 .left))
 
 pub find-rest-spec : {M : Type 1} → statement M
 find-rest-spec =
@@ -124,8 +115,8 @@ find-rest-spec =
     slice-aggregate-fill-wide
     fill-wide-requires
     array-read-pairs
-    mul-check-numbers
-    check-numbers-requires-2
+    mul-check-pairs
+    check-pairs-requires
     enum-known-p-2
     enum-known-end
     array-read-id
