@@ -1,5 +1,8 @@
 // The questions of document 01 for programs in C and Rust: numbers and slices alone. Each function answers the number of a refusal, or 0, and puts
 // the values that documents 01 and 02 name into lent places, in its order. Each is one call: a function that is exported must stand in this crate.
+mod moov;
+
+use host_any_slips::hand_read_any_slip;
 use host_features::hand_feature;
 use host_features::hand_peak;
 use host_movie::hand_edits;
@@ -15,7 +18,7 @@ use host_top_level::hand_step;
 use host_tracks::hand_track_list;
 use host_written_slips::hand_written_slip;
 use structure::source::Source;
-ghost use mathlib.Core.Bool.{false};
+ghost use mathlib.Core.Bool.{true, false};
 ghost use Rattle.slip.specs.Slip.{slipIn};
 ghost use Rattle.pairs.specs.Pairs.{flat};
 ghost use Rattle.structure.specs.Source.{wholeFile};
@@ -141,7 +144,7 @@ pub extern "C" fn chaldoref_stretch(
     room: &mut [u32],
     places: &mut [u64],
 ) -> u32
-    ensures { λ r. ⌜ Fills (ofStretch (now (file .entry)) id a b (now (room .entry))) (now (places .entry)) (flat (stretchPairs (now (file .entry)) id (media a) (media b))) (now (room .entry)) r (now (places .exit)) (now (room .exit)) ⌝ }
+    ensures { λ r. ⌜ Fills (ofStretch (now (file .entry)) wholeFile id a b (now (room .entry))) (now (places .entry)) (flat (stretchPairs (now (file .entry)) id (media a) (media b))) (now (room .entry)) r (now (places .exit)) (now (room .exit)) ⌝ }
 {
     hand_stretch(file, id, a, b, room, places)
 }
@@ -156,9 +159,9 @@ pub extern "C" fn chaldoref_write_slip(
     out: &mut [u8],
     places: &mut [u64],
 ) -> u32
-    ensures { λ r. ⌜ Fills (ofSlipWriting (now (file .entry)) id a b (now (out .entry))) (now (places .entry)) (slipOfStretch (now (file .entry)) id (media a) (media b)) (now (out .entry)) r (now (places .exit)) (now (out .exit)) ⌝ }
+    ensures { λ r. ⌜ Fills (ofSlipWriting (now (file .entry)) wholeFile id a b (now (out .entry))) (now (places .entry)) (slipOfStretch (now (file .entry)) id (media a) (media b)) (now (out .entry)) r (now (places .exit)) (now (out .exit)) ⌝ }
 {
-    hand_written_slip(file, id, a, b, out, places)
+    hand_written_slip(file, Source::whole(), id, a, b, out, places)
 }
 
 // Reads a slip: its pairs in the room, and in six places track ID, scale, a, b, how many pairs, and 0; or zeros and, with refusal 17, the place where the slip goes wrong.
@@ -167,4 +170,12 @@ pub extern "C" fn chaldoref_read_slip(bytes: &[u8], room: &mut [u32], places: &m
     ensures { λ r. ⌜ Fills (ofSlipReading false (now (bytes .entry)) (now (room .entry))) (now (places .entry)) (pairsOf (slipIn false (now (bytes .entry)))) (now (room .entry)) r (now (places .exit)) (now (room .exit)) ⌝ }
 {
     hand_read_slip(bytes, room, places)
+}
+
+// Reads a slip of either form, with numbers of 64 bits: its pairs in the room, and the six places as above.
+#[no_mangle]
+pub extern "C" fn chaldoref_read_any_slip(bytes: &[u8], room: &mut [u64], places: &mut [u64]) -> u32
+    ensures { λ r. ⌜ Fills (ofSlipReading true (now (bytes .entry)) (now (room .entry))) (now (places .entry)) (pairsOf (slipIn true (now (bytes .entry)))) (now (room .entry)) r (now (places .exit)) (now (room .exit)) ⌝ }
+{
+    hand_read_any_slip(bytes, room, places)
 }

@@ -1,4 +1,4 @@
-// A slip of any form that is read, for a caller in another language: its pairs in lent room, the values in lent places.
+// A slip of either form that is read, for a caller in another language: its pairs in lent room of 64-bit numbers, the values in lent places.
 use hand::hand;
 use hand::or_short;
 use slip::SlipRead;
@@ -9,7 +9,7 @@ ghost use Rattle.slip.specs.Slip.{slipIn};
 ghost use Rattle.hand.specs.Places.{Fills};
 ghost use Rattle.host_slips.specs.Numbers.{ofSlipReading, pairsOf, outcomeRefusal};
 
-// Whether bytes are a slip of any form: 0, or 17.
+// Whether bytes are a slip of either form: 0, or 17.
 fn any_slip_refusal(bytes: &[u8]) -> u32
     ensures { λ r. ⌜ r ≡ outcomeRefusal (slipIn true (now (bytes .entry))) ⌝ }
 {
@@ -21,7 +21,7 @@ fn any_slip_refusal(bytes: &[u8]) -> u32
     }
 }
 
-// Reads a slip of any form: its pairs in the room, and in six places track ID, scale, a, b, how many pairs, and 0; or zeros and, with refusal 17, the place where the slip goes wrong.
+// Reads a slip of either form: its pairs in the room, and in six places track ID, scale, a, b, how many pairs, and 0; or zeros and, with refusal 17, the place where the slip goes wrong.
 pub fn hand_read_any_slip(bytes: &[u8], room: &mut [u64], places: &mut [u64]) -> u32
     ensures { λ r. ⌜ Fills (ofSlipReading true (now (bytes .entry)) (now (room .entry))) (now (places .entry)) (pairsOf (slipIn true (now (bytes .entry)))) (now (room .entry)) r (now (places .exit)) (now (room .exit)) ⌝ }
 {

@@ -4,7 +4,7 @@ use Prim.Native.Nat.{ℕ}
 use mathlib.Core.Path.{_≡_, refl}
 use mathlib.Core.List.{List, [], _∷_}
 use lib.ListN.{length}
-use Rattle.structure.specs.Source.{wholeFile}
+use Rattle.structure.specs.declared.source.Source.{Source}
 use Rattle.track.specs.Track.{trackOf}
 use Rattle.movie.specs.Rooms.{refusedWith}
 use Rattle.movie.proofs.Answers.{gives}
@@ -15,9 +15,9 @@ use Rattle.hand.specs.Times.{media}
 use Rattle.hand.proofs.Answered.{judged}
 use Rattle.host_stretches.specs.Numbers.{ofStretch}
 
-module _ (s : List ℕ) (id a b : ℕ) (room : List ℕ) where
-  pub stretch-judged : ofStretch s id a b room
-      ≡ judged (stretchRefusal s wholeFile id (media a) (media b) room) (length (stretchPairs s id (media a) (media b)) ∷ bytesIn (trackOf (trackAsked s id)) (media a) (media b) ∷ [])
+module _ (s : List ℕ) (w : Source) (id a b : ℕ) (room : List ℕ) where
+  pub stretch-judged : ofStretch s w id a b room
+      ≡ judged (stretchRefusal s w id (media a) (media b) room) (length (stretchPairs s id (media a) (media b)) ∷ bytesIn (trackOf (trackAsked s id)) (media a) (media b) ∷ [])
   unfolding stretchNumbers
   stretch-judged =
-      gives stretchNumbers (refusedWith 2) stretches.Refused (λ r. refl) (stretchAsked s id (media a) (media b)) (stretchRefusal s wholeFile id (media a) (media b) room) _ refl .numbers
+      gives stretchNumbers (refusedWith 2) stretches.Refused (λ r. refl) (stretchAsked s id (media a) (media b)) (stretchRefusal s w id (media a) (media b) room) _ refl .numbers

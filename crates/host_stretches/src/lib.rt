@@ -7,6 +7,7 @@ use stretch::span_refusal;
 use stretch::stretch_of;
 use structure::source::Source;
 ghost use Rattle.pairs.specs.Pairs.{flat};
+ghost use Rattle.structure.specs.Source.{wholeFile};
 ghost use Rattle.stretch.specs.Stretches.{stretchPairs};
 ghost use Rattle.hand.specs.Places.{Fills};
 ghost use Rattle.hand.specs.Times.{media};
@@ -21,7 +22,7 @@ pub fn hand_stretch(
     room: &mut [u32],
     places: &mut [u64],
 ) -> u32
-    ensures { λ r. ⌜ Fills (ofStretch (now (file .entry)) id a b (now (room .entry))) (now (places .entry)) (flat (stretchPairs (now (file .entry)) id (media a) (media b))) (now (room .entry)) r (now (places .exit)) (now (room .exit)) ⌝ }
+    ensures { λ r. ⌜ Fills (ofStretch (now (file .entry)) wholeFile id a b (now (room .entry))) (now (places .entry)) (flat (stretchPairs (now (file .entry)) id (media a) (media b))) (now (room .entry)) r (now (places .exit)) (now (room .exit)) ⌝ }
 {
     if places.len() < 2 {
         let source = Source::whole();

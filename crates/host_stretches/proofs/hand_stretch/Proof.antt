@@ -20,7 +20,7 @@ or-short-requires c κs = search needs
 returns : tie.Need-returns
 unfolding stretchRefusal
 returns c =
-    too-few _ _ _ _ _ _ _ _ (stretch-judged _ _ _ _ _) refl (c .before .before .before .if1 .taken)
+    too-few _ _ _ _ _ _ _ _ (stretch-judged _ _ _ _ _ _) refl (c .before .before .before .if1 .taken)
     (rw (← c .before .before .whole .ensures, ← c .before .span-refusal .ensures) (c .or-short .ensures))
 
 stretch-of-requires : tie.Need-stretch-of-requires
@@ -53,7 +53,7 @@ same-length-2 c = search needs
 returns-2 : tie.Need-returns-2
 unfolding stretchNumbers
 returns-2 c =
-    fills _ _ _ _ _ _ _ _ _ _ _ (stretch-judged _ _ _ _ _) (of-case stretchNumbers (c .before .before .before .before .before .before .before .before .before .before .stretch-of .ensures .answer) (c .before .before .before .before .before .before .n .given .1))
+    fills _ _ _ _ _ _ _ _ _ _ _ (stretch-judged _ _ _ _ _ _) (of-case stretchNumbers (c .before .before .before .before .before .before .before .before .before .before .stretch-of .ensures .answer) (c .before .before .before .before .before .before .n .given .1))
     (c .before .before .before .before .before .before .before .before .before .before .before .before .if1 .left)
     (c .before .before .hand .ensures)
     (c .before .before .before .before .before .before .before .before .before .before .stretch-of .ensures .places)
@@ -67,7 +67,7 @@ same-length-4 c = search needs
 returns-3 : tie.Need-returns-3
 unfolding stretchNumbers
 returns-3 c =
-    fills _ _ _ _ _ _ _ _ _ _ _ (stretch-judged _ _ _ _ _) (of-case stretchNumbers (c .before .before .before .before .before .before .before .before .before .before .stretch-of .ensures .answer) (c .before .before .before .before .before .before .r .given .1))
+    fills _ _ _ _ _ _ _ _ _ _ _ (stretch-judged _ _ _ _ _ _) (of-case stretchNumbers (c .before .before .before .before .before .before .before .before .before .before .stretch-of .ensures .answer) (c .before .before .before .before .before .before .r .given .1))
     (c .before .before .before .before .before .before .before .before .before .before .before .before .if1 .left)
     (c .before .before .hand2 .ensures)
     (c .before .before .before .before .before .before .before .before .before .before .stretch-of .ensures .places)

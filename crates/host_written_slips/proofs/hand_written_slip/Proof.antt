@@ -8,9 +8,6 @@ use Rattle.host_written_slips.proofs.Judged.{slip-judged}
 use Rattle.host_written_slips.proofs.hand_written_slip.Statement.{statement}
 use Rattle.host_written_slips.proofs.hand_written_slip.Tie as tie
 
-whole-requires : tie.Need-whole-requires
-whole-requires c κs = search needs
-
 strictly-requires : tie.Need-strictly-requires
 strictly-requires c κs = search needs
 
@@ -23,11 +20,11 @@ or-short-requires c κs = search needs
 returns : tie.Need-returns
 unfolding slipRefusal
 returns c =
-    too-few _ _ _ _ _ _ _ _ (slip-judged _ _ _ _ _) refl (c .before .before .before .before .if1 .taken)
+    too-few _ _ _ _ _ _ _ _ (slip-judged _ _ _ _ _ _) refl (c .before .before .before .if1 .taken)
     (rw (← c .before .before .strictly .ensures, ← c .before .span-refusal .ensures) (c .or-short .ensures))
 
-write-slip-requires : tie.Need-write-slip-requires
-write-slip-requires c κs = search needs
+write-slip-of-requires : tie.Need-write-slip-of-requires
+write-slip-of-requires c κs = search needs
 
 enum-known-n : tie.Need-enum-known-n
 enum-known-n c = search needs
@@ -56,10 +53,10 @@ same-length-2 c = search needs
 returns-2 : tie.Need-returns-2
 unfolding slipNumbers
 returns-2 c =
-    fills _ _ _ _ _ _ _ _ _ _ _ (slip-judged _ _ _ _ _) (of-case slipNumbers (c .before .before .before .before .before .before .before .before .before .before .write-slip .ensures .answer) (c .before .before .before .before .before .before .n .given .1))
+    fills _ _ _ _ _ _ _ _ _ _ _ (slip-judged _ _ _ _ _ _) (of-case slipNumbers (c .before .before .before .before .before .before .before .before .before .before .write-slip-of .ensures .answer) (c .before .before .before .before .before .before .n .given .1))
     (c .before .before .before .before .before .before .before .before .before .before .before .before .if1 .left)
     (c .before .before .hand .ensures)
-    (c .before .before .before .before .before .before .before .before .before .before .write-slip .ensures .places)
+    (c .before .before .before .before .before .before .before .before .before .before .write-slip-of .ensures .places)
 
 same-length-3 : tie.Need-same-length-3
 same-length-3 c = search needs
@@ -70,21 +67,20 @@ same-length-4 c = search needs
 returns-3 : tie.Need-returns-3
 unfolding slipNumbers
 returns-3 c =
-    fills _ _ _ _ _ _ _ _ _ _ _ (slip-judged _ _ _ _ _) (of-case slipNumbers (c .before .before .before .before .before .before .before .before .before .before .write-slip .ensures .answer) (c .before .before .before .before .before .before .r .given .1))
+    fills _ _ _ _ _ _ _ _ _ _ _ (slip-judged _ _ _ _ _ _) (of-case slipNumbers (c .before .before .before .before .before .before .before .before .before .before .write-slip-of .ensures .answer) (c .before .before .before .before .before .before .r .given .1))
     (c .before .before .before .before .before .before .before .before .before .before .before .before .if1 .left)
     (c .before .before .hand2 .ensures)
-    (c .before .before .before .before .before .before .before .before .before .before .write-slip .ensures .places)
+    (c .before .before .before .before .before .before .before .before .before .before .write-slip-of .ensures .places)
 
 pub hand-written-slip-spec : {M : Type 1} → statement M
 hand-written-slip-spec =
     tie.close
     (tie.spec
-    whole-requires
     strictly-requires
     span-refusal-requires
     or-short-requires
     returns
-    write-slip-requires
+    write-slip-of-requires
     enum-known-n
     slice-aggregate-hand
     hand-requires
