@@ -21,6 +21,15 @@ pub struct Moving {
     pub sync: usize,
 }
 
+impl Moving {
+    // Document 01: "header and entry sizes as associated constants": the head of stts, ctts and stss, and their entries.
+    pub const HEAD: usize = 16;
+
+    pub const RUN: usize = 8;
+
+    pub const WORD: usize = 4;
+}
+
 // Whether an entry is to be read before the sample is known; `ctts` is the length of that table.
 pub fn needs_entries(m: Moving, ctts: usize) -> bool
     ensures { λ r. ⌜ r ≡ needsEntries ctts m ⌝ }

@@ -1,4 +1,5 @@
 // Places in stts and ctts: the cursor of the crate runs.
+use super::moving::Moving;
 use bigendian::after;
 use bigendian::u32_at;
 use runs::cursor::RunCursor;
@@ -19,12 +20,12 @@ pub fn run_seek(table: &[u8], index: u32) -> RunCursor
     while r.count <= skip {
         let at = r.at;
         let t = after(table, at);
-        if t.len() < 8 {
+        if t.len() < Moving::RUN {
             return run_pass(r, skip);
         }
         skip -= r.count;
         r = RunCursor {
-            at: at + 8,
+            at: at + Moving::RUN,
             count: u32_at(t, 0),
             each: u32_at(t, 4),
         };

@@ -1,4 +1,5 @@
 // A place in stss: where the numbers begin that are above those of the samples passed.
+use super::moving::Moving;
 use bigendian::after;
 use bigendian::u32_at;
 ghost use mathlib.Core.Path.{_≡_};
@@ -8,16 +9,16 @@ ghost use Rattle.positions.specs.Syncs.{syncPlace, syncStep};
 pub fn sync_seek(stss: &[u8], index: u32) -> usize
     ensures { λ r. ⌜ r ≡ syncPlace (now (stss .entry)) index ⌝ }
 {
-    let mut at: usize = 16;
+    let mut at = Moving::HEAD;
     loop {
         let t = after(stss, at);
-        if t.len() < 4 {
+        if t.len() < Moving::WORD {
             return at;
         }
         if index < u32_at(t, 0) {
             return at;
         }
-        at += 4;
+        at += Moving::WORD;
     }
 }
 
@@ -31,7 +32,7 @@ pub fn sync_step(stss: &[u8], at: usize, number: u32) -> SyncStep
     ensures { λ r. ⌜ r ≡ syncStep (now (stss .entry)) at number ⌝ }
 {
     let t = after(stss, at);
-    if t.len() < 4 {
+    if t.len() < Moving::WORD {
         return SyncStep { listed: false, at };
     }
     if u32_at(t, 0) != number {
@@ -39,6 +40,6 @@ pub fn sync_step(stss: &[u8], at: usize, number: u32) -> SyncStep
     }
     SyncStep {
         listed: true,
-        at: at + 4,
+        at: at + Moving::WORD,
     }
 }

@@ -39,19 +39,12 @@ pub enum Step {
 }
 
 impl Stepper {
-    // Document 01: "header and entry sizes as associated constants". Heads of the tables, and of stsz.
-    pub const HEAD: usize = 16;
+    // Document 01: "header and entry sizes as associated constants": the head of stts, ctts and stss, and their entries.
+    pub const HEAD: usize = Moving::HEAD;
 
-    pub const SIZES_HEAD: usize = 20;
+    pub const RUN: usize = Moving::RUN;
 
-    // Entries of stts and ctts, of stsc, of stsz, stco and stss, and of co64.
-    pub const RUN: usize = 8;
-
-    pub const DEAL: usize = 12;
-
-    pub const WORD: usize = 4;
-
-    pub const LONG: usize = 8;
+    pub const WORD: usize = Moving::WORD;
 
     // Before sample n of a track, numbered from 1.
     pub fn at(lent: &[u8], source: Source, id: u32, n: u32) -> Start
