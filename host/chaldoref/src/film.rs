@@ -8,9 +8,9 @@
 /// # std::env::set_current_dir("../..")?;
 /// let file = std::fs::read("films/w.mov")?;
 /// let whole = Movie::open(&file)?;
-/// // The moov of this film follows the first 16 bytes.
-/// let size = u32::from_be_bytes(*file[16..].first_chunk().unwrap()) as usize;
-/// let alone = Movie::open(Film::Moov { moov: &file[16..][..size], length: 4096 })?;
+/// // The moov is the first atom of this film.
+/// let size = u32::from_be_bytes(*file.first_chunk().unwrap()) as usize;
+/// let alone = Movie::open(Film::Moov { moov: &file[..size], length: 4096 })?;
 /// assert_eq!(whole.sample(TrackId(1), 4), alone.sample(TrackId(1), 4));
 /// # Ok::<(), Box<dyn std::error::Error>>(())
 /// ```

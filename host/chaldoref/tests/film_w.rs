@@ -124,7 +124,7 @@ fn slips() {
     assert_eq!(out, [9; 14]);
     assert_eq!(movie.write_slip_into(ONE, media(24, 73), &mut out), Ok(13));
     assert_eq!((&out[..13], out[13]), (&SLIP[..], 9));
-    assert_eq!(movie.tracks()[0].slip_room(), 44);
+    assert_eq!(movie.tracks()[0].slip_room(), 60);
 }
 
 #[test]

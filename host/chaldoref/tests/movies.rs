@@ -162,7 +162,7 @@ fn movies_go_between_threads() {
             scope.spawn(move || assert_eq!(movie.sample_at(id, MediaTime(24)).unwrap().sample, 2));
         }
     });
-    assert!(format!("{movie:?}").starts_with("Movie { file_bytes: 1252, tracks: [Track {"), "{movie:?}");
+    assert!(format!("{movie:?}").starts_with("Movie { film: Whole { bytes: 1252 }, tracks: [Track {"), "{movie:?}");
 }
 
 /// A track of so many samples of one byte, each in a chunk of its own.

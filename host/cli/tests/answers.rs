@@ -23,11 +23,13 @@ fn tracks() {
     answers(
         "tracks films/w.mov",
         "id  subtype  scale  total  hh:mm:ss.mmm  samples  chunks  edits  stored\n \
-          1  vide       600    120  00:00:00.200        4       2      0     120\n",
+          1  vide       600    120  00:00:00.200        4       2      0     120\n\
+         movie scale 600, stored duration 120 (00:00:00.200)\n",
     );
     answers(
         "tracks films/w.mov --json",
-        "{\"format\":1,\"file\":\"films/w.mov\",\"tracks\":[{\"id\":1,\"subtype\":\"vide\",\"scale\":600,\"total\":120,\
+        "{\"format\":1,\"file\":\"films/w.mov\",\"movie\":{\"scale\":600,\"stored\":120,\"stored_seconds\":0.2},\
+         \"tracks\":[{\"id\":1,\"subtype\":\"vide\",\"scale\":600,\"total\":120,\
          \"total_seconds\":0.2,\"samples\":4,\"chunks\":2,\
          \"edits\":0,\"stored\":120,\"stored_seconds\":0.2}],\"warnings\":[]}\n",
     );
@@ -43,7 +45,8 @@ fn tracks_with_odd_subtypes() {
         "        id  subtype     scale  total  hh:mm:ss.mmm  samples  chunks  edits  stored\n         \
                   1  a\"\\b          600    120  00:00:00.200        4       2      0     120\n\
          4000000000  0x00016162    600    120  00:00:00.200        4       2      0     120\n         \
-                  7  soun        44100      9  00:00:00.000        9       3      1       9\n",
+                  7  soun        44100      9  00:00:00.000        9       3      1       9\n\
+         movie scale 600, stored duration 120 (00:00:00.200)\n",
     );
     let json = run_on(&film, &["tracks", "-", "--json"]).out;
     assert!(json.contains("\"id\":1,\"subtype\":\"a\\\"\\\\b\","), "{json}");
@@ -52,12 +55,41 @@ fn tracks_with_odd_subtypes() {
 
 #[test]
 fn no_tracks() {
-    let heading = "id  subtype  scale  total  hh:mm:ss.mmm  samples  chunks  edits  stored\n";
+    let heading = "id  subtype  scale  total  hh:mm:ss.mmm  samples  chunks  edits  stored\n\
+                   movie scale 600, stored duration 120 (00:00:00.200)\n";
     answers_on(&film_of(vec![]), &["tracks", "-"], heading);
     answers_on(
         &film_of(vec![]),
         &["tracks", "-", "--json"],
-        "{\"format\":1,\"file\":\"-\",\"tracks\":[],\"warnings\":[]}\n",
+        "{\"format\":1,\"file\":\"-\",\"movie\":{\"scale\":600,\"stored\":120,\"stored_seconds\":0.2},\
+         \"tracks\":[],\"warnings\":[]}\n",
+    );
+}
+
+#[test]
+fn edits() {
+    answers(
+        "edits films/w.mov 1",
+        "track 1 has no edit list: all of it is shown, from movie time 0 on\n\
+         movie scale 600, stored duration 120 (00:00:00.200), track scale 600\n",
+    );
+    let edits = Some(vec![(60, -1, 65536), (60, 24, 65536)]);
+    let film = film_of(vec![film::Track { edits, ..w_track() }]);
+    answers_on(
+        &film,
+        &["edits", "-", "1"],
+        "edit  movie time  hh:mm:ss.mmm  duration  hh:mm:ss.mmm  media time  hh:mm:ss.mmm  rate\n   \
+            1           0  00:00:00.000        60  00:00:00.100     nothing             -     1\n   \
+            2          60  00:00:00.100        60  00:00:00.100          24  00:00:00.040     1\n\
+         movie scale 600, stored duration 120 (00:00:00.200), track scale 600\n",
+    );
+    answers_on(
+        &film,
+        &["edits", "-", "1", "--json"],
+        "{\"format\":1,\"file\":\"-\",\"track\":1,\"movie_scale\":600,\"scale\":600,\"edits\":[{\"movie_time\":0,\
+         \"movie_time_seconds\":0,\"duration\":60,\"duration_seconds\":0.1,\"media_time\":null,\"media_time_seconds\":null,\
+         \"rate\":65536},{\"movie_time\":60,\"movie_time_seconds\":0.1,\"duration\":60,\"duration_seconds\":0.1,\
+         \"media_time\":24,\"media_time_seconds\":0.04,\"rate\":65536}]}\n",
     );
 }
 
@@ -176,7 +208,8 @@ const SLIP_READ: &str =
 
 #[test]
 fn slips_read() {
-    let json = "{\"format\":1,\"file\":\"-\",\"track\":1,\"scale\":600,\"a\":24,\"a_seconds\":0.04,\"b\":73,\
+    let json =
+        "{\"format\":1,\"file\":\"-\",\"form\":1,\"track\":1,\"scale\":600,\"a\":24,\"a_seconds\":0.04,\"b\":73,\
          \"b_seconds\":0.12166666666666667,\
         \"pairs\":[{\"offset\":1100,\"length\":50},\
                 {\"offset\":900,\"length\":70}],\"bytes\":120}\n";
@@ -199,7 +232,7 @@ fn several_slips_are_read() {
     let files: Vec<bool> = json
         .lines()
         .zip([raw, text])
-        .map(|(line, name)| line.starts_with(&format!("{{\"format\":1,\"file\":\"{name}\",\"track\":1,")))
+        .map(|(line, name)| line.starts_with(&format!("{{\"format\":1,\"file\":\"{name}\",\"form\":1,\"track\":1,")))
         .collect();
     assert_eq!(files, [true, true]);
 }

@@ -25,11 +25,13 @@ fn documents_each(line: &str, films: &[&str]) {
 fn each_film_is_named() {
     let expected = "films/w.mov:\n\
                     id  subtype  scale  total  hh:mm:ss.mmm  samples  chunks  edits  stored\n \
-                     1  vide       600    120  00:00:00.200        4       2      0     120\n\n\
+                     1  vide       600    120  00:00:00.200        4       2      0     120\n\
+                    movie scale 600, stored duration 120 (00:00:00.200)\n\n\
                     films/two-hoses.mov:\n\
                     id  subtype  scale  total  hh:mm:ss.mmm  samples  chunks  edits  stored\n \
                      1  vide       600    144  00:00:00.240        6       3      0     144\n \
-                     2  vide       600    144  00:00:00.240        6       3      0     144\n\n";
+                     2  vide       600    144  00:00:00.240        6       3      0     144\n\
+                    movie scale 600, stored duration 144 (00:00:00.240)\n\n";
     assert_eq!(run(&["tracks", W, HOSES]), Ran { out: expected.into(), err: String::new(), status: 0 });
     for films in [&[W, HOSES][..], &[HOSES, W, W]] {
         for line in ["tracks FILE", "features FILE 1", "features FILE 1 avvb", "features FILE 0x1 0x61767662"] {

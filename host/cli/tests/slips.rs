@@ -2,7 +2,7 @@
 mod common;
 
 use common::{run, run_on, Folder, Ran};
-use reference::slip::read_slip;
+use reference::slip::read_any_slip;
 use std::path::Path;
 
 const SLIP: [u8; 13] = [0x01, 0x01, 0xd8, 0x04, 0x18, 0x49, 0x02, 0xcc, 0x08, 0x32, 0x84, 0x07, 0x46];
@@ -22,7 +22,8 @@ fn says_with(part: std::ops::Range<usize>, bytes: &[u8], line: &str) {
 
 #[test]
 fn numbers_that_break_their_rule() {
-    says_with(0..1, &[0x02], "place 0, form: it is 2, and must be 1");
+    says_with(0..1, &[0x03], "place 0, form: it is 3, and must be 1 or 2");
+    says_with(0..1, &[0x02], "place 0, form: it is 2, and no number of the slip is 2^32 or more: it must be 1");
     says_with(1..2, &[0x00], "place 1, track ID: it is 0, and must not be");
     says_with(2..4, &[0x00], "place 2, scale: it is 0, and must not be");
     says_with(5..6, &[0x18], "place 5, b: it is 24, and must be above a, which is 24");
@@ -37,6 +38,13 @@ fn numbers_that_are_not_written_so() {
     says_with(4..5, &[0x80, 0x80, 0x80, 0x80, 0x10], "place 4, a: it is 4294967296, and must be below 2^32");
     says_with(7..9, &[0x80; 5], "place 7, offset of pair 1: the top bit is set on its fifth byte");
     says_with(12..13, &[0xff; 5], "place 12, length of pair 2: the top bit is set on its fifth byte");
+    // In form 2.
+    let wide = |last: &[u8]| [&[0x02], &SLIP[1..12], last].concat();
+    let tenth = [0xff; 10];
+    says(&wide(&tenth), "place 12, length of pair 2: the top bit is set on its tenth byte");
+    let great = [&[0x80; 9][..], &[0x02]].concat();
+    says(&wide(&great), "place 12, length of pair 2: it is 18446744073709551616, and must be below 2^64");
+    says(&wide(&[0xff, 0xff, 0xff, 0xff, 0x00]), "place 12, length of pair 2: it is not written in the fewest bytes");
 }
 
 #[test]
@@ -100,7 +108,7 @@ fn good_and_malformed_slips_beside_each_other() {
     assert_eq!((unreadable.out.lines().count(), unreadable.status), (3, 2));
 }
 
-/// Every malformed slip of crates/slip_vectors: the place in the document is the reference's.
+/// Every slip of crates/slip_vectors that is malformed in either form: the place in the document is the reference's.
 #[test]
 fn the_places_of_the_vectors() {
     let folder = Folder::new("vectors");
@@ -111,9 +119,11 @@ fn the_places_of_the_vectors() {
         let name = path.file_name().unwrap().to_str().unwrap();
         // The slip stands after the case's own numbers.
         let slip = &std::fs::read(&path).unwrap()[24..];
-        if name.starts_with("17-at-") {
+        let mut room = vec![0; slip.len()];
+        let (number, _, place) = read_any_slip(slip, &mut room);
+        if number == 17 {
             names.push(folder.file(name, slip).to_str().unwrap().to_string());
-            places.push(format!("\"place\":{},", read_slip(slip, &mut []).2));
+            places.push(format!("\"place\":{place},"));
         }
     }
     assert!(places.len() > 200);

@@ -9,8 +9,8 @@ use std::fs::File;
 use std::os::unix::ffi::OsStringExt;
 use std::process::{Command, Stdio};
 
-const COMMANDS: [&str; 10] =
-    ["tracks", "sample", "at", "map", "stretch", "slip", "read-slip", "check", "features", "profile"];
+const COMMANDS: [&str; 11] =
+    ["tracks", "sample", "at", "map", "edits", "stretch", "slip", "read-slip", "check", "features", "profile"];
 
 #[test]
 fn version() {

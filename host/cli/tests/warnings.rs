@@ -22,10 +22,12 @@ fn warns(ran: Ran, out: &str, words: &str) {
 #[test]
 fn fragmented_films() {
     let listed = "id  subtype  scale  total  hh:mm:ss.mmm  samples  chunks  edits  stored\n \
-                   1  vide       600      0  00:00:00.000        0       0      0       0\n";
+                   1  vide       600      0  00:00:00.000        0       0      0       0\n\
+                  movie scale 600, stored duration 120 (00:00:00.200)\n";
     let document = |warnings: &str| {
         format!(
-            "{{\"format\":1,\"file\":\"-\",\"tracks\":[{{\"id\":1,\"subtype\":\"vide\",\"scale\":600,\"total\":0,\
+            "{{\"format\":1,\"file\":\"-\",\"movie\":{{\"scale\":600,\"stored\":120,\"stored_seconds\":0.2}},\
+             \"tracks\":[{{\"id\":1,\"subtype\":\"vide\",\"scale\":600,\"total\":0,\
              \"total_seconds\":0,\"samples\":0,\"chunks\":0,\
              \"edits\":0,\"stored\":0,\"stored_seconds\":0}}],\"warnings\":[{warnings}]}}\n"
         )
@@ -59,7 +61,8 @@ fn stored_durations_that_are_not_the_total() {
     let film = film_of(vec![w_with(|track| track.duration = 121)]).bytes();
     let words = "track 1 stores the duration 121, and its samples total 120: no slip can be written of this film";
     let listed = "id  subtype  scale  total  hh:mm:ss.mmm  samples  chunks  edits  stored\n \
-                   1  vide       600    120  00:00:00.200        4       2      0     121\n";
+                   1  vide       600    120  00:00:00.200        4       2      0     121\n\
+                  movie scale 600, stored duration 120 (00:00:00.200)\n";
     warns(run_on(&film, &["tracks", "-"]), listed, words);
     let json = run_on(&film, &["tracks", "-", "--json"]);
     assert_eq!(json.err, format!("chaldoref: warning: {words}\n"));

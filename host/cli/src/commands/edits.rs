@@ -44,7 +44,11 @@ pub fn edits(movie: &Movie, track: TrackId, to: Answer) -> Result<(), Failure> {
         [(i + 1).to_string(), start.0, start.1, length.0, length.1, media, media_clock, rate(&entry.edit)]
     };
     let numbered: Vec<(usize, &Entry)> = entries.iter().enumerate().collect();
-    table::write(to.out, columns, &numbered, row)?;
+    if entries.is_empty() {
+        writeln!(to.out, "track {track} has no edit list: all of it is shown, from movie time 0 on")?;
+    } else {
+        table::write(to.out, columns, &numbered, row)?;
+    }
     Ok(writeln!(to.out, "{}, track scale {scale}", header_in_words(&header))?)
 }
 

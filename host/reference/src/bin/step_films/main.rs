@@ -34,7 +34,14 @@ fn walk(film: &[u8], from: Position) {
     while let Step::Next(s, next) = step(film, position) {
         println!(
             "    {} {} {} {} {} {} {} {}",
-            s.decode_time, s.duration, s.composition_time, s.is_sync as u32, s.description_id, s.chunk, s.offset, s.size
+            s.decode_time,
+            s.duration,
+            s.composition_time,
+            s.is_sync as u32,
+            s.description_id,
+            s.chunk,
+            s.offset,
+            s.size
         );
         position = next;
     }
