@@ -1,14 +1,22 @@
 /*
  * Chaldoref: a verified reader of QuickTime movie tables.
  *
- * Every function takes a whole movie file (or a slip) in lent memory and answers
- * one question about it. The result is 0 where the question is answered, and the
- * number of a refusal otherwise. No caller has to check anything first: any bytes,
- * any numbers and any room get an answer or a refusal.
+ * Every function takes a movie (or a slip) in lent memory and answers one question
+ * about it. The result is 0 where the question is answered, and the number of a
+ * refusal otherwise. No caller has to check anything first: any bytes, any numbers
+ * and any room get an answer or a refusal.
+ *
+ * There are two ways in. A function takes the whole file; or, as chaldoref_moov_..,
+ * the moov atom alone, with its header and nothing else, and the length of its file.
+ * Both answer the same. By the second way a file may be longer, up to 2^63 - 1 bytes,
+ * and have 64-bit chunk offsets (co64 in place of stco); offsets and pairs are then
+ * 64-bit numbers, and the bytes of a sample are not offered. chaldoref_top_level_step
+ * tells where in a file its moov is.
  *
  * A slice is a pointer and a length, counted in elements. Three kinds are lent:
  *
- *   file, slip   bytes that are read
+ *   file, moov,  bytes that are read
+ *   slip
  *   room, out    what a list or a slip is written to: an answer fills the first
  *                elements and leaves the rest; a refusal leaves all of them
  *   places       what the answer's own numbers are written to, in the order given
@@ -23,7 +31,7 @@
  * film whose stored duration is not the total of its samples' durations.
  * docs/RULES.md has each rule in full.
  *
- * Limits. A file has at most 2,147,483,647 bytes, a movie 16 tracks, a track
+ * Limits. A file, or a moov that is lent alone, has at most 2,147,483,647 bytes, a movie 16 tracks, a track
  * 1,048,576 samples, 1,048,576 chunks, 256 edits, 64 sample descriptions and 64
  * data references, a profile 64 records; beyond them the file is refused 1 or 6. A slip has at most
  * 1,048,576 pairs. No function allocates memory, and the stack it needs does not
@@ -37,8 +45,8 @@
  *   - no pointer is NULL, also where its length is 0 (the chaldoref_lend_ functions
  *     below make such a NULL a pointer that may be lent); each is aligned for its
  *     type and valid for its length, and no length is over PTRDIFF_MAX bytes;
- *   - nothing writes to file or slip during a call;
- *   - room, out and places overlap neither each other nor file or slip, and nothing
+ *   - nothing writes to file, moov or slip during a call;
+ *   - room, out and places overlap neither each other nor what is read, and nothing
  *     else reads or writes them during a call.
  * Nothing of what is lent is kept after a call.
  *
@@ -58,17 +66,17 @@ extern "C" {
 
 /* The version of this header, and of the library that it belongs to. */
 #define CHALDOREF_VERSION_MAJOR 0
-#define CHALDOREF_VERSION_MINOR 2
+#define CHALDOREF_VERSION_MINOR 3
 #define CHALDOREF_VERSION_PATCH 0
-#define CHALDOREF_VERSION "0.2.0"
+#define CHALDOREF_VERSION "0.3.0"
 
 /* The refusals, by their numbers in documents 01 and 02. Of a file the lowest number that
    applies is given, but that 19 is judged after 11 and before 12. */
 enum {
     CHALDOREF_ANSWERED = 0,
-    CHALDOREF_FILE_TOO_LONG = 1,      /* longer than 2,147,483,647 bytes */
-    CHALDOREF_ATOM_SIZE = 2,          /* an atom's size is wrong, passes its parent's end, or 1 to 7 bytes remain */
-    CHALDOREF_ATOM_COUNT = 3,         /* an atom is absent or occurs too often */
+    CHALDOREF_FILE_TOO_LONG = 1,      /* longer than 2,147,483,647 bytes; with a moov alone also a length of the file above 2^63 - 1 or below the moov's */
+    CHALDOREF_ATOM_SIZE = 2,          /* an atom's size is wrong, passes its parent's end, or 1 to 7 bytes remain; what is lent as a moov alone is something else */
+    CHALDOREF_ATOM_COUNT = 3,         /* an atom is absent or occurs too often; of a moov alone both offset tables or neither are there */
     CHALDOREF_LEAF_VERSION = 4,       /* a leaf that is read has a version other than 0 */
     CHALDOREF_LEAF_SIZE = 5,          /* a leaf that is read, or a profile, hasn't its size */
     CHALDOREF_OVER_LIMIT = 6,         /* too many tracks, samples, chunks, edits, descriptions, references or records */
@@ -99,23 +107,34 @@ enum {
     CHALDOREF_FEATURE_PLACES = 1,
     CHALDOREF_PEAK_PLACES = 2,
     CHALDOREF_READ_SLIP_PLACES = 6,
-    CHALDOREF_WRITE_SLIP_PLACES = 1
+    CHALDOREF_WRITE_SLIP_PLACES = 1,
+    CHALDOREF_MOVIE_PLACES = 2,
+    CHALDOREF_EDITS_PLACES = 1,
+    CHALDOREF_TOP_LEVEL_PLACES = 6
 };
 
-/* How many numbers a track, a pair and a profile's record have in a room, and the most of each. */
+/* How many numbers a track, a pair, a profile's record and an edit have in a room, and the most of each. */
 enum {
     CHALDOREF_TRACK_NUMBERS = 8,
     CHALDOREF_PAIR_NUMBERS = 2,
     CHALDOREF_RECORD_NUMBERS = 3,
+    CHALDOREF_EDIT_NUMBERS = 3,
     CHALDOREF_MAX_TRACKS = 16,
     CHALDOREF_MAX_PAIRS = 1048576,
-    CHALDOREF_MAX_RECORDS = 64
+    CHALDOREF_MAX_RECORDS = 64,
+    CHALDOREF_MAX_EDITS = 256
 };
 
-/* The most bytes that a slip has before its pairs, and for each pair. */
+/* As many bytes of an atom's header are read at most. */
+enum {
+    CHALDOREF_HEADER_BYTES = 16
+};
+
+/* The most bytes that a slip has before its pairs; and for each pair, of a whole file and of a moov alone. */
 enum {
     CHALDOREF_SLIP_HEAD_BYTES = 24,
-    CHALDOREF_SLIP_PAIR_BYTES = 10
+    CHALDOREF_SLIP_PAIR_BYTES = 10,
+    CHALDOREF_SLIP_WIDE_PAIR_BYTES = 18
 };
 
 /*
@@ -168,6 +187,28 @@ uint32_t chaldoref_sample_at(
 uint32_t chaldoref_media_time(
     const uint8_t *file, size_t file_len,
     uint32_t id, uint32_t t,
+    uint64_t *places, size_t places_len);
+
+/*
+ * The movie's own time. Refusals: the file's but 11; 16.
+ * places: 2: the movie's time scale; the duration that mvhd stores, in that scale, which
+ *         nothing ties to the tracks.
+ */
+uint32_t chaldoref_movie(
+    const uint8_t *file, size_t file_len,
+    uint64_t *places, size_t places_len);
+
+/*
+ * The edit list of a track. Refusals: the file's but 11; 14, 16.
+ * room: for each entry its duration in movie time, the media time that it begins at or -1
+ *       where it shows nothing, and its rate times 65536;
+ *       CHALDOREF_EDIT_NUMBERS * CHALDOREF_MAX_EDITS numbers are always enough.
+ * places: 1: the number of entries; 0 without an edit list.
+ */
+uint32_t chaldoref_edits(
+    const uint8_t *file, size_t file_len,
+    uint32_t id,
+    int64_t *room, size_t room_len,
     uint64_t *places, size_t places_len);
 
 /*
@@ -231,7 +272,7 @@ uint32_t chaldoref_peak(
     uint64_t *places, size_t places_len);
 
 /*
- * Reads a slip. Refusals 17, 16.
+ * Reads a slip of form 1; one of form 2 is refused 17. Refusals 17, 16.
  * room: for each pair offset and length; as many numbers as the slip has bytes are always enough.
  * places: 6: track ID, time scale, a, b, the number of pairs, 0; and with refusal 17 five
  *         zeros and the place of the slip's first fault, counted from 0: the first byte of
@@ -254,6 +295,106 @@ uint32_t chaldoref_write_slip(
     const uint8_t *file, size_t file_len,
     uint32_t id, uint32_t a, uint32_t b,
     uint8_t *out, size_t out_len,
+    uint64_t *places, size_t places_len);
+
+/*
+ * One step over the atoms at a file's top level, to find its moov. Before the first one the
+ * places are the file's length and five zeros. Each step is lent up to CHALDOREF_HEADER_BYTES
+ * of the file at the place that is read next, fewer only at the file's end and none at its
+ * very end. It is done again as long as the result and the last place are 0:
+ *
+ *     uint64_t places[CHALDOREF_TOP_LEVEL_PLACES] = {length};
+ *     do {
+ *         ... read n bytes at places[1] into header ...
+ *         refusal = chaldoref_top_level_step(header, n, places, CHALDOREF_TOP_LEVEL_PLACES);
+ *     } while (refusal == 0 && places[5] == 0);
+ *
+ * What is found is the one moov of the file. Refusals: 1 for a length above 2^63 - 1; 2; 3 for
+ * no moov or more than one; 16. Length / 8 + 1 steps are the most.
+ * places: 6: the file's length; where to read next; how many moovs were met (2 for more than
+ *         one); the place and the size of the last of them; 1 where it is found, else 0.
+ */
+uint32_t chaldoref_top_level_step(
+    const uint8_t *header, size_t header_len,
+    uint64_t *places, size_t places_len);
+
+/*
+ * The second way in: the same questions, refusals and places, with the moov atom alone in
+ * place of the file. length is that of the file, in bytes. Chunk offsets may be those of a
+ * co64, exactly one of stco and co64 being there.
+ */
+uint32_t chaldoref_moov_track_list(
+    const uint8_t *moov, size_t moov_len, uint64_t length,
+    uint32_t *room, size_t room_len,
+    uint64_t *places, size_t places_len);
+
+uint32_t chaldoref_moov_sample(
+    const uint8_t *moov, size_t moov_len, uint64_t length,
+    uint32_t id, uint32_t n,
+    int64_t *places, size_t places_len);
+
+uint32_t chaldoref_moov_sample_at(
+    const uint8_t *moov, size_t moov_len, uint64_t length,
+    uint32_t id, uint32_t t,
+    uint64_t *places, size_t places_len);
+
+uint32_t chaldoref_moov_media_time(
+    const uint8_t *moov, size_t moov_len, uint64_t length,
+    uint32_t id, uint32_t t,
+    uint64_t *places, size_t places_len);
+
+uint32_t chaldoref_moov_movie(
+    const uint8_t *moov, size_t moov_len, uint64_t length,
+    uint64_t *places, size_t places_len);
+
+uint32_t chaldoref_moov_edits(
+    const uint8_t *moov, size_t moov_len, uint64_t length,
+    uint32_t id,
+    int64_t *room, size_t room_len,
+    uint64_t *places, size_t places_len);
+
+/* The pairs are 64-bit numbers here. */
+uint32_t chaldoref_moov_stretch(
+    const uint8_t *moov, size_t moov_len, uint64_t length,
+    uint32_t id, uint32_t a, uint32_t b,
+    uint64_t *room, size_t room_len,
+    uint64_t *places, size_t places_len);
+
+uint32_t chaldoref_moov_profile(
+    const uint8_t *moov, size_t moov_len, uint64_t length,
+    uint32_t id,
+    uint32_t *room, size_t room_len,
+    uint64_t *places, size_t places_len);
+
+uint32_t chaldoref_moov_feature(
+    const uint8_t *moov, size_t moov_len, uint64_t length,
+    uint32_t id, uint32_t code,
+    uint64_t *places, size_t places_len);
+
+uint32_t chaldoref_moov_peak(
+    const uint8_t *moov, size_t moov_len, uint64_t length,
+    uint32_t id, uint32_t code,
+    uint64_t *places, size_t places_len);
+
+/*
+ * The slip has form 2 where one of its numbers is 2^32 or more, and else form 1.
+ * out: CHALDOREF_SLIP_HEAD_BYTES + CHALDOREF_SLIP_WIDE_PAIR_BYTES * (the track's number of
+ *      chunks) bytes are always enough.
+ */
+uint32_t chaldoref_moov_write_slip(
+    const uint8_t *moov, size_t moov_len, uint64_t length,
+    uint32_t id, uint32_t a, uint32_t b,
+    uint8_t *out, size_t out_len,
+    uint64_t *places, size_t places_len);
+
+/*
+ * Reads a slip of form 1 or 2. One of form 1 is read as chaldoref_read_slip reads it; the
+ * numbers of one of form 2 are below 2^64, and one of them is 2^32 or more. Refusals 17, 16.
+ * room and places: as for chaldoref_read_slip, with numbers of 64 bits in the room.
+ */
+uint32_t chaldoref_read_any_slip(
+    const uint8_t *slip, size_t slip_len,
+    uint64_t *room, size_t room_len,
     uint64_t *places, size_t places_len);
 
 /* The version that the caller was compiled with, as text: CHALDOREF_VERSION. */
@@ -301,8 +442,9 @@ static inline const char *chaldoref_refusal_text(uint32_t number)
  *
  * The pointer itself; for NULL a pointer to memory of which nothing is read or written, the
  * length being 0. NULL with any other length stays an error of the caller.
- * There is one for bytes that are read (file, slip), for room, for out and for places; the
- * signed places are those of chaldoref_sample.
+ * There is one for bytes that are read (file, moov, slip), for room of 32-bit and of 64-bit
+ * numbers and of signed ones, for out and for places; the signed room is that of
+ * chaldoref_edits, the signed places are those of chaldoref_sample.
  */
 static inline const uint8_t *chaldoref_lend_bytes(const uint8_t *bytes)
 {
@@ -313,6 +455,18 @@ static inline const uint8_t *chaldoref_lend_bytes(const uint8_t *bytes)
 static inline uint32_t *chaldoref_lend_room(uint32_t *room)
 {
     static uint32_t nothing = 0;
+    return room != NULL ? room : &nothing;
+}
+
+static inline uint64_t *chaldoref_lend_wide_room(uint64_t *room)
+{
+    static uint64_t nothing = 0;
+    return room != NULL ? room : &nothing;
+}
+
+static inline int64_t *chaldoref_lend_signed_room(int64_t *room)
+{
+    static int64_t nothing = 0;
     return room != NULL ? room : &nothing;
 }
 
@@ -384,7 +538,23 @@ static inline struct chaldoref_pair chaldoref_pair_of(const uint32_t *room, size
     return pair;
 }
 
-/* The same for the places of chaldoref_sample_bytes. */
+/* The same with numbers of 64 bits. */
+struct chaldoref_wide_pair {
+    uint64_t offset;
+    uint64_t length;
+};
+
+/* Pair i of the room of chaldoref_moov_stretch or chaldoref_read_any_slip. */
+static inline struct chaldoref_wide_pair chaldoref_wide_pair_of(const uint64_t *room, size_t i)
+{
+    const uint64_t *numbers = room + CHALDOREF_PAIR_NUMBERS * i;
+    struct chaldoref_wide_pair pair;
+    pair.offset = numbers[0];
+    pair.length = numbers[1];
+    return pair;
+}
+
+/* For the places of chaldoref_sample_bytes. */
 static inline struct chaldoref_pair chaldoref_sample_bytes_of(const uint64_t places[CHALDOREF_SAMPLE_BYTES_PLACES])
 {
     struct chaldoref_pair pair;
@@ -434,6 +604,34 @@ static inline struct chaldoref_sample_info chaldoref_sample_of(const int64_t pla
     sample.description = (uint32_t)places[4];
     sample.chunk = (uint32_t)places[5];
     sample.offset = (uint32_t)places[6];
+    sample.size = (uint32_t)places[7];
+    return sample;
+}
+
+/* A sample of a moov alone. */
+struct chaldoref_moov_sample_info {
+    uint32_t decode;
+    uint32_t duration;
+    int64_t composition;  /* it may be negative */
+    int sync;             /* 1 for a sync sample, 0 for any other */
+    uint32_t description;
+    uint32_t chunk;
+    uint64_t offset;
+    uint32_t size;
+};
+
+/* For the places of chaldoref_moov_sample. */
+static inline struct chaldoref_moov_sample_info chaldoref_moov_sample_of(
+    const int64_t places[CHALDOREF_SAMPLE_PLACES])
+{
+    struct chaldoref_moov_sample_info sample;
+    sample.decode = (uint32_t)places[0];
+    sample.duration = (uint32_t)places[1];
+    sample.composition = places[2];
+    sample.sync = places[3] == 1;
+    sample.description = (uint32_t)places[4];
+    sample.chunk = (uint32_t)places[5];
+    sample.offset = (uint64_t)places[6];
     sample.size = (uint32_t)places[7];
     return sample;
 }
@@ -500,6 +698,39 @@ static inline struct chaldoref_peak_info chaldoref_peak_of(const uint64_t places
     return peak;
 }
 
+/* The movie's own time. */
+struct chaldoref_movie_info {
+    uint32_t scale;
+    uint32_t stored;  /* the duration that mvhd stores */
+};
+
+/* For the places of chaldoref_movie. */
+static inline struct chaldoref_movie_info chaldoref_movie_of(const uint64_t places[CHALDOREF_MOVIE_PLACES])
+{
+    struct chaldoref_movie_info movie;
+    movie.scale = (uint32_t)places[0];
+    movie.stored = (uint32_t)places[1];
+    return movie;
+}
+
+/* An entry of an edit list. */
+struct chaldoref_edit {
+    uint32_t duration;  /* in movie time */
+    int32_t media;      /* the media time that it begins at, -1 where it shows nothing */
+    uint32_t rate;      /* times 65536 */
+};
+
+/* Entry i, counted from 0 and below the number of entries, of the room of chaldoref_edits. */
+static inline struct chaldoref_edit chaldoref_edit_of(const int64_t *room, size_t i)
+{
+    const int64_t *numbers = room + CHALDOREF_EDIT_NUMBERS * i;
+    struct chaldoref_edit edit;
+    edit.duration = (uint32_t)numbers[0];
+    edit.media = (int32_t)numbers[1];
+    edit.rate = (uint32_t)numbers[2];
+    return edit;
+}
+
 /* A slip without its pairs, or where it goes wrong. */
 struct chaldoref_slip_head {
     uint32_t id;
@@ -518,6 +749,30 @@ static inline struct chaldoref_slip_head chaldoref_slip_head_of(const uint64_t p
     head.scale = (uint32_t)places[1];
     head.a = (uint32_t)places[2];
     head.b = (uint32_t)places[3];
+    head.pairs = (size_t)places[4];
+    head.fault = (size_t)places[5];
+    return head;
+}
+
+/* A slip of either form without its pairs, or where it goes wrong. */
+struct chaldoref_any_slip_head {
+    uint64_t id;
+    uint64_t scale;
+    uint64_t a;
+    uint64_t b;
+    size_t pairs;
+    size_t fault;  /* with refusal 17 the place of the first fault */
+};
+
+/* For the places of chaldoref_read_any_slip. */
+static inline struct chaldoref_any_slip_head chaldoref_any_slip_head_of(
+    const uint64_t places[CHALDOREF_READ_SLIP_PLACES])
+{
+    struct chaldoref_any_slip_head head;
+    head.id = places[0];
+    head.scale = places[1];
+    head.a = places[2];
+    head.b = places[3];
     head.pairs = (size_t)places[4];
     head.fault = (size_t)places[5];
     return head;

@@ -20,12 +20,13 @@ from __future__ import annotations
 import ctypes
 import enum
 import operator
+import os
 from dataclasses import dataclass
-from typing import Any, Dict, Optional, Tuple, Union
+from typing import Any, BinaryIO, Dict, Optional, Tuple, Union
 
 __all__ = [
-    "FEATURES", "ByteRange", "MalformedSlip", "Movie", "Peak", "ProfileRecord", "Refusal", "Refused", "Sample",
-    "SampleAt", "Slip", "Stretch", "Track", "read_slip",
+    "FEATURES", "ByteRange", "Edit", "Header", "MalformedSlip", "Movie", "Peak", "ProfileRecord", "Refusal", "Refused",
+    "Sample", "SampleAt", "Slip", "Stretch", "Track", "read_any_slip", "read_slip",
 ]
 
 #: What the library and this module take as bytes. All but bytes are copied, since nothing may write to them in a call.
@@ -42,9 +43,13 @@ FEATURES = {
 }
 
 # As include/chaldoref.h has them.
-_TRACK_NUMBERS, _PAIR_NUMBERS, _RECORD_NUMBERS = 8, 2, 3
-_MAX_TRACKS, _MAX_PAIRS, _MAX_RECORDS = 16, 1_048_576, 64
-_SLIP_HEAD_BYTES, _SLIP_PAIR_BYTES = 24, 10
+_TRACK_NUMBERS, _PAIR_NUMBERS, _RECORD_NUMBERS, _EDIT_NUMBERS = 8, 2, 3, 3
+_MAX_TRACKS, _MAX_PAIRS, _MAX_RECORDS, _MAX_EDITS = 16, 1_048_576, 64, 256
+_SLIP_HEAD_BYTES, _SLIP_PAIR_BYTES, _SLIP_WIDE_PAIR_BYTES = 24, 10, 18
+_HEADER_BYTES, _TOP_LEVEL_PLACES = 16, 6
+
+#: The most bytes that are lent of a film.
+_MAX_LENT = 2_147_483_647
 
 
 class Refusal(enum.IntEnum):
@@ -202,6 +207,28 @@ class ByteRange:
 
 
 @dataclass(frozen=True)
+class Header:
+    """The movie's own time."""
+
+    #: The movie's time scale: units of movie time a second. It is not 0.
+    scale: int
+    #: The duration that the file stores for the movie. Nothing ties it to the tracks.
+    stored: int
+
+
+@dataclass(frozen=True)
+class Edit:
+    """An entry of a track's edit list."""
+
+    #: How long it lasts, in movie time.
+    duration: int
+    #: The media time at which it begins; None where it shows nothing.
+    media: Optional[int]
+    #: The rate, times 65,536.
+    rate: int
+
+
+@dataclass(frozen=True)
 class Stretch:
     """The bytes of a stretch of a track."""
 
@@ -247,6 +274,8 @@ class Slip:
     b: int
     #: The bytes, at least one range. Nothing ties them to a film or to each other.
     pairs: Tuple[ByteRange, ...]
+    #: The form that it is written in, 1 or 2.
+    form: int = 1
 
     @property
     def film_time(self) -> int:
@@ -260,23 +289,64 @@ class Slip:
 
 
 class Movie:
-    """A movie file that the library has accepted. Times and totals of a track are in its own time scale.
+    """A movie that the library has accepted. Times and totals of a track are in its own time scale.
 
-    Each question judges the whole file again, in time that grows with the movie's tables.
+    A movie is made of a whole file's bytes, or, by read, of its moov alone, whatever the file's length. Each question
+    judges the tables again, in time that grows with them.
     """
 
     def __init__(self, file: Bytes) -> None:
         """Judges a whole movie file and reads its track list. Refusals 1 to 13 but 11, and 19."""
-        self._file = _lent(file)
+        self._open(_lent(file), None)
+
+    @classmethod
+    def of_moov(cls, moov: Bytes, length: int) -> "Movie":
+        """Judges a moov atom, with its header and nothing else, of a file of that length. Refusals 1 to 13 but 11, and
+        19."""
+        movie = cls.__new__(cls)
+        movie._open(_lent(moov), _number(length, 64))
+        return movie
+
+    @classmethod
+    def read(cls, film: Union[str, "os.PathLike[str]", BinaryIO]) -> "Movie":
+        """Reads the moov of a film, by the name of its file or from a binary file that can be read and sought, and no
+        other byte but the headers of the atoms at top level. Refusals 1 to 13 but 11, and 19."""
+        if not hasattr(film, "read"):
+            with open(film, "rb") as file:
+                return cls.read(file)
+        length = film.seek(0, os.SEEK_END)
+        place, size = _moov_in(film, length)
+        if size > _MAX_LENT:
+            raise Refused(Refusal.FILE_TOO_LONG)
+        return cls.of_moov(_read_at(film, place, size), length)
+
+    def _open(self, lent: bytes, length: Optional[int]) -> None:
+        self._lent, self._length = lent, length
         room = _room(ctypes.c_uint32, _TRACK_NUMBERS * _MAX_TRACKS)
         count, = self._ask("track_list", 1, room=room)
         rows = _rows(room, count, _TRACK_NUMBERS)
         self._tracks = tuple(Track(row[0], _characters(row[1]), *row[2:]) for row in rows)
 
     @property
-    def file(self) -> bytes:
-        """The file's bytes."""
-        return self._file
+    def file(self) -> Optional[bytes]:
+        """The file's bytes; None where the movie was made of its moov alone."""
+        return self._lent if self._length is None else None
+
+    @property
+    def length(self) -> int:
+        """The length of the movie's file."""
+        return len(self._lent) if self._length is None else self._length
+
+    def header(self) -> Header:
+        """The movie's time scale and the duration that it stores."""
+        return Header(*self._ask("movie", 2))
+
+    def edits(self, track: int) -> Tuple[Edit, ...]:
+        """The edit list of a track; none where it has no list. Refusal 14."""
+        room = _room(ctypes.c_int64, _EDIT_NUMBERS * _MAX_EDITS)
+        count, = self._ask("edits", 1, track, room=room)
+        rows = _rows(room, count, _EDIT_NUMBERS)
+        return tuple(Edit(duration, None if media == -1 else media, rate) for duration, media, rate in rows)
 
     def tracks(self) -> Tuple[Track, ...]:
         """The tracks, in file order. There may be none, and there are 16 at most."""
@@ -288,9 +358,12 @@ class Movie:
         return Sample(decode, duration, composition, sync == 1, *rest)
 
     def sample_bytes(self, track: int, n: int) -> bytes:
-        """The bytes of sample n of a track, numbered from 1. Refusals 14, 15."""
+        """The bytes of sample n of a track, numbered from 1. Refusals 14, 15. A ValueError where the movie was made of
+        its moov alone: offset and size of the sample then tell where in the file they are."""
+        if self._length is not None:
+            raise ValueError("the movie was made of its moov alone, which has no sample's bytes")
         offset, length = self._ask("sample_bytes", 2, track, n)
-        return self._file[offset:offset + length]
+        return self._lent[offset:offset + length]
 
     def sample_at(self, track: int, t: int) -> SampleAt:
         """The sample at media time t: decode time <= t < decode time + duration. Refusals 14, 15."""
@@ -305,14 +378,17 @@ class Movie:
     def stretch(self, track: int, a: int, b: int) -> Stretch:
         """The bytes of a track from media time a to b (a < b <= total): all samples from the one at a to the one at
         b - 1. Refusals 14, 15."""
-        room = _room(ctypes.c_uint32, _PAIR_NUMBERS * self._chunks(track))
+        kind = ctypes.c_uint32 if self._length is None else ctypes.c_uint64
+        room = _room(kind, _PAIR_NUMBERS * self._chunks(track))
         count, total = self._ask("stretch", 2, track, a, b, room=room)
         return Stretch(_pairs(room, count), total)
 
     def write_slip(self, track: int, a: int, b: int) -> bytes:
-        """The slip of a track's stretch from media time a to b. Refusals 14, 15; and 11 where a track of the movie stores
+        """The slip of a track's stretch from media time a to b, of form 2 where one of its numbers is 2^32 or more, which
+        only a movie made of its moov alone can have. Refusals 14, 15; and 11 where a track of the movie stores
         another duration than the total of its samples' durations."""
-        out = _room(ctypes.c_uint8, _SLIP_HEAD_BYTES + _SLIP_PAIR_BYTES * self._chunks(track))
+        pair_bytes = _SLIP_PAIR_BYTES if self._length is None else _SLIP_WIDE_PAIR_BYTES
+        out = _room(ctypes.c_uint8, _SLIP_HEAD_BYTES + pair_bytes * self._chunks(track))
         length, = self._ask("write_slip", 1, track, a, b, room=out)
         return bytes(memoryview(out)[:length])
 
@@ -358,29 +434,65 @@ class Movie:
         lent = (room, len(room)) if room is not None else ()
         places = (place * count)()
         asked = [_number(number) for number in numbers]
-        answer = _function(name)(self._file, len(self._file), *asked, *lent, places, count)
+        if self._length is not None:
+            name, asked = "moov_" + name, [self._length, *asked]
+        answer = _function(name)(self._lent, len(self._lent), *asked, *lent, places, count)
         if answer != 0:
             raise Refused(answer)
         return list(places)
 
 
 def read_slip(slip: Bytes) -> Slip:
-    """Reads a slip, which must take up all of the bytes. What is no slip is refused 17, as MalformedSlip."""
-    slip = _lent(slip)
+    """Reads a slip of form 1, which must take up all of the bytes. What is no slip is refused 17, as MalformedSlip."""
+    return _read("read_slip", ctypes.c_uint32, _lent(slip))
+
+
+def read_any_slip(slip: Bytes) -> Slip:
+    """Reads a slip of form 1 or 2, which must take up all of the bytes. The numbers of form 2 are below 2^64, and one of
+    them is 2^32 or more. What is no slip is refused 17, as MalformedSlip."""
+    return _read("read_any_slip", ctypes.c_uint64, _lent(slip))
+
+
+def _read(reader: str, kind: Any, slip: bytes) -> Slip:
     # Each number of a pair takes a byte at least.
-    room = _room(ctypes.c_uint32, _PAIR_NUMBERS * min(len(slip) // 2, _MAX_PAIRS))
+    room = _room(kind, _PAIR_NUMBERS * min(len(slip) // 2, _MAX_PAIRS))
     places = (ctypes.c_uint64 * 6)()
-    answer = _function("read_slip")(slip, len(slip), room, len(room), places, len(places))
+    answer = _function(reader)(slip, len(slip), room, len(room), places, len(places))
     track, scale, a, b, count, place = places
     if answer == Refusal.MALFORMED_SLIP:
         raise MalformedSlip(place)
     if answer != 0:
         raise Refused(answer)
-    return Slip(track, scale, a, b, _pairs(room, count))
+    # The form is a number of one byte.
+    return Slip(track, scale, a, b, _pairs(room, count), slip[0])
+
+
+def _moov_in(film: BinaryIO, length: int) -> Tuple[int, int]:
+    """The place and the size of a film's moov, which the library finds by the headers at top level."""
+    places = (ctypes.c_uint64 * _TOP_LEVEL_PLACES)(_number(length, 64))
+    while not places[5]:
+        place = places[1]
+        header = _read_at(film, place, min(_HEADER_BYTES, length - place))
+        answer = _function("top_level_step")(header, len(header), places, len(places))
+        if answer != 0:
+            raise Refused(answer)
+    return places[3], places[4]
+
+
+def _read_at(film: BinaryIO, place: int, count: int) -> bytes:
+    """So many bytes of a film, which were there when its length was asked."""
+    film.seek(place)
+    read = b""
+    while len(read) < count:
+        more = film.read(count - len(read))
+        if not more:
+            raise OSError("the film became shorter while it was read")
+        read += more
+    return read
 
 
 # How each function is called after its first two parameters, the bytes and their length, and before its last two, the
-# places and their number: n is a number, r is room or out and its length.
+# places and their number: l is the length of a file, n is a number, r is room or out and its length.
 _PARAMETERS = {
     "track_list": "r",
     "sample": "nn",
@@ -391,9 +503,18 @@ _PARAMETERS = {
     "profile": "nr",
     "feature": "nn",
     "peak": "nn",
+    "movie": "",
+    "edits": "nr",
     "read_slip": "r",
+    "read_any_slip": "r",
     "write_slip": "nnnr",
+    "top_level_step": "",
 }
+_MOOV = (
+    "track_list", "sample", "sample_at", "media_time", "stretch", "profile", "feature", "peak", "movie", "edits",
+    "write_slip",
+)
+_PARAMETERS.update({"moov_" + name: "l" + _PARAMETERS[name] for name in _MOOV})
 
 # A call through CDLL lets other threads of Python run, as the library keeps no state.
 _library = ctypes.CDLL("libchaldoref.so.1")
@@ -404,7 +525,7 @@ def _declared(name: str) -> Any:
     # A bytes object is passed as the pointer to its first byte, which is not NULL for empty ones.
     types = [ctypes.c_char_p, ctypes.c_size_t]
     for letter in _PARAMETERS[name]:
-        types += [ctypes.c_uint32] if letter == "n" else [ctypes.c_void_p, ctypes.c_size_t]
+        types += {"n": [ctypes.c_uint32], "l": [ctypes.c_uint64], "r": [ctypes.c_void_p, ctypes.c_size_t]}[letter]
     function = getattr(_library, "chaldoref_" + name)
     function.argtypes = types + [ctypes.c_void_p, ctypes.c_size_t]
     function.restype = ctypes.c_uint32
@@ -428,11 +549,11 @@ def _room(kind: Any, count: int) -> Any:
     return (kind * max(count, 1))()
 
 
-def _number(number: int) -> int:
-    """A number of 32 bits without a sign: ctypes would cut off the rest of any other."""
+def _number(number: int, bits: int = 32) -> int:
+    """A number of so many bits without a sign: ctypes would cut off the rest of any other."""
     number = operator.index(number)
-    if not 0 <= number < 2**32:
-        raise ValueError(f"{number} is not in 0 to 4294967295")
+    if not 0 <= number < 2**bits:
+        raise ValueError(f"{number} is not in 0 to {2**bits - 1}")
     return number
 
 

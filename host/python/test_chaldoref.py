@@ -6,6 +6,7 @@ searches and the module beside this file or on PYTHONPATH:
     LD_LIBRARY_PATH=FOLDER python3 host/python/test_chaldoref.py
 """
 import ctypes
+import io
 import pickle
 import re
 import threading
@@ -15,7 +16,7 @@ from pathlib import Path
 import chaldoref
 from chaldoref import (
     FEATURES, ByteRange, MalformedSlip, Movie, Peak, ProfileRecord, Refusal, Refused, Sample, SampleAt, Track,
-    read_slip,
+    read_any_slip, read_slip,
 )
 
 W = Path("films/w.mov").read_bytes()
@@ -279,6 +280,58 @@ class Asking(Case):
             self.assertEqual(vars(again), vars(refused))
 
 
+class SecondWay(unittest.TestCase):
+    """Films by their moov alone."""
+
+    def test_film_w(self):
+        whole, alone = Movie(W), Movie.read("films/w.mov")
+        self.assertEqual((whole.length, alone.length, whole.file, alone.file), (4096, 4096, W, None))
+        self.assertEqual(whole.tracks(), alone.tracks())
+        for n in (1, 2, 3, 4):
+            self.assertEqual(whole.sample(1, n), alone.sample(1, n))
+        self.assertEqual(whole.stretch(1, 24, 73), alone.stretch(1, 24, 73))
+        self.assertEqual([movie.write_slip(1, 24, 73) for movie in (whole, alone)], [SLIP, SLIP])
+        self.assertEqual(whole.sample_at(1, 71), alone.sample_at(1, 71))
+        self.assertEqual(whole.features(1), alone.features(1))
+        self.assertEqual([movie.header() for movie in (whole, alone)], [chaldoref.Header(600, 120)] * 2)
+        self.assertEqual([movie.edits(1) for movie in (whole, alone)], [(), ()])
+        self.assertEqual(alone.profile(0), ())
+        self.assertRaises(ValueError, alone.sample_bytes, 1, 1)
+        self.refused(14, alone.edits, 2)
+
+    def test_a_long_file(self):
+        alone = Movie.read("films/w.mov")
+        long = Movie.of_moov(alone._lent, 2**63 - 1)
+        self.assertEqual(long.tracks(), alone.tracks())
+        self.refused(1, Movie.of_moov, alone._lent, 2**63)
+        self.refused(1, Movie.of_moov, alone._lent, len(alone._lent) - 1)
+        self.refused(2, Movie.of_moov, alone._lent + bytes(8), 4096)
+        self.assertRaises(ValueError, Movie.of_moov, alone._lent, 2**64)
+
+    def test_what_has_no_moov(self):
+        self.refused(3, Movie.read, io.BytesIO(b""))
+        self.refused(3, Movie.read, io.BytesIO(bytes([0, 0, 0, 8]) + b"free"))
+        self.refused(2, Movie.read, io.BytesIO(b"This is no film."))
+        self.refused(3, Movie.read, io.BytesIO(W + W))
+
+    def test_slips_of_form_2(self):
+        wide = bytes.fromhex("02 01 D8 04 18 49 01 80 80 80 80 10 0A")
+        slip = read_any_slip(wide)
+        self.assertEqual((slip.form, slip.pairs), (2, (ByteRange(2**32, 10),)))
+        self.assertEqual(read_any_slip(SLIP), read_slip(SLIP))
+        with self.assertRaises(MalformedSlip) as raised:
+            read_slip(wide)
+        self.assertEqual(raised.exception.place, 0)
+        with self.assertRaises(MalformedSlip) as raised:
+            read_any_slip(bytes([2]) + SLIP[1:])
+        self.assertEqual(raised.exception.place, 0)
+
+    def refused(self, number, question, *arguments):
+        with self.assertRaises(Refused) as raised:
+            question(*arguments)
+        self.assertEqual(raised.exception.number, number)
+
+
 class Header(unittest.TestCase):
     """The module has the header's numbers, names and functions."""
 
@@ -290,16 +343,18 @@ class Header(unittest.TestCase):
         self.assertEqual(len({refusal.words for refusal in Refusal}), 19)
 
     def test_sizes(self):
-        for name in ("TRACK_NUMBERS", "PAIR_NUMBERS", "RECORD_NUMBERS", "MAX_TRACKS", "MAX_PAIRS", "MAX_RECORDS",
-                     "SLIP_HEAD_BYTES", "SLIP_PAIR_BYTES"):
+        for name in ("TRACK_NUMBERS", "PAIR_NUMBERS", "RECORD_NUMBERS", "EDIT_NUMBERS", "MAX_TRACKS", "MAX_PAIRS",
+                     "MAX_RECORDS", "MAX_EDITS", "SLIP_HEAD_BYTES", "SLIP_PAIR_BYTES", "SLIP_WIDE_PAIR_BYTES",
+                     "HEADER_BYTES", "TOP_LEVEL_PLACES"):
             self.assertIn(f"CHALDOREF_{name} = {getattr(chaldoref, '_' + name)}", HEADER)
 
     def test_functions(self):
         declared = {name: parameters for name, parameters in re.findall(r"chaldoref_(\w+)\((.*?)\);", HEADER, re.S)}
         self.assertEqual(set(declared), set(chaldoref._PARAMETERS))
         for name, parameters in declared.items():
-            letters = re.findall(r"uint32_t (?:id|n|t|a|b|code)\b|\*(?:room|out)\b", parameters)
-            self.assertEqual("".join("r" if "*" in letter else "n" for letter in letters), chaldoref._PARAMETERS[name])
+            found = re.findall(r"uint32_t (?:id|n|t|a|b|code)\b|uint64_t length\b|\*(?:room|out)\b", parameters)
+            letters = ("r" if "*" in letter else "l" if "64" in letter else "n" for letter in found)
+            self.assertEqual("".join(letters), chaldoref._PARAMETERS[name])
 
     def test_features(self):
         codes = re.findall(r"define CHALDOREF_(\w+) UINT32_C\((\w+)\)", HEADER)

@@ -1,6 +1,6 @@
 //! The answers of a movie. Those that may get more fields in later versions cannot be written out field by field
 //! elsewhere; they have a default or a constructor instead.
-use crate::units::{ByteRange, FourCC, MediaTime, TrackId};
+use crate::units::{ByteRange, FourCC, MediaTime, MovieTime, TrackId};
 use std::ops::{Range, RangeInclusive};
 
 /// A track of the track list.
@@ -28,10 +28,11 @@ pub struct Track {
 }
 
 impl Track {
-    /// The length of an output that is enough for the slip of any stretch of this track.
+    /// The length of an output that is enough for the slip of any stretch of this track: 24 bytes before the pairs, and
+    /// nine for each of their numbers, which are below 2^63.
     #[must_use]
     pub fn slip_room(&self) -> usize {
-        24 + 10 * self.chunks as usize
+        24 + 18 * self.chunks as usize
     }
 
     /// Whether the stored duration is another than the total, for which the slip writer refuses the film
@@ -59,9 +60,17 @@ pub struct Sample {
     /// The number of its chunk, from 1.
     pub chunk: u32,
     /// The place of its first byte in the file.
-    pub offset: u32,
+    pub offset: u64,
     /// The number of its bytes; it may be 0.
     pub size: u32,
+}
+
+impl Sample {
+    /// Where its bytes are in the file.
+    #[must_use]
+    pub fn range(&self) -> ByteRange {
+        ByteRange { offset: self.offset, length: self.size.into() }
+    }
 }
 
 /// The sample at a media time.
@@ -89,6 +98,36 @@ pub enum Shown {
     At(MediaTime),
     /// Nothing: the movie time falls in an empty edit.
     Nothing,
+}
+
+/// What the movie's own header says.
+#[non_exhaustive]
+#[derive(Clone, Copy, Debug, Default, PartialEq, Eq, Hash)]
+pub struct Header {
+    /// The movie's time scale: units of movie time a second. It is not 0.
+    pub scale: u32,
+    /// The duration that the file stores for the movie. Nothing ties it to the tracks.
+    pub stored: MovieTime,
+}
+
+/// An entry of a track's edit list.
+#[repr(C)]
+#[derive(Clone, Copy, Debug, Default, PartialEq, Eq, Hash)]
+pub struct Edit {
+    /// How long it lasts, in units of the movie's time scale.
+    pub duration: i64,
+    /// The media time at which it begins, in units of the track's time scale; -1 where it shows nothing.
+    pub media: i64,
+    /// The rate, times 65,536.
+    pub rate: i64,
+}
+
+impl Edit {
+    /// The media time at which it begins, if it shows media.
+    #[must_use]
+    pub fn start(&self) -> Option<MediaTime> {
+        u32::try_from(self.media).ok().map(MediaTime)
+    }
 }
 
 /// The bytes of a stretch of a track.

@@ -4,7 +4,8 @@
 //! What [`raw`] asks of every call holds by construction: each pointer and length are those of one Rust slice or
 //! array, so the pointer is aligned, not null and valid for the length, which is at most `isize::MAX` bytes; nothing
 //! writes to a `&[u8]` while it is borrowed; a `&mut` slice, and the places that `ask` makes, overlap nothing else.
-use crate::answers::{ProfileRecord, Track};
+use crate::answers::{Edit, ProfileRecord, Track};
+use crate::film::Film;
 use crate::raw;
 use crate::refusal::Refusal;
 use crate::units::ByteRange;
@@ -19,12 +20,12 @@ pub unsafe trait Entry {}
 // SAFETY: repr(C), and each field is a u32 or repr(transparent) over one.
 unsafe impl Entry for Track {}
 // SAFETY: the same.
-unsafe impl Entry for ByteRange {}
-// SAFETY: the same.
 unsafe impl Entry for ProfileRecord {}
 
-// Eight numbers a track, two a pair, three a record, as include/chaldoref.h counts them.
-const _: () = assert!(size_of::<Track>() == 32 && size_of::<ByteRange>() == 8 && size_of::<ProfileRecord>() == 12);
+// Eight numbers a track, three a record, and two of 64 bits a pair, as include/chaldoref.h counts them.
+const _: () = assert!(size_of::<Track>() == 32 && size_of::<ProfileRecord>() == 12);
+const _: () = assert!(size_of::<ByteRange>() == 16 && align_of::<ByteRange>() == align_of::<u64>());
+const _: () = assert!(size_of::<Edit>() == 24 && align_of::<Edit>() == align_of::<i64>());
 
 /// Room for entries as the numbers that the library fills.
 fn numbers<T: Entry>(room: &mut [T]) -> &mut [u32] {
@@ -34,16 +35,77 @@ fn numbers<T: Entry>(room: &mut [T]) -> &mut [u32] {
     unsafe { std::slice::from_raw_parts_mut(room.as_mut_ptr().cast(), count) }
 }
 
+/// Room for pairs as the numbers of 64 bits that the library fills.
+fn wide(room: &mut [ByteRange]) -> &mut [u64] {
+    // SAFETY: a `ByteRange` is two u64s without padding, of their alignment, so the same memory is twice as many u64s;
+    // whatever is written there leaves valid pairs. The result borrows `room`, so nothing else reaches it meanwhile.
+    unsafe { std::slice::from_raw_parts_mut(room.as_mut_ptr().cast(), 2 * room.len()) }
+}
+
+/// Room for edits as the signed numbers that the library fills.
+fn signed(room: &mut [Edit]) -> &mut [i64] {
+    // SAFETY: an `Edit` is three i64s without padding, of their alignment; the rest as for pairs.
+    unsafe { std::slice::from_raw_parts_mut(room.as_mut_ptr().cast(), 3 * room.len()) }
+}
+
+/// The first half of such numbers, as the same number of numbers of 32 bits.
+fn narrow(room: &mut [u64]) -> &mut [u32] {
+    // SAFETY: u64s are aligned for u32s, and the memory of `len` u64s is more than that of `len` u32s, of which any bits
+    // are valid. The result borrows `room`, so nothing else reaches it meanwhile.
+    unsafe { std::slice::from_raw_parts_mut(room.as_mut_ptr().cast(), room.len()) }
+}
+
+/// Makes the first numbers, of which so many were filled with 32 bits each, ones of 64 bits. From the last one on, so
+/// that none is written over before it is read.
+fn widen(room: &mut [u64], count: usize) {
+    for i in (0..count).rev() {
+        let number = u64::from(narrow(room)[i]);
+        room[i] = number;
+    }
+}
+
+/// Asks for pairs in numbers of 32 bits, and answers how many there are with what else is answered. Where there are any,
+/// they become numbers of 64 bits.
+fn pairs<const PLACES: usize>(
+    room: &mut [ByteRange],
+    count: usize,
+    question: impl FnOnce(&mut [u32], *mut u64, usize) -> u32,
+) -> (Result<(), Refusal>, [u64; PLACES]) {
+    let room = wide(room);
+    let (answered, places) = put(|places, len| question(narrow(room), places, len));
+    if answered.is_ok() {
+        widen(room, 2 * promised::<u64, usize>(places[count]));
+    }
+    (answered, places)
+}
+
+/// Puts a question to a film, by the one or by the other way in.
+macro_rules! of_film {
+    ($film:expr, $whole:ident, $alone:ident, $($argument:expr),*) => {
+        match $film {
+            // SAFETY: slices' own pointers and lengths, as the module says.
+            Film::Whole(file) => unsafe { raw::$whole(file.as_ptr(), file.len(), $($argument),*) },
+            // SAFETY: the same.
+            Film::Moov { moov, length } => unsafe { raw::$alone(moov.as_ptr(), moov.len(), length, $($argument),*) },
+        }
+    };
+}
+
 /// Puts a question with the places that its answer has. What comes back is whether it is answered, and the places' numbers.
 fn put<T: Copy + Default, const PLACES: usize>(
     question: impl FnOnce(*mut T, usize) -> u32,
 ) -> (Result<(), Refusal>, [T; PLACES]) {
     let mut places = [T::default(); PLACES];
-    let answered = match question(places.as_mut_ptr(), PLACES) {
+    let number = question(places.as_mut_ptr(), PLACES);
+    (answered(number), places)
+}
+
+/// The refusal of that number, if it is one.
+fn answered(number: u32) -> Result<(), Refusal> {
+    match number {
         0 => Ok(()),
         number => Err(Refusal::from_number(number).unwrap_or_else(|| broken())),
-    };
-    (answered, places)
+    }
 }
 
 /// The same for a question whose refusals say nothing but their numbers.
@@ -64,72 +126,104 @@ pub fn promised<From, To: TryFrom<From>>(number: From) -> To {
     To::try_from(number).unwrap_or_else(|_| broken())
 }
 
-pub fn track_list(file: &[u8], room: &mut [Track]) -> Result<[u64; 1], Refusal> {
+pub fn track_list(film: Film, room: &mut [Track]) -> Result<[u64; 1], Refusal> {
     let room = numbers(room);
-    // SAFETY: slices' own pointers and lengths, as the module says.
-    ask(|places, len| unsafe {
-        raw::chaldoref_track_list(file.as_ptr(), file.len(), room.as_mut_ptr(), room.len(), places, len)
+    ask(|places, len| {
+        of_film!(film, chaldoref_track_list, chaldoref_moov_track_list, room.as_mut_ptr(), room.len(), places, len)
     })
 }
 
-pub fn sample(file: &[u8], id: u32, n: u32) -> Result<[i64; 8], Refusal> {
-    // SAFETY: slices' own pointers and lengths, as the module says.
-    ask(|places, len| unsafe { raw::chaldoref_sample(file.as_ptr(), file.len(), id, n, places, len) })
+pub fn sample(film: Film, id: u32, n: u32) -> Result<[i64; 8], Refusal> {
+    ask(|places, len| of_film!(film, chaldoref_sample, chaldoref_moov_sample, id, n, places, len))
 }
 
+/// Of a whole file alone.
 pub fn sample_bytes(file: &[u8], id: u32, n: u32) -> Result<[u64; 2], Refusal> {
     // SAFETY: slices' own pointers and lengths, as the module says.
     ask(|places, len| unsafe { raw::chaldoref_sample_bytes(file.as_ptr(), file.len(), id, n, places, len) })
 }
 
-pub fn sample_at(file: &[u8], id: u32, t: u32) -> Result<[u64; 2], Refusal> {
-    // SAFETY: slices' own pointers and lengths, as the module says.
-    ask(|places, len| unsafe { raw::chaldoref_sample_at(file.as_ptr(), file.len(), id, t, places, len) })
+pub fn sample_at(film: Film, id: u32, t: u32) -> Result<[u64; 2], Refusal> {
+    ask(|places, len| of_film!(film, chaldoref_sample_at, chaldoref_moov_sample_at, id, t, places, len))
 }
 
-pub fn media_time(file: &[u8], id: u32, t: u32) -> Result<[u64; 2], Refusal> {
-    // SAFETY: slices' own pointers and lengths, as the module says.
-    ask(|places, len| unsafe { raw::chaldoref_media_time(file.as_ptr(), file.len(), id, t, places, len) })
+pub fn media_time(film: Film, id: u32, t: u32) -> Result<[u64; 2], Refusal> {
+    ask(|places, len| of_film!(film, chaldoref_media_time, chaldoref_moov_media_time, id, t, places, len))
 }
 
-pub fn stretch(file: &[u8], id: u32, a: u32, b: u32, room: &mut [ByteRange]) -> Result<[u64; 2], Refusal> {
+/// The pairs of a whole file are numbers of 32 bits.
+pub fn stretch(film: Film, id: u32, a: u32, b: u32, room: &mut [ByteRange]) -> Result<[u64; 2], Refusal> {
+    let (answered, places) = match film {
+        Film::Whole(file) => pairs(room, 0, |room, places, len| {
+            let (file, file_len, room, room_len) = (file.as_ptr(), file.len(), room.as_mut_ptr(), room.len());
+            // SAFETY: slices' own pointers and lengths, as the module says.
+            unsafe { raw::chaldoref_stretch(file, file_len, id, a, b, room, room_len, places, len) }
+        }),
+        Film::Moov { moov, length } => put(|places, len| {
+            let room = wide(room);
+            let (moov, moov_len, room, room_len) = (moov.as_ptr(), moov.len(), room.as_mut_ptr(), room.len());
+            // SAFETY: the same.
+            unsafe { raw::chaldoref_moov_stretch(moov, moov_len, length, id, a, b, room, room_len, places, len) }
+        }),
+    };
+    answered.map(|()| places)
+}
+
+pub fn profile(film: Film, id: u32, room: &mut [ProfileRecord]) -> Result<[u64; 1], Refusal> {
     let room = numbers(room);
-    // SAFETY: slices' own pointers and lengths, as the module says.
-    ask(|places, len| unsafe {
-        raw::chaldoref_stretch(file.as_ptr(), file.len(), id, a, b, room.as_mut_ptr(), room.len(), places, len)
+    ask(|places, len| {
+        of_film!(film, chaldoref_profile, chaldoref_moov_profile, id, room.as_mut_ptr(), room.len(), places, len)
     })
 }
 
-pub fn profile(file: &[u8], id: u32, room: &mut [ProfileRecord]) -> Result<[u64; 1], Refusal> {
-    let room = numbers(room);
-    // SAFETY: slices' own pointers and lengths, as the module says.
-    ask(|places, len| unsafe {
-        raw::chaldoref_profile(file.as_ptr(), file.len(), id, room.as_mut_ptr(), room.len(), places, len)
-    })
+pub fn feature(film: Film, id: u32, code: u32) -> Result<[u64; 1], Refusal> {
+    ask(|places, len| of_film!(film, chaldoref_feature, chaldoref_moov_feature, id, code, places, len))
 }
 
-pub fn feature(file: &[u8], id: u32, code: u32) -> Result<[u64; 1], Refusal> {
-    // SAFETY: slices' own pointers and lengths, as the module says.
-    ask(|places, len| unsafe { raw::chaldoref_feature(file.as_ptr(), file.len(), id, code, places, len) })
-}
-
-pub fn peak(file: &[u8], id: u32, code: u32) -> Result<[u64; 2], Refusal> {
-    // SAFETY: slices' own pointers and lengths, as the module says.
-    ask(|places, len| unsafe { raw::chaldoref_peak(file.as_ptr(), file.len(), id, code, places, len) })
+pub fn peak(film: Film, id: u32, code: u32) -> Result<[u64; 2], Refusal> {
+    ask(|places, len| of_film!(film, chaldoref_peak, chaldoref_moov_peak, id, code, places, len))
 }
 
 /// Whether the slip is read; and its numbers, the last being the place with refusal 17.
 pub fn read_slip(slip: &[u8], room: &mut [ByteRange]) -> (Result<(), Refusal>, [u64; 6]) {
-    let room = numbers(room);
-    // SAFETY: slices' own pointers and lengths, as the module says.
-    put(|places, len| unsafe {
-        raw::chaldoref_read_slip(slip.as_ptr(), slip.len(), room.as_mut_ptr(), room.len(), places, len)
+    pairs(room, 4, |room, places, len| {
+        let (slip, slip_len, room, room_len) = (slip.as_ptr(), slip.len(), room.as_mut_ptr(), room.len());
+        // SAFETY: slices' own pointers and lengths, as the module says.
+        unsafe { raw::chaldoref_read_slip(slip, slip_len, room, room_len, places, len) }
     })
 }
 
-pub fn write_slip(file: &[u8], id: u32, a: u32, b: u32, out: &mut [u8]) -> Result<[u64; 1], Refusal> {
+/// The same of a slip of either form.
+pub fn read_any_slip(slip: &[u8], room: &mut [ByteRange]) -> (Result<(), Refusal>, [u64; 6]) {
+    let room = wide(room);
     // SAFETY: slices' own pointers and lengths, as the module says.
-    ask(|places, len| unsafe {
-        raw::chaldoref_write_slip(file.as_ptr(), file.len(), id, a, b, out.as_mut_ptr(), out.len(), places, len)
+    put(|places, len| unsafe {
+        raw::chaldoref_read_any_slip(slip.as_ptr(), slip.len(), room.as_mut_ptr(), room.len(), places, len)
     })
+}
+
+pub fn write_slip(film: Film, id: u32, a: u32, b: u32, out: &mut [u8]) -> Result<[u64; 1], Refusal> {
+    let (out, out_len) = (out.as_mut_ptr(), out.len());
+    ask(|places, len| {
+        of_film!(film, chaldoref_write_slip, chaldoref_moov_write_slip, id, a, b, out, out_len, places, len)
+    })
+}
+
+pub fn movie(film: Film) -> Result<[u64; 2], Refusal> {
+    ask(|places, len| of_film!(film, chaldoref_movie, chaldoref_moov_movie, places, len))
+}
+
+pub fn edits(film: Film, id: u32, room: &mut [Edit]) -> Result<[u64; 1], Refusal> {
+    let room = signed(room);
+    ask(|places, len| {
+        of_film!(film, chaldoref_edits, chaldoref_moov_edits, id, room.as_mut_ptr(), room.len(), places, len)
+    })
+}
+
+/// A step over the atoms at top level. The places are those of the step before, or the file's length and zeros.
+pub fn top_level(header: &[u8], mut places: [u64; 6]) -> Result<[u64; 6], Refusal> {
+    // SAFETY: slices' own pointers and lengths, as the module says.
+    let number =
+        unsafe { raw::chaldoref_top_level_step(header.as_ptr(), header.len(), places.as_mut_ptr(), places.len()) };
+    answered(number).map(|()| places)
 }

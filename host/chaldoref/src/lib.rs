@@ -17,7 +17,7 @@
 //!
 //! // The sample shown at media time 24, and its own bytes, which are not copied.
 //! let n = movie.sample_at(track.id, MediaTime(24))?.sample;
-//! assert_eq!((n, movie.sample_bytes(track.id, n)?.len()), (2, 50));
+//! assert_eq!((n, movie.sample_bytes(track.id, n)?.map(<[u8]>::len)), (2, Some(50)));
 //!
 //! // The bytes of a stretch of film time, one range for each chunk that it touches.
 //! let stretch = movie.stretch(track.id, MediaTime(24)..MediaTime(73))?;
@@ -60,6 +60,8 @@ mod answers;
 mod feature;
 #[allow(unsafe_code)]
 mod ffi;
+mod film;
+mod moov;
 mod movie;
 #[allow(missing_docs)]
 pub mod raw;
@@ -68,9 +70,11 @@ mod room;
 mod slip;
 mod units;
 
-pub use answers::{Peak, ProfileRecord, Sample, SampleAt, Shown, Stretch, StretchSize, Track};
+pub use answers::{Edit, Header, Peak, ProfileRecord, Sample, SampleAt, Shown, Stretch, StretchSize, Track};
 pub use feature::{Feature, UnknownFeature};
-pub use movie::{strict_refusal, Movie, MAX_FILE_BYTES};
+pub use film::Film;
+pub use moov::{Moov, ReadError};
+pub use movie::{strict_refusal, Movie, MAX_FILE_BYTES, MAX_LENGTH};
 pub use refusal::{Refusal, UnknownRefusal};
-pub use slip::{MalformedSlip, Slip};
+pub use slip::{AnySlip, MalformedSlip, Slip};
 pub use units::{ByteRange, FourCC, MediaTime, MovieTime, ParseFourCCError, TrackId};

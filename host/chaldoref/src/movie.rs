@@ -1,20 +1,27 @@
 //! Movies and the questions about them.
-use crate::answers::{Peak, ProfileRecord, Sample, SampleAt, Shown, Stretch, StretchSize, Track};
+use crate::answers::{Edit, Header, Peak, ProfileRecord, Sample, SampleAt, Shown, Stretch, StretchSize, Track};
 use crate::ffi::{self, broken, promised};
+use crate::film::Film;
 use crate::refusal::Refusal;
 use crate::room::room;
 use crate::units::{ByteRange, FourCC, MediaTime, MovieTime, TrackId};
 use std::fmt;
 use std::ops::{Range, RangeInclusive};
 
-/// The most bytes that an accepted file has. A longer one is [`Refusal::FileTooLong`].
+/// The most bytes that are lent of an accepted film: its whole file, or its moov. More are [`Refusal::FileTooLong`].
 pub const MAX_FILE_BYTES: u64 = 2_147_483_647;
+
+/// The greatest length that the file of an accepted film has, where its moov is lent alone.
+pub const MAX_LENGTH: u64 = (1 << 63) - 1;
 
 /// The most tracks that a movie has, and the most records that a profile has.
 const MAX_TRACKS: usize = 16;
 const MAX_RECORDS: usize = 64;
 
-/// The refusal of a whole movie file where strict reading is asked for, as the slip writer asks: the lowest of refusals
+/// The most edits that a track has.
+const MAX_EDITS: usize = 256;
+
+/// The refusal of a film where strict reading is asked for, as the slip writer asks: the lowest of refusals
 /// 1 to 13 that applies, if one does.
 ///
 /// ```
@@ -24,45 +31,46 @@ const MAX_RECORDS: usize = 64;
 /// # Ok::<(), Box<dyn std::error::Error>>(())
 /// ```
 #[must_use]
-pub fn strict_refusal(file: &[u8]) -> Option<Refusal> {
-    // No track has ID 0, so that a slip of it is refused 14 where the file is not.
-    match ffi::write_slip(file, 0, 0, 0, &mut []) {
+pub fn strict_refusal<'a>(film: impl Into<Film<'a>>) -> Option<Refusal> {
+    // No track has ID 0, so that a slip of it is refused 14 where the film is not.
+    match ffi::write_slip(film.into(), 0, 0, 0, &mut []) {
         Err(Refusal::NoTrack) => None,
         Err(refusal) => Some(refusal),
         Ok(_) => broken(),
     }
 }
 
-/// A movie file that the reader has accepted.
+/// A movie that the reader has accepted.
 ///
-/// It borrows the file's bytes and keeps the track list beside them. See the [crate](crate) for what a question costs.
+/// It borrows what is lent of its film and keeps the track list beside it. See the [crate](crate) for what a question costs.
 /// Each question gets the library's own answer, also for an ID that no track has ([`Refusal::NoTrack`]). Of the film's
 /// refusals, 1 to 13 and 19, only [`Refusal::StoredDuration`] comes after [`Movie::open`], and only of a slip that is
 /// written.
 #[derive(Clone)]
 pub struct Movie<'a> {
-    file: &'a [u8],
+    film: Film<'a>,
     tracks: [Track; MAX_TRACKS],
     count: usize,
 }
 
 impl<'a> Movie<'a> {
-    /// Judges a whole movie file and reads its track list.
+    /// Judges a film and reads its track list: a whole movie file, or a [`Film::Moov`].
     ///
     /// # Errors
     ///
     /// The first of refusals 1 to 13 and 19, in the order in which they are judged, that applies, if one does; 11,
     /// [`Refusal::StoredDuration`], is not among them.
-    pub fn open(file: &'a [u8]) -> Result<Movie<'a>, Refusal> {
+    pub fn open(film: impl Into<Film<'a>>) -> Result<Movie<'a>, Refusal> {
+        let film = film.into();
         let mut tracks = [Track::default(); MAX_TRACKS];
-        let [count] = ffi::track_list(file, &mut tracks)?;
-        Ok(Movie { file, tracks, count: promised(count) })
+        let [count] = ffi::track_list(film, &mut tracks)?;
+        Ok(Movie { film, tracks, count: promised(count) })
     }
 
-    /// The file's bytes.
+    /// The film, as it was lent.
     #[must_use]
-    pub fn file(&self) -> &'a [u8] {
-        self.file
+    pub fn film(&self) -> Film<'a> {
+        self.film
     }
 
     /// The tracks, in file order. There may be none, and there are 16 at most.
@@ -75,6 +83,35 @@ impl<'a> Movie<'a> {
     #[must_use]
     pub fn track(&self, id: TrackId) -> Option<&Track> {
         self.tracks().iter().find(|track| track.id == id)
+    }
+
+    /// The movie's time scale and the duration that it stores.
+    ///
+    /// ```
+    /// use chaldoref::{Movie, MovieTime};
+    ///
+    /// # std::env::set_current_dir("../..")?;
+    /// let file = std::fs::read("films/w.mov")?;
+    /// let header = Movie::open(&file)?.header();
+    /// assert_eq!((header.scale, header.stored), (600, MovieTime(120)));
+    /// # Ok::<(), Box<dyn std::error::Error>>(())
+    /// ```
+    #[must_use]
+    pub fn header(&self) -> Header {
+        // The film is accepted, so that no refusal is left.
+        let [scale, stored] = ffi::movie(self.film).unwrap_or_else(|_| broken());
+        Header { scale: promised(scale), stored: MovieTime(promised(stored)) }
+    }
+
+    /// The edit list of a track, in order; empty where it has none.
+    ///
+    /// # Errors
+    ///
+    /// [`Refusal::NoTrack`].
+    pub fn edits(&self, id: TrackId) -> Result<Vec<Edit>, Refusal> {
+        let mut edits = [Edit::default(); MAX_EDITS];
+        let [count] = ffi::edits(self.film, id.0, &mut edits)?;
+        Ok(edits[..promised(count)].to_vec())
     }
 
     /// Sample `n` of a track, numbered from 1.
@@ -94,7 +131,7 @@ impl<'a> Movie<'a> {
     ///
     /// [`Refusal::NoTrack`]; [`Refusal::Outside`] where the track has no sample `n`.
     pub fn sample(&self, id: TrackId, n: u32) -> Result<Sample, Refusal> {
-        let [decode, duration, composition, sync, description, chunk, offset, size] = ffi::sample(self.file, id.0, n)?;
+        let [decode, duration, composition, sync, description, chunk, offset, size] = ffi::sample(self.film, id.0, n)?;
         Ok(Sample {
             decode: MediaTime(promised(decode)),
             duration: promised(duration),
@@ -107,13 +144,18 @@ impl<'a> Movie<'a> {
         })
     }
 
-    /// The bytes of sample `n` of a track, numbered from 1, as they stand in the file.
+    /// The bytes of sample `n` of a track, numbered from 1, as they stand in the file; `None` where the moov was lent
+    /// alone.
     ///
     /// # Errors
     ///
     /// [`Refusal::NoTrack`]; [`Refusal::Outside`] where the track has no sample `n`.
-    pub fn sample_bytes(&self, id: TrackId, n: u32) -> Result<&'a [u8], Refusal> {
-        Ok(self.sample_range(id, n)?.of(self.file).unwrap_or_else(|| broken()))
+    pub fn sample_bytes(&self, id: TrackId, n: u32) -> Result<Option<&'a [u8]>, Refusal> {
+        let range = self.sample_range(id, n)?;
+        Ok(match self.film {
+            Film::Whole(file) => Some(range.of(file).unwrap_or_else(|| broken())),
+            Film::Moov { .. } => None,
+        })
     }
 
     /// Where in the file those bytes are.
@@ -122,8 +164,13 @@ impl<'a> Movie<'a> {
     ///
     /// Those of [`Movie::sample_bytes`].
     pub fn sample_range(&self, id: TrackId, n: u32) -> Result<ByteRange, Refusal> {
-        let [offset, length] = ffi::sample_bytes(self.file, id.0, n)?;
-        Ok(ByteRange { offset: promised(offset), length: promised(length) })
+        match self.film {
+            Film::Whole(file) => {
+                let [offset, length] = ffi::sample_bytes(file, id.0, n)?;
+                Ok(ByteRange { offset, length })
+            }
+            Film::Moov { .. } => Ok(self.sample(id, n)?.range()),
+        }
     }
 
     /// The sample at a media time: the one with decode time ≤ `t` < decode time plus duration.
@@ -132,7 +179,7 @@ impl<'a> Movie<'a> {
     ///
     /// [`Refusal::NoTrack`]; [`Refusal::Outside`] where `t` is not below the track's total.
     pub fn sample_at(&self, id: TrackId, t: MediaTime) -> Result<SampleAt, Refusal> {
-        let [sample, entry] = ffi::sample_at(self.file, id.0, t.0)?;
+        let [sample, entry] = ffi::sample_at(self.film, id.0, t.0)?;
         Ok(SampleAt { sample: promised(sample), entry: promised(entry) })
     }
 
@@ -153,7 +200,7 @@ impl<'a> Movie<'a> {
     /// [`Refusal::NoTrack`]; [`Refusal::Outside`] at or past the end: that of the last edit, or without an edit list
     /// that of the media.
     pub fn media_time(&self, id: TrackId, t: MovieTime) -> Result<Shown, Refusal> {
-        match ffi::media_time(self.file, id.0, t.0)? {
+        match ffi::media_time(self.film, id.0, t.0)? {
             [0, _] => Ok(Shown::Nothing),
             [_, media] => Ok(Shown::At(MediaTime(promised(media)))),
         }
@@ -201,7 +248,7 @@ impl<'a> Movie<'a> {
         time: Range<MediaTime>,
         room: &mut [ByteRange],
     ) -> Result<StretchSize, Refusal> {
-        let [pairs, bytes] = ffi::stretch(self.file, id.0, time.start.0, time.end.0, room)?;
+        let [pairs, bytes] = ffi::stretch(self.film, id.0, time.start.0, time.end.0, room)?;
         Ok(StretchSize { pairs: promised(pairs), bytes })
     }
 
@@ -227,7 +274,7 @@ impl<'a> Movie<'a> {
     ///
     /// Those of [`Movie::write_slip`]; [`Refusal::NoRoom`] where the bytes are too few. They then keep their contents.
     pub fn write_slip_into(&self, id: TrackId, time: Range<MediaTime>, out: &mut [u8]) -> Result<usize, Refusal> {
-        let [length] = ffi::write_slip(self.file, id.0, time.start.0, time.end.0, out)?;
+        let [length] = ffi::write_slip(self.film, id.0, time.start.0, time.end.0, out)?;
         Ok(promised(length))
     }
 
@@ -239,7 +286,7 @@ impl<'a> Movie<'a> {
     /// [`Refusal::NoTrack`], but not for `TrackId(0)`.
     pub fn profile(&self, id: TrackId) -> Result<Vec<ProfileRecord>, Refusal> {
         let mut records = [ProfileRecord::default(); MAX_RECORDS];
-        let [count] = ffi::profile(self.file, id.0, &mut records)?;
+        let [count] = ffi::profile(self.film, id.0, &mut records)?;
         Ok(records[..promised(count)].to_vec())
     }
 
@@ -268,7 +315,7 @@ impl<'a> Movie<'a> {
     /// [`Refusal::NoTrack`]; [`Refusal::NotComputed`] for a track that has not what the feature needs, and for every
     /// code but those of [`Feature::ALL`](crate::Feature::ALL).
     pub fn feature(&self, id: TrackId, code: impl Into<FourCC>) -> Result<u32, Refusal> {
-        let [value] = ffi::feature(self.file, id.0, code.into().0)?;
+        let [value] = ffi::feature(self.film, id.0, code.into().0)?;
         Ok(promised(value))
     }
 
@@ -293,7 +340,7 @@ impl<'a> Movie<'a> {
     ///
     /// Those of [`Movie::feature`]; [`Refusal::NotComputed`] for every other code.
     pub fn peak(&self, id: TrackId, code: impl Into<FourCC>) -> Result<Peak, Refusal> {
-        let [first, count] = ffi::peak(self.file, id.0, code.into().0)?;
+        let [first, count] = ffi::peak(self.film, id.0, code.into().0)?;
         let samples: RangeInclusive<u32> = promised(first)..=promised(first + count - 1);
         let start = self.sample(id, *samples.start())?.decode;
         let last = self.sample(id, *samples.end())?;
@@ -308,8 +355,8 @@ impl<'a> Movie<'a> {
 }
 
 impl fmt::Debug for Movie<'_> {
-    /// The tracks and the file's length; the file itself would be no help.
+    /// The tracks and the film's lengths.
     fn fmt(&self, f: &mut fmt::Formatter<'_>) -> fmt::Result {
-        f.debug_struct("Movie").field("file_bytes", &self.file.len()).field("tracks", &self.tracks()).finish()
+        f.debug_struct("Movie").field("film", &self.film).field("tracks", &self.tracks()).finish()
     }
 }

@@ -111,4 +111,143 @@ extern "C" {
         places: *mut u64,
         places_len: usize,
     ) -> u32;
+
+    pub fn chaldoref_moov_track_list(
+        moov: *const u8,
+        moov_len: usize,
+        length: u64,
+        room: *mut u32,
+        room_len: usize,
+        places: *mut u64,
+        places_len: usize,
+    ) -> u32;
+
+    pub fn chaldoref_moov_sample(
+        moov: *const u8,
+        moov_len: usize,
+        length: u64,
+        id: u32,
+        n: u32,
+        places: *mut i64,
+        places_len: usize,
+    ) -> u32;
+
+    pub fn chaldoref_moov_sample_at(
+        moov: *const u8,
+        moov_len: usize,
+        length: u64,
+        id: u32,
+        t: u32,
+        places: *mut u64,
+        places_len: usize,
+    ) -> u32;
+
+    pub fn chaldoref_moov_media_time(
+        moov: *const u8,
+        moov_len: usize,
+        length: u64,
+        id: u32,
+        t: u32,
+        places: *mut u64,
+        places_len: usize,
+    ) -> u32;
+
+    pub fn chaldoref_moov_stretch(
+        moov: *const u8,
+        moov_len: usize,
+        length: u64,
+        id: u32,
+        a: u32,
+        b: u32,
+        room: *mut u64,
+        room_len: usize,
+        places: *mut u64,
+        places_len: usize,
+    ) -> u32;
+
+    pub fn chaldoref_moov_profile(
+        moov: *const u8,
+        moov_len: usize,
+        length: u64,
+        id: u32,
+        room: *mut u32,
+        room_len: usize,
+        places: *mut u64,
+        places_len: usize,
+    ) -> u32;
+
+    pub fn chaldoref_moov_feature(
+        moov: *const u8,
+        moov_len: usize,
+        length: u64,
+        id: u32,
+        code: u32,
+        places: *mut u64,
+        places_len: usize,
+    ) -> u32;
+
+    pub fn chaldoref_moov_peak(
+        moov: *const u8,
+        moov_len: usize,
+        length: u64,
+        id: u32,
+        code: u32,
+        places: *mut u64,
+        places_len: usize,
+    ) -> u32;
+
+    pub fn chaldoref_moov_write_slip(
+        moov: *const u8,
+        moov_len: usize,
+        length: u64,
+        id: u32,
+        a: u32,
+        b: u32,
+        out: *mut u8,
+        out_len: usize,
+        places: *mut u64,
+        places_len: usize,
+    ) -> u32;
+
+    pub fn chaldoref_read_any_slip(
+        slip: *const u8,
+        slip_len: usize,
+        room: *mut u64,
+        room_len: usize,
+        places: *mut u64,
+        places_len: usize,
+    ) -> u32;
+
+    pub fn chaldoref_movie(file: *const u8, file_len: usize, places: *mut u64, places_len: usize) -> u32;
+
+    pub fn chaldoref_edits(
+        file: *const u8,
+        file_len: usize,
+        id: u32,
+        room: *mut i64,
+        room_len: usize,
+        places: *mut u64,
+        places_len: usize,
+    ) -> u32;
+
+    pub fn chaldoref_moov_movie(
+        moov: *const u8,
+        moov_len: usize,
+        length: u64,
+        places: *mut u64,
+        places_len: usize,
+    ) -> u32;
+
+    pub fn chaldoref_moov_edits(
+        moov: *const u8,
+        moov_len: usize,
+        length: u64,
+        id: u32,
+        room: *mut i64,
+        room_len: usize,
+        places: *mut u64,
+        places_len: usize,
+    ) -> u32;
+
+    pub fn chaldoref_top_level_step(header: *const u8, header_len: usize, places: *mut u64, places_len: usize) -> u32;
 }

@@ -64,6 +64,26 @@ impl fmt::Display for MalformedSlip {
 
 impl Error for MalformedSlip {}
 
+/// Room for the pairs of a slip of these bytes: each number of a pair takes a byte at least.
+fn room_for(bytes: &[u8]) -> Result<Vec<ByteRange>, TryReserveError> {
+    room((bytes.len() / 2).min(MAX_PAIRS))
+}
+
+/// Leaves the pairs that were read, or tells the place of the fault.
+fn numbers(
+    answered: Result<(), Refusal>,
+    count: u64,
+    place: u64,
+    pairs: &mut Vec<ByteRange>,
+) -> Result<(), MalformedSlip> {
+    match answered {
+        Ok(()) => pairs.truncate(promised(count)),
+        Err(Refusal::MalformedSlip) => return Err(MalformedSlip { place: promised(place) }),
+        Err(_) => broken(),
+    }
+    Ok(())
+}
+
 impl Slip {
     /// A slip of these numbers, of which nothing is checked.
     #[must_use]
@@ -71,7 +91,7 @@ impl Slip {
         Slip { id, scale, a: time.start, b: time.end, pairs }
     }
 
-    /// Reads a slip, which must take up all of the bytes.
+    /// Reads a slip of form 1, which must take up all of the bytes. [`AnySlip::read`] reads both forms.
     ///
     /// # Errors
     ///
@@ -90,21 +110,12 @@ impl Slip {
     ///
     /// The outer error is that there is no memory for the pairs, the inner one that of [`Slip::read`].
     pub fn try_read(bytes: &[u8]) -> Result<Result<Slip, MalformedSlip>, TryReserveError> {
-        // Each number of a pair takes a byte at least.
-        let pairs = room((bytes.len() / 2).min(MAX_PAIRS))?;
-        Ok(Slip::read_into(bytes, pairs))
-    }
-
-    /// The same into room that is enough.
-    fn read_into(bytes: &[u8], mut pairs: Vec<ByteRange>) -> Result<Slip, MalformedSlip> {
+        let mut pairs = room_for(bytes)?;
         let (answered, [id, scale, a, b, count, place]) = ffi::read_slip(bytes, &mut pairs);
-        match answered {
-            Ok(()) => pairs.truncate(promised(count)),
-            Err(Refusal::MalformedSlip) => return Err(MalformedSlip { place: promised(place) }),
-            Err(_) => broken(),
-        }
-        let time = MediaTime(promised(a))..MediaTime(promised(b));
-        Ok(Slip::new(TrackId(promised(id)), promised(scale), time, pairs))
+        Ok(numbers(answered, count, place, &mut pairs).map(|()| {
+            let time = MediaTime(promised(a))..MediaTime(promised(b));
+            Slip::new(TrackId(promised(id)), promised(scale), time, pairs)
+        }))
     }
 
     /// The film time that is filed, from `a` to `b`, in units of the slip's time scale.
@@ -114,6 +125,84 @@ impl Slip {
     }
 
     /// The total of the pairs' lengths.
+    #[must_use]
+    pub fn bytes(&self) -> u64 {
+        ByteRange::total(&self.pairs)
+    }
+}
+
+/// A slip of either form that was read. Form 2 is written where an offset or a length is 2^32 or more, and any of its
+/// numbers may be that great.
+///
+/// ```
+/// use chaldoref::{AnySlip, ByteRange, Slip};
+///
+/// // One pair: ten bytes from byte 4,294,967,296 on.
+/// let bytes = [0x02, 0x01, 0xD8, 0x04, 0x18, 0x49, 0x01, 0x80, 0x80, 0x80, 0x80, 0x10, 0x0A];
+/// let slip = AnySlip::read(&bytes).unwrap();
+/// assert_eq!((slip.form, &slip.pairs[..]), (2, &[ByteRange { offset: 1 << 32, length: 10 }][..]));
+/// assert!(Slip::read(&bytes).is_err());
+/// ```
+#[non_exhaustive]
+#[derive(Clone, Debug, PartialEq, Eq, Hash)]
+pub struct AnySlip {
+    /// The form that it is written in, 1 or 2.
+    pub form: u32,
+    /// The ID of the track that is filed. It is not 0.
+    pub id: u64,
+    /// The time scale of the media times: units a second. It is not 0.
+    pub scale: u64,
+    /// Where the stretch starts.
+    pub a: u64,
+    /// Where it ends: the first time after it. It is above `a`.
+    pub b: u64,
+    /// The bytes, at least one range. Nothing ties them to a film or to each other.
+    pub pairs: Vec<ByteRange>,
+}
+
+impl AnySlip {
+    /// Reads a slip of form 1 or 2, which must take up all of the bytes.
+    ///
+    /// # Errors
+    ///
+    /// Where the bytes are no slip: the place of the first fault.
+    ///
+    /// # Panics
+    ///
+    /// Where there is no memory for its pairs, which [`AnySlip::try_read`] tells.
+    pub fn read(bytes: &[u8]) -> Result<AnySlip, MalformedSlip> {
+        AnySlip::try_read(bytes).expect("there is memory for a slip's pairs")
+    }
+
+    /// The same without a panic.
+    ///
+    /// # Errors
+    ///
+    /// The outer error is that there is no memory for the pairs, the inner one that of [`AnySlip::read`].
+    pub fn try_read(bytes: &[u8]) -> Result<Result<AnySlip, MalformedSlip>, TryReserveError> {
+        let mut pairs = room_for(bytes)?;
+        let (answered, [id, scale, a, b, count, place]) = ffi::read_any_slip(bytes, &mut pairs);
+        Ok(numbers(answered, count, place, &mut pairs).map(|()| {
+            // The form is a number of one byte.
+            let form = bytes.first().copied().map_or_else(|| broken(), u32::from);
+            AnySlip { form, id, scale, a, b, pairs }
+        }))
+    }
+
+    /// From `a` to `b`, where a track can have these times.
+    #[must_use]
+    pub fn time(&self) -> Option<Range<MediaTime>> {
+        let time = |n: u64| u32::try_from(n).ok().map(MediaTime);
+        Some(time(self.a)?..time(self.b)?)
+    }
+
+    /// The film time that is filed, from `a` to `b`, in units of the slip's time scale.
+    #[must_use]
+    pub fn film_time(&self) -> u64 {
+        self.b.saturating_sub(self.a)
+    }
+
+    /// The total of the pairs' lengths; the greatest number of 64 bits where that is more.
     #[must_use]
     pub fn bytes(&self) -> u64 {
         ByteRange::total(&self.pairs)

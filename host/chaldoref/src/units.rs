@@ -45,9 +45,9 @@ pub struct FourCC(pub u32);
 #[derive(Clone, Copy, Debug, Default, PartialEq, Eq, Hash)]
 pub struct ByteRange {
     /// The first byte's place in the file.
-    pub offset: u32,
+    pub offset: u64,
     /// The number of bytes; it may be 0.
-    pub length: u32,
+    pub length: u64,
 }
 
 impl MediaTime {
@@ -78,12 +78,13 @@ impl ByteRange {
     /// within its own film; one that was read from a slip need not lie within any.
     #[must_use]
     pub fn of(self, film: &[u8]) -> Option<&[u8]> {
-        film.get(self.offset as usize..)?.get(..self.length as usize)
+        let (offset, length) = (usize::try_from(self.offset).ok()?, usize::try_from(self.length).ok()?);
+        film.get(offset..)?.get(..length)
     }
 
-    /// The lengths of these ranges, added up.
+    /// The lengths of these ranges, added up; the greatest number of 64 bits where that is more.
     pub(crate) fn total(ranges: &[ByteRange]) -> u64 {
-        ranges.iter().map(|range| u64::from(range.length)).sum()
+        ranges.iter().fold(0, |sum: u64, range| sum.saturating_add(range.length))
     }
 }
 

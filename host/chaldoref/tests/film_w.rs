@@ -18,7 +18,7 @@ fn media(a: u32, b: u32) -> Range<MediaTime> {
     MediaTime(a)..MediaTime(b)
 }
 
-fn pair(offset: u32, length: u32) -> ByteRange {
+fn pair(offset: u64, length: u64) -> ByteRange {
     ByteRange { offset, length }
 }
 
@@ -43,7 +43,7 @@ fn tracks() {
     assert_eq!(movie.tracks(), [track]);
     assert_eq!(movie.track(ONE), Some(&track));
     assert_eq!(movie.track(TrackId(2)), None);
-    assert_eq!(movie.file(), file);
+    assert_eq!(movie.film(), chaldoref::Film::Whole(&file));
 }
 
 #[test]
@@ -78,10 +78,10 @@ fn samples() {
 #[test]
 fn sample_bytes_are_a_part_of_the_file() {
     let file = w().bytes();
-    let bytes = opened(&file).sample_bytes(ONE, 2).unwrap();
+    let bytes = opened(&file).sample_bytes(ONE, 2).unwrap().unwrap();
     // They outlive the movie that was asked, and were not copied.
     assert!(std::ptr::eq(bytes, &file[1100..1150]));
-    assert!(std::ptr::eq(opened(&file).sample_bytes(ONE, 3).unwrap(), &file[1150..1150]));
+    assert!(std::ptr::eq(opened(&file).sample_bytes(ONE, 3).unwrap().unwrap(), &file[1150..1150]));
     assert_eq!([2, 3].map(|n| opened(&file).sample_range(ONE, n)), [Ok(pair(1100, 50)), Ok(pair(1150, 0))]);
 }
 

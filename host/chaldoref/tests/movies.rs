@@ -20,7 +20,10 @@ fn hoses_with_one_name_are_two_tracks() {
         let pictures: String = (1..=6).map(|n| format!("hose {} picture {n}", track.id)).collect();
         assert_eq!(String::from_utf8(film).unwrap(), pictures);
         assert_eq!(stretch.bytes, 96);
-        assert_eq!(movie.sample_bytes(track.id, 6).unwrap(), format!("hose {} picture 6", track.id).as_bytes());
+        assert_eq!(
+            movie.sample_bytes(track.id, 6).unwrap().unwrap(),
+            format!("hose {} picture 6", track.id).as_bytes()
+        );
     }
 }
 
@@ -84,7 +87,7 @@ fn ranges_of_a_film() {
     let range = |offset, length| ByteRange { offset, length };
     assert_eq!(range(1, 2).of(&film), Some(&[2, 3][..]));
     assert_eq!(range(3, 0).of(&film), Some(&[][..]));
-    for past in [range(1, 3), range(4, 0), range(u32::MAX, u32::MAX)] {
+    for past in [range(1, 3), range(4, 0), range(u64::MAX, u64::MAX)] {
         assert_eq!(past.of(&film), None);
     }
 }

@@ -28,6 +28,7 @@ pub enum Ask {
     Sample { track: TrackId, n: u32, bytes: bool },
     At { track: TrackId, time: Time },
     Map { track: TrackId, time: MovieTime },
+    Edits { track: TrackId },
     Stretch { track: TrackId, time: Span, bytes: bool },
     Slip { track: TrackId, time: Span, out: Option<OsString> },
     ReadSlip { hex: bool },

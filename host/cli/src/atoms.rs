@@ -1,5 +1,5 @@
-//! The atoms of a film, for the warnings and for what is read of a film: no answer follows from what is found here. Films that are refused have no
-//! warnings, and one with a wrong size at top level is read whole, so a wrong size only ends the walk.
+//! The atoms of a film, for the warnings and for what is read of a film that is refused: no answer follows from what is found here. Films that are refused
+//! have no warnings, so a wrong size only ends the walk. A moov alone is a file of one atom here.
 
 /// An atom's type and its body.
 type Atom<'a> = (&'a [u8], &'a [u8]);

@@ -2,7 +2,7 @@
 //! here they are compared.
 use crate::fault::Fault;
 use crate::input;
-use chaldoref::{ByteRange, MediaTime, Movie, Slip, Track};
+use chaldoref::{AnySlip, ByteRange, Movie, Track, TrackId};
 use std::ffi::OsStr;
 use std::io;
 
@@ -10,7 +10,7 @@ use std::io;
 pub struct Checked<'n> {
     pub name: &'n OsStr,
     /// The slip, where it could be read. Its pairs are not kept.
-    pub slip: Option<Slip>,
+    pub slip: Option<AnySlip>,
     pub wrong: Option<Wrong>,
 }
 
@@ -79,7 +79,7 @@ impl Checked<'_> {
     }
 
     /// The slip, where nothing is wrong with it.
-    pub fn good(&self) -> Option<&Slip> {
+    pub fn good(&self) -> Option<&AnySlip> {
         self.slip.as_ref().filter(|_| self.wrong.is_none())
     }
 
@@ -88,28 +88,30 @@ impl Checked<'_> {
     }
 }
 
-fn read(name: &OsStr) -> Result<Slip, Wrong> {
+fn read(name: &OsStr) -> Result<AnySlip, Wrong> {
     let bytes = input::slip(input::read(name)?)?;
-    Slip::try_read(&bytes).map_err(io::Error::from)?.map_err(|malformed| Fault::of(&bytes, malformed).into())
+    AnySlip::try_read(&bytes).map_err(io::Error::from)?.map_err(|malformed| Fault::of(&bytes, malformed).into())
 }
 
 /// The track is there, the scale is its own, and the pairs are those of the stretch from a to b.
-fn compare(movie: &Movie, slip: &Slip) -> Result<(), Wrong> {
+fn compare(movie: &Movie, slip: &AnySlip) -> Result<(), Wrong> {
     let no_track = || Wrong::new(Kind::NoTrack, format!("the movie has no track {}", slip.id));
-    let track = movie.track(slip.id).ok_or_else(no_track)?;
-    if slip.scale != track.scale {
+    let id = u32::try_from(slip.id).map(TrackId);
+    let track = id.ok().and_then(|id| movie.track(id)).ok_or_else(no_track)?;
+    if slip.scale != u64::from(track.scale) {
         let reason = format!("its scale is {}, and the track's is {}", slip.scale, track.scale);
         return Err(Wrong::new(Kind::OtherScale, reason));
     }
     // In a slip a is below b, so that nothing is refused but an end past the total.
-    let stretch = movie.stretch(slip.id, slip.a..slip.b).map_err(|_| outside(slip.b, track))?;
+    let time = slip.time().ok_or_else(|| outside(slip.b, track))?;
+    let stretch = movie.stretch(track.id, time).map_err(|_| outside(slip.b, track))?;
     match difference(&slip.pairs, &stretch.pairs) {
         Some(reason) => Err(Wrong::new(Kind::OtherPairs, reason)),
         None => Ok(()),
     }
 }
 
-fn outside(b: MediaTime, track: &Track) -> Wrong {
+fn outside(b: u64, track: &Track) -> Wrong {
     Wrong::new(Kind::Outside, format!("b is {b}, and the track ends at {}", track.total))
 }
 
@@ -128,14 +130,14 @@ fn difference(slips: &[ByteRange], films: &[ByteRange]) -> Option<String> {
 mod tests {
     use super::*;
 
-    fn pairs(numbers: &[(u32, u32)]) -> Vec<ByteRange> {
+    fn pairs(numbers: &[(u64, u64)]) -> Vec<ByteRange> {
         numbers.iter().map(|(offset, length)| ByteRange { offset: *offset, length: *length }).collect()
     }
 
     #[test]
     fn differences() {
         let film = pairs(&[(1100, 50), (900, 70)]);
-        let said = |numbers: &[(u32, u32)]| difference(&pairs(numbers), &film).unwrap_or_default();
+        let said = |numbers: &[(u64, u64)]| difference(&pairs(numbers), &film).unwrap_or_default();
         assert_eq!(said(&[(1100, 50), (900, 70)]), "");
         assert_eq!(said(&[(1100, 50)]), "it has 1 pair, and the film has 2 from a to b");
         assert_eq!(said(&[(1100, 50), (900, 70), (1, 1)]), "it has 3 pairs, and the film has 2 from a to b");

@@ -1,5 +1,6 @@
 //! What each command prints, for people and for machines.
 mod check;
+mod edits;
 mod features;
 mod questions;
 mod ranges;
@@ -12,7 +13,7 @@ use crate::input;
 use crate::json::{document, Object};
 use crate::table::{number, Column};
 use crate::warnings;
-use chaldoref::{strict_refusal, Movie, Refusal, TrackId};
+use chaldoref::{Movie, Refusal, TrackId};
 use std::ffi::OsStr;
 use std::io::{self, Write};
 
@@ -71,41 +72,35 @@ pub fn run(request: &Request, name: &OsStr, out: &mut dyn Write) -> Result<(), F
 }
 
 fn answer(request: &Request, name: &OsStr, out: &mut dyn Write) -> Result<(), Failure> {
-    let film = read(&request.ask, name).map_err(Failure::Input)?;
-    let movie = || Movie::open(film.bytes()).map_err(|refusal| Failure::of_film(film.bytes(), refusal));
-    // The slip writer reads strictly, so that its refusal of the film is the one to tell.
-    let strictly = |refusal| Failure::of_film(film.bytes(), strict_refusal(film.bytes()).unwrap_or(refusal));
-    let filed = || Movie::open(film.bytes()).map_err(strictly);
     let to = Answer { out, json: request.json, file: name, beside_others: request.files.len() > 1 };
+    if let Ask::ReadSlip { hex } = request.ask {
+        let file = input::read(name).map_err(Failure::Input)?;
+        let bytes = if hex { input::from_hex(&file) } else { input::slip(file) };
+        return slips::read(&bytes.map_err(Failure::Input)?, to);
+    }
+    let film = Film::read(name).map_err(Failure::Input)?;
+    let movie = || film.movie();
+    // The slip writer reads strictly, so that its refusal of the film is the one to tell.
+    let filed = || film.filed();
     match &request.ask {
-        Ask::Tracks => questions::tracks(&movie()?, to),
+        Ask::Tracks => questions::tracks(&film, &movie()?, to),
         Ask::Sample { track, n, bytes: false } => questions::sample(&movie()?, *track, *n, to),
         Ask::Sample { track, n, bytes: true } => questions::sample_bytes(&film, &movie()?, *track, *n, to),
         Ask::At { track, time } => questions::at(&movie()?, *track, time, to),
         Ask::Map { track, time } => questions::map(&movie()?, *track, *time, to),
+        Ask::Edits { track } => edits::edits(&movie()?, *track, to),
         Ask::Features { track, code: None } => features::features(&movie()?, *track, to),
         Ask::Features { track, code: Some(code) } => features::feature(&movie()?, *track, *code, to),
         Ask::Profile { track } => questions::profile(&movie()?, *track, to),
         Ask::Stretch { track, time, bytes: false } => ranges::stretch(&movie()?, *track, time, to),
         Ask::Stretch { track, time, bytes: true } => ranges::stretch_bytes(&film, &movie()?, *track, time, to),
-        Ask::Slip { track, time, out: None } => ranges::slip(&filed()?, *track, time, to),
+        Ask::Slip { track, time, out: None } => ranges::slip(&film, &filed()?, *track, time, to),
         Ask::Slip { track, time, out: Some(slip_name) } => {
-            let slip = ranges::slip_of(&filed()?, *track, time)?;
+            let slip = ranges::slip_of(&film, &filed()?, *track, time)?;
             ranges::write_out(&slip, slip_name, name, to)
         }
-        Ask::ReadSlip { hex } => {
-            let bytes = if *hex { input::from_hex(film.bytes()) } else { input::slip(film.into_bytes()) };
-            slips::read(&bytes.map_err(Failure::Input)?, to)
-        }
         Ask::Check { slips } => check::check(&movie()?, slips, to),
-    }
-}
-
-/// Reads what is asked about. Only a slip is needed whole.
-fn read(ask: &Ask, name: &OsStr) -> io::Result<Film> {
-    match ask {
-        Ask::ReadSlip { .. } => Film::read_whole(name),
-        _ => Film::read(name),
+        Ask::ReadSlip { .. } => unreachable!("a slip is no film"),
     }
 }
 

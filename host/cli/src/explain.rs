@@ -1,6 +1,7 @@
 //! Why a film is refused, in the words of the reference. No one has proved them, so they are kept only where the reference refuses with the number of
 //! the library, which is proved.
-use chaldoref::Refusal;
+use chaldoref::{Moov, Refusal};
+use reference::movie::{explain, explain_strictly, Film, MoovAlone};
 use std::panic::{self, UnwindSafe};
 
 /// What a function answers, or nothing where it stops at an error of its own: that must not take the place of the refusal, nor write anything.
@@ -12,11 +13,24 @@ fn unless_it_stops<T>(function: impl FnOnce() -> T + UnwindSafe) -> Option<T> {
     answer.ok()
 }
 
+/// Why a whole film, or what is lent for one, is refused.
 pub fn explanation(film: &[u8], refusal: Refusal) -> Option<String> {
+    explained(film, refusal)
+}
+
+/// The same of a moov that is lent alone.
+pub fn explanation_alone(moov: &Moov, refusal: Refusal) -> Option<String> {
+    let words = explained(&MoovAlone { moov: &moov.bytes[..], length: moov.length }, refusal)?;
+    Some(format!("{words} (places are counted from the moov, which is at byte {})", moov.place))
+}
+
+fn explained<F: Film + UnwindSafe + ?Sized>(film: &F, refusal: Refusal) -> Option<String>
+where
+    for<'f> &'f F: UnwindSafe,
+{
     // Only the slip writer, which reads strictly, refuses 11.
     let strictly = refusal == Refusal::StoredDuration;
-    let explain = if strictly { reference::movie::explain_strictly } else { reference::movie::explain };
-    let (number, words) = unless_it_stops(|| explain(film))??;
+    let (number, words) = unless_it_stops(|| if strictly { explain_strictly(film) } else { explain(film) })??;
     (number == refusal.number()).then_some(words)
 }
 

@@ -1,9 +1,7 @@
 //! What ends a command without an answer: its message and its exit status.
-use crate::explain::explanation;
 use crate::fault::Fault;
 use crate::input;
-use crate::warnings::disagreements;
-use chaldoref::{Movie, Refusal};
+use chaldoref::Refusal;
 use std::ffi::OsString;
 use std::io;
 
@@ -48,20 +46,9 @@ impl From<io::Error> for Failure {
 }
 
 impl Failure {
-    /// Refuses the film of these bytes.
-    pub fn of_film(film: &[u8], refusal: Refusal) -> Failure {
-        Failure::Film(refusal, explanation(film, refusal), of_ffmpeg(refusal))
-    }
-
-    /// A slip that is not written, for the film's sake where it stores another duration than its samples total.
-    pub fn of_slip(movie: &Movie, failure: Failure) -> Failure {
-        match failure {
-            Failure::Refused(refusal @ Refusal::StoredDuration, _) => {
-                let words = disagreements(movie).collect::<Vec<_>>().join("; ");
-                Failure::Film(refusal, explanation(movie.file(), refusal), hint(&words))
-            }
-            other => other,
-        }
+    /// Refuses a film, for the reason given if it is known.
+    pub fn of_film(refusal: Refusal, why: Option<String>) -> Failure {
+        Failure::Film(refusal, why, of_ffmpeg(refusal))
     }
 
     /// Whoever reads standard output has seen enough, which is no failure.

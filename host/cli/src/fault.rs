@@ -28,13 +28,16 @@ impl Fault {
         let (before, start) = (ends().count(), ends().next_back().map_or(0, |last| last + 1));
         let head: Vec<usize> = ends().take(HEAD.len()).collect();
         let values = |i: usize| value(&slip[i.checked_sub(1).map_or(0, |before| head[before] + 1)..=head[i]]);
+        let width = if slip.first() == Some(&2) { &FORM_2 } else { &FORM_1 };
         let (number, rule) = if place == slip.len() {
             (Some(called(before)), ends_early(start, place))
         } else if before >= HEAD.len() && Ok(before) == usize::try_from(6 + 2 * values(5)) {
             (None, surplus(slip.len() - place))
+        } else if place == 0 && slip[0] == 2 {
+            (Some(called(0)), "it is 2, and no number of the slip is 2^32 or more: it must be 1".to_string())
         } else {
             let a = if before == 4 { values(3) } else { 0 };
-            (Some(called(before)), broken(before, &slip[place..], a))
+            (Some(called(before)), broken(before, &slip[place..], a, width))
         };
         Fault { place, number, rule, picture: picture(slip, place) }
     }
@@ -63,9 +66,9 @@ fn called(before: usize) -> String {
     }
 }
 
-/// The value of a number's bytes, at most five.
-fn value(bytes: &[u8]) -> u64 {
-    bytes.iter().rev().fold(0, |high, byte| high << 7 | u64::from(byte & 127))
+/// The value of a number's bytes, at most ten.
+fn value(bytes: &[u8]) -> u128 {
+    bytes.iter().rev().fold(0, |high, byte| high << 7 | u128::from(byte & 127))
 }
 
 fn ends_early(start: usize, end: usize) -> String {
@@ -81,21 +84,32 @@ fn surplus(bytes: usize) -> String {
     format!("{bytes} {follow} the last number")
 }
 
-/// The rule that the number at the head of these bytes breaks, so many standing before it.
-fn broken(before: usize, bytes: &[u8], a: u64) -> String {
-    let number = match bytes.iter().take(5).position(|byte| *byte < 128) {
+/// How many bytes the numbers of a form have at most, the last of these in words, and the power of two that they are below.
+struct Width {
+    most: usize,
+    last: &'static str,
+    power: u32,
+}
+
+const FORM_1: Width = Width { most: 5, last: "fifth", power: 32 };
+const FORM_2: Width = Width { most: 10, last: "tenth", power: 64 };
+
+/// The rule that the number at the head of these bytes breaks, so many standing before it. The form itself has the width of form 1.
+fn broken(before: usize, bytes: &[u8], a: u128, width: &Width) -> String {
+    let Width { most, last, power } = *width;
+    let number = match bytes.iter().take(most).position(|byte| *byte < 128) {
         Some(last) => &bytes[..=last],
-        None => return "the top bit is set on its fifth byte".to_string(),
+        None => return format!("the top bit is set on its {last} byte"),
     };
     let n = value(number);
     if number.len() > 1 && number.ends_with(&[0]) {
         return "it is not written in the fewest bytes".to_string();
     }
-    if n >= 1 << 32 {
-        return format!("it is {n}, and must be below 2^32");
+    if n >= 1 << power {
+        return format!("it is {n}, and must be below 2^{power}");
     }
     match before {
-        0 => format!("it is {n}, and must be 1"),
+        0 => format!("it is {n}, and must be 1 or 2"),
         1 | 2 => "it is 0, and must not be".to_string(),
         4 => format!("it is {n}, and must be above a, which is {a}"),
         _ => format!("it is {n}, and must be 1 to 1048576"),

@@ -1,109 +1,179 @@
-//! Films. Of a film in a file only the tables are read: the headers at top level and every moov. Answers and
-//! explanations follow from these and from the file's length alone, so that zeros are lent for all else. They are never
-//! touched, and a long film takes little time and memory.
+//! Films. Of a film only the headers at top level and its moov are read, whatever its length; every question is put by the moov alone. A film that is
+//! refused, and is no longer than a file may be that is lent whole, is explained as a whole file is: zeros are lent for what is not read of it.
 use crate::atoms;
-use crate::failure::Failure;
+use crate::explain::{explanation, explanation_alone};
+use crate::failure::{hint, Failure};
 use crate::input::{self, MOST_BYTES, STANDARD};
+use crate::progress::Progress;
+use crate::warnings::disagreements;
 use crate::zeros::zeros;
-use chaldoref::ByteRange;
+use chaldoref::{strict_refusal, ByteRange, FourCC, Moov, Movie, ReadError, Refusal, MAX_FILE_BYTES};
+use std::borrow::Cow;
 use std::ffi::OsStr;
 use std::fs::File;
-use std::io::{self, ErrorKind, Write};
+use std::io::{self, Cursor, ErrorKind, Read, Seek, Write};
 use std::os::unix::fs::FileExt;
 
-/// A film with more atoms at top level is read whole, rather than one header here and one there.
+/// A film with more atoms at top level is not explained, rather than read one header here and one there again.
 const MOST_ATOMS: usize = 65_536;
 
 /// A header with a 64-bit size.
 const LONGEST_HEADER: usize = 16;
 
-/// As many bytes as are copied at once.
+/// As many bytes are copied at once.
 const COPIED: usize = 1 << 16;
 
+/// The atom at top level that fragments have.
+const MOOF: FourCC = FourCC::from_bytes(*b"moof");
+
 pub struct Film {
-    /// As many as the file has.
-    bytes: Vec<u8>,
-    /// The file, where only the tables were read.
-    file: Option<File>,
+    /// Its moov, or why its top level is refused.
+    moov: Result<Moov, Refusal>,
+    has_moof: bool,
+    kept: Kept,
+}
+
+/// What the film's own bytes are copied from.
+enum Kept {
+    File(File),
+    /// Standard input, and what is no regular file.
+    Bytes(Vec<u8>),
 }
 
 impl Film {
-    /// Reads the tables of a film, or the whole of one that is unusual. An error in reading its tables is met again when
-    /// it is read whole, and told then.
+    /// Finds and reads the moov of a film.
     pub fn read(name: &OsStr) -> io::Result<Film> {
         let file = input::open(name)?;
-        let tables = if name == STANDARD { None } else { tables(&file) };
-        match tables {
-            Some(bytes) => Ok(Film { bytes, file: Some(file) }),
-            None => Ok(Film { bytes: input::all(file)?, file: None }),
+        let told = file.metadata()?;
+        // Files that the system makes up as they are read, such as those of /proc, have no length.
+        if name == STANDARD || !told.is_file() || told.len() == 0 {
+            return Film::of(input::all(file)?);
+        }
+        let (moov, has_moof) = moov_of(&file)?;
+        Ok(Film { moov, has_moof, kept: Kept::File(file) })
+    }
+
+    /// The film of these bytes, which are all of it, or one more than are accepted.
+    fn of(bytes: Vec<u8>) -> io::Result<Film> {
+        let (moov, has_moof) = if bytes.len() as u64 == MOST_BYTES {
+            (Err(Refusal::FileTooLong), false)
+        } else {
+            moov_of(Cursor::new(&bytes))?
+        };
+        Ok(Film { moov, has_moof, kept: Kept::Bytes(bytes) })
+    }
+
+    /// The movie, or the failure that says why there is none.
+    pub fn movie(&self) -> Result<Movie<'_>, Failure> {
+        match &self.moov {
+            Ok(moov) => Movie::open(moov).map_err(|refusal| self.refused(refusal)),
+            Err(refusal) => Err(self.refused(*refusal)),
         }
     }
 
-    /// Reads the whole file.
-    pub fn read_whole(name: &OsStr) -> io::Result<Film> {
-        Ok(Film { bytes: input::read(name)?, file: None })
+    /// The same for the slip writer, which reads strictly.
+    pub fn filed(&self) -> Result<Movie<'_>, Failure> {
+        match &self.moov {
+            Ok(moov) => Movie::open(moov).map_err(|refusal| self.refused(strict_refusal(moov).unwrap_or(refusal))),
+            Err(refusal) => Err(self.refused(*refusal)),
+        }
     }
 
-    /// What the library is lent.
-    pub fn bytes(&self) -> &[u8] {
-        &self.bytes
+    /// A slip that is not written, for the film's sake where it stores another duration than its samples total.
+    pub fn slip_refused(&self, movie: &Movie, failure: Failure) -> Failure {
+        match failure {
+            Failure::Refused(refusal @ Refusal::StoredDuration, _) => {
+                let words = disagreements(movie).collect::<Vec<_>>().join("; ");
+                Failure::Film(refusal, self.why(refusal), hint(&words))
+            }
+            other => other,
+        }
     }
 
-    pub fn into_bytes(self) -> Vec<u8> {
-        self.bytes
+    /// Whether the film has fragments, or says that it may have: a moof at top level, or an mvex in moov.
+    pub fn has_fragments(&self) -> bool {
+        self.has_moof || self.moov.as_ref().is_ok_and(|moov| atoms::has_fragments(&moov.bytes))
     }
 
     /// Writes parts of the film, one after the other, as they stand in the file. They lie within it: a film in which a
     /// chunk passes the end is refused 12.
     pub fn copy(&self, parts: &[ByteRange], out: &mut dyn Write) -> Result<(), Failure> {
-        match &self.file {
-            Some(file) => copy(file, parts, out),
-            None => parts.iter().try_for_each(|part| {
-                Ok(out.write_all(part.of(&self.bytes).expect("the ranges of a film lie within it"))?)
-            }),
+        let all = parts.iter().fold(0, |sum: u64, part| sum.saturating_add(part.length));
+        let mut progress = Progress::of(all);
+        let copied = match &self.kept {
+            Kept::File(file) => parts.iter().try_for_each(|part| copy(file, *part, out, &mut progress)),
+            Kept::Bytes(bytes) => parts
+                .iter()
+                .try_for_each(|part| Ok(out.write_all(part.of(bytes).expect("the ranges of a film lie within it"))?)),
+        };
+        progress.end();
+        copied
+    }
+
+    /// Refuses the film. Of a film with several moovs one may be wrong inside, which is judged first: that is told of the whole.
+    fn refused(&self, refusal: Refusal) -> Failure {
+        let whole = if self.moov.is_err() { self.whole() } else { None };
+        let refusal = whole.and_then(|film| Movie::open(&film[..]).err()).unwrap_or(refusal);
+        Failure::of_film(refusal, self.why(refusal))
+    }
+
+    /// Why the film is refused, if that is known.
+    fn why(&self, refusal: Refusal) -> Option<String> {
+        let whole = self.whole().and_then(|film| explanation(&film, refusal));
+        whole.or_else(|| explanation_alone(self.moov.as_ref().ok()?, refusal))
+    }
+
+    /// The film as it is lent whole; nothing where it is too long, or cannot be read.
+    fn whole(&self) -> Option<Cow<'_, [u8]>> {
+        match &self.kept {
+            Kept::File(file) => tables(file).map(Cow::Owned),
+            Kept::Bytes(bytes) => Some(Cow::Borrowed(bytes)),
         }
     }
 }
 
-/// As many bytes as the file has, of which the headers at top level and every moov are read; nothing where it is no
-/// regular file, or its top level is not as it should be.
-fn tables(file: &File) -> Option<Vec<u8>> {
-    let told = file.metadata().ok()?;
-    // Files that the system makes up as they are read, such as those of /proc, have no length.
-    if !told.is_file() || told.len() == 0 {
-        return None;
+/// The moov of a film, or why its top level is refused; and whether a moof stands there.
+fn moov_of(film: impl Read + Seek) -> io::Result<(Result<Moov, Refusal>, bool)> {
+    let mut has_moof = false;
+    match Moov::read_seeing(film, |kind, _| has_moof |= kind == MOOF) {
+        Ok(moov) => Ok((Ok(moov), has_moof)),
+        Err(ReadError::Refused(refusal)) => Ok((Err(refusal), has_moof)),
+        Err(ReadError::Io(error)) => Err(error),
+        Err(error) => Err(io::Error::other(error)),
     }
-    let length = told.len().min(MOST_BYTES);
-    let mut bytes = zeros(usize::try_from(length).ok()?).ok()?;
-    // It is refused for its length, whatever is in it.
-    if length == MOST_BYTES {
-        return Some(bytes);
-    }
-    read_atoms(file, &mut bytes)?;
-    Some(bytes)
 }
 
-fn read_atoms(file: &File, bytes: &mut [u8]) -> Option<()> {
+/// As many bytes as the file has, of which the headers at top level and every moov are read, as far as sizes lead; nothing where it is too long to be
+/// lent whole, or cannot be read.
+fn tables(file: &File) -> Option<Vec<u8>> {
+    let length = file.metadata().ok()?.len();
+    if length > MAX_FILE_BYTES {
+        return None;
+    }
+    let mut bytes = zeros(usize::try_from(length).ok()?).ok()?;
     let mut at = 0;
     for _ in 0..MOST_ATOMS {
-        at += read_atom(file, bytes, at)?;
-        if at == bytes.len() {
-            return Some(());
+        match read_atom(file, &mut bytes, at)? {
+            Some(size) => at += size,
+            None => return Some(bytes),
         }
     }
     None
 }
 
-/// Reads the header of the atom at a place, or the whole atom if it is a moov. Its size is answered.
-fn read_atom(file: &File, bytes: &mut [u8], at: usize) -> Option<usize> {
+/// Reads the header of the atom at a place, or the whole atom if it is a moov. Its size is answered, or that no atom begins there: then all that remains is
+/// read, which is little or of no film.
+fn read_atom(file: &File, bytes: &mut [u8], at: usize) -> Option<Option<usize>> {
     let rest = &mut bytes[at..];
     let header = rest.len().min(LONGEST_HEADER);
     fill(file, at, &mut rest[..header])?;
-    let (_, size) = atoms::extent(rest, true)?;
+    let Some((_, size)) = atoms::extent(rest, true) else {
+        return Some(None);
+    };
     if rest[4..8] == *b"moov" {
         fill(file, at, &mut rest[..size])?;
     }
-    Some(size)
+    Some(Some(size))
 }
 
 /// Fills the room with the file's bytes from a place on.
@@ -111,23 +181,22 @@ fn fill(file: &File, at: usize, room: &mut [u8]) -> Option<()> {
     file.read_exact_at(room, u64::try_from(at).ok()?).ok()
 }
 
-fn copy(file: &File, parts: &[ByteRange], out: &mut dyn Write) -> Result<(), Failure> {
+fn copy(file: &File, part: ByteRange, out: &mut dyn Write, progress: &mut Progress) -> Result<(), Failure> {
     let mut room = [0; COPIED];
-    for part in parts {
-        let mut at = u64::from(part.offset);
-        let mut left = part.length as usize;
-        while left > 0 {
-            let some = &mut room[..left.min(COPIED)];
-            file.read_exact_at(some, at).map_err(|error| Failure::Input(not_copied(error)))?;
-            out.write_all(some)?;
-            at += some.len() as u64;
-            left -= some.len();
-        }
+    let (mut at, mut left) = (part.offset, part.length);
+    while left > 0 {
+        let some = &mut room[..usize::try_from(left).map_or(COPIED, |left| left.min(COPIED))];
+        file.read_exact_at(some, at).map_err(|error| Failure::Input(not_copied(error)))?;
+        out.write_all(some)?;
+        let count = some.len() as u64;
+        at += count;
+        left -= count;
+        progress.add(count);
     }
     Ok(())
 }
 
-/// The bytes were there when the tables were read.
+/// The bytes were there when the moov was read.
 fn not_copied(error: io::Error) -> io::Error {
     match error.kind() {
         ErrorKind::UnexpectedEof => io::Error::new(ErrorKind::UnexpectedEof, "it became shorter while it was read"),
@@ -138,12 +207,11 @@ fn not_copied(error: io::Error) -> io::Error {
 #[cfg(test)]
 mod tests {
     use super::*;
-    use crate::atoms::{extent, has_ctts, has_fragments};
-    use chaldoref::{strict_refusal, Feature, MediaTime, Movie, MovieTime, Track};
-    use reference::film::{atom, file, raw, w, w_movie, Node, Size};
+    use crate::atoms::{extent, has_ctts};
+    use chaldoref::{Feature, MediaTime, MovieTime, Track};
+    use reference::film::{atom, file, w, w_movie, Node, Size};
     use reference::made::moov_last;
     use reference::maker::{self, Random};
-    use reference::movie::{explain, explain_strictly};
     use std::fs;
     use std::path::PathBuf;
 
@@ -176,19 +244,34 @@ mod tests {
             (0..=track.samples.min(9) + 1).map(|n| (movie.sample(id, n), movie.sample_range(id, n))).collect();
         let times = [0, 1, track.total.0 / 2, track.total.0];
         let at = times.map(|t| (movie.sample_at(id, MediaTime(t)), movie.media_time(id, MovieTime(t))));
-        let stretch = (movie.stretch(id, whole.clone()), movie.write_slip(id, whole), has_ctts(movie.file(), id.0));
+        let ctts = has_ctts(movie.film().lent(), id.0);
+        let stretch = (movie.stretch(id, whole.clone()), movie.write_slip(id, whole), ctts);
         let features: Vec<_> = Feature::ALL.iter().map(|of| (movie.feature(id, *of), movie.peak(id, *of))).collect();
         format!("{track:?} {samples:?} {at:?} {stretch:?} {features:?} {:?}", movie.profile(id))
     }
 
-    /// What the program says of a film that is lent to the library and to the reference.
-    fn said(film: &[u8]) -> String {
-        let refused = (strict_refusal(film), explain(film), explain_strictly(film));
-        let answers = Movie::open(film).map(|movie| {
-            let tracks: Vec<_> = movie.tracks().iter().map(|track| said_of(&movie, track)).collect();
-            (tracks, movie.movie_profile(), has_fragments(film))
-        });
-        format!("{refused:?} {answers:?}")
+    fn answers(movie: &Movie) -> String {
+        let tracks: Vec<_> = movie.tracks().iter().map(|track| said_of(movie, track)).collect();
+        format!("{tracks:?} {:?} {:?}", movie.movie_profile(), movie.header())
+    }
+
+    fn failed(failure: Failure) -> String {
+        failure.message("x")
+    }
+
+    /// What the program says of a film.
+    fn said(film: &Film) -> [String; 2] {
+        let movie = film.movie().map_or_else(failed, |movie| answers(&movie));
+        let filed = film.filed().map_or_else(failed, |movie| answers(&movie));
+        [movie, filed]
+    }
+
+    /// The same where all of it is lent.
+    fn said_of_whole(film: &[u8]) -> [String; 2] {
+        let refused = |refusal| failed(Failure::of_film(refusal, explanation(film, refusal)));
+        let movie = || Movie::open(film);
+        let strictly = |refusal| refused(strict_refusal(film).unwrap_or(refusal));
+        [movie().map_or_else(refused, |movie| answers(&movie)), movie().map_or_else(strictly, |movie| answers(&movie))]
     }
 
     /// Where the atoms at top level begin and end, as far as sizes lead.
@@ -249,34 +332,34 @@ mod tests {
         film
     }
 
-    /// Of films from a seed the library and the reference say the same, whether they are lent the tables or the whole.
+    /// A co64 is an atom that is skipped in a whole file, and a table where the moov is lent alone.
+    fn has_co64(film: &[u8]) -> bool {
+        film.windows(4).any(|kind| kind == b"co64")
+    }
+
+    /// Of films from a seed the moov alone gives the answers, refusals and explanations of the whole.
     #[test]
-    fn the_tables_alone_give_the_same_answers() {
-        let (mut by_tables, mut whole_ones, mut left_out) = ([0; 20], [0; 20], 0);
+    fn the_moov_alone_gives_the_same_answers() {
+        let mut refused = [0; 20];
         for n in 0..2500 {
             let whole = any_film(n);
+            if has_co64(&whole) {
+                continue;
+            }
             let film = Stored::new("seed", &whole).film();
-            assert_eq!(said(film.bytes()), said(&whole), "film {n}");
-            let differing = film.bytes().iter().zip(&whole).filter(|(read, byte)| read != byte);
-            assert!(differing.clone().all(|(read, _)| *read == 0), "film {n}");
-            left_out += differing.count();
-            let refused = Movie::open(&whole).err().map_or(0, |refusal| refusal.number());
-            // Nothing is read whole but what is refused for its top level, and files that are empty.
-            assert!(film.file.is_some() || refused == 2 || whole.is_empty(), "film {n}");
-            let counts = if film.file.is_some() { &mut by_tables } else { &mut whole_ones };
-            counts[refused as usize] += 1;
+            assert_eq!(said(&film), said_of_whole(&whole), "film {n}");
+            refused[Movie::open(&whole).err().map_or(0, |refusal| refusal.number()) as usize] += 1;
         }
-        assert!(whole_ones[2] > 500, "{whole_ones:?}");
-        assert!(by_tables[0] > 500 && by_tables[2] > 100 && by_tables[3] > 200, "{by_tables:?}");
-        assert!([4, 5, 6, 7, 8, 9, 10, 12, 13, 19].iter().all(|n| by_tables[*n] > 0), "{by_tables:?}");
-        assert!(left_out > 100_000, "{left_out}");
+        assert!(refused[0] > 400 && refused[2] > 500 && refused[3] > 150, "{refused:?}");
+        assert!([4, 5, 6, 7, 8, 9, 10, 12, 13, 19].iter().all(|n| refused[*n] > 0), "{refused:?}");
     }
 
     fn with_size(size: Size, node: Node) -> Node {
         Node { size, ..node }
     }
 
-    /// The film of these atoms is read by its tables: of those of these numbers, counted from 0, nothing past the header.
+    /// Of the film of these atoms the headers and every moov are lent, where it is lent whole: of those of these numbers, counted from 0, nothing past the
+    /// header.
     #[track_caller]
     fn leaves_out(atoms: &[Node], unread: &[usize]) {
         let mut bytes = file(atoms.to_vec()).bytes();
@@ -285,7 +368,7 @@ mod tests {
         for (begin, end) in unread.iter().map(|n| places[*n]) {
             bytes[begin + LONGEST_HEADER..end].fill(0);
         }
-        assert!(film.file.is_some() && film.bytes() == bytes);
+        assert!(film.whole().unwrap() == bytes);
     }
 
     #[test]
@@ -305,46 +388,36 @@ mod tests {
     }
 
     #[test]
-    fn what_is_unusual_at_top_level_is_read_whole() {
-        let mdat = atom("mdat", &[7; 40]);
-        let last = |node: Node| vec![w_movie().moov(), mdat.clone(), node];
-        for (name, atoms) in [
-            ("too-small", last(with_size(Size::Says(7), mdat.clone()))),
-            ("past-the-end", last(with_size(Size::Says(49), mdat.clone()))),
-            ("wide-too-small", last(with_size(Size::WideSays(15), mdat.clone()))),
-            ("wide-past-the-end", last(with_size(Size::WideSays(1 << 63), mdat.clone()))),
-            ("wide-without-room", last(with_size(Size::Says(1), atom("mdat", &[7; 7])))),
-            ("bytes-over", last(raw(&[0; 7]))),
-            ("empty", vec![]),
-            ("text", vec![raw(b"This is no film, but some text.\n")]),
-        ] {
-            let bytes = file(atoms).bytes();
-            let film = Stored::new(name, &bytes).film();
-            assert!(film.file.is_none() && film.bytes() == bytes, "{name}");
-        }
+    fn many_atoms_at_top_level() {
+        let mut bytes = w().bytes();
+        bytes.extend(atom("free", &[]).bytes().repeat(MOST_ATOMS + 1));
+        let film = Stored::new("many-atoms", &bytes).film();
+        assert!(film.movie().is_ok() && film.whole().is_none());
+        bytes.extend(w_movie().moov().bytes());
+        let film = Stored::new("two-moovs", &bytes).film();
+        assert!(matches!(film.movie(), Err(Failure::Film(Refusal::AtomCount, None, _))));
     }
 
     #[test]
-    fn many_atoms_at_top_level() {
-        let mut bytes = w().bytes();
-        let few = top_level(&bytes).len();
-        bytes.extend(atom("free", &[]).bytes().repeat(MOST_ATOMS - few));
-        let most = Stored::new("most-atoms", &bytes).film();
-        assert!(most.file.is_some() && Movie::open(most.bytes()).is_ok());
-        bytes.extend(atom("free", &[]).bytes());
-        let more = Stored::new("more-atoms", &bytes).film();
-        assert!(more.file.is_none() && more.bytes() == bytes);
+    fn fragments_are_seen_at_top_level() {
+        let film = |atoms: &[Node]| Stored::new("fragments", &file(atoms.to_vec()).bytes()).film();
+        let (moov, moof) = (w_movie().moov(), atom("moof", &[0; 8]));
+        assert!(!film(&[moov.clone()]).has_fragments());
+        assert!(film(&[moof.clone(), moov.clone()]).has_fragments() && film(&[moov.clone(), moof]).has_fragments());
+        let mut with_mvex = moov;
+        with_mvex.children.push(atom("mvex", &[]));
+        assert!(film(&[with_mvex]).has_fragments());
     }
 
     /// Linux tells no length of its own files.
     #[test]
     fn a_file_without_a_length_is_read_whole() {
         let film = Film::read(OsStr::new("/proc/version")).unwrap();
-        assert_eq!(film.bytes(), fs::read("/proc/version").unwrap());
-        assert!(film.file.is_none() && !film.bytes().is_empty());
+        assert!(matches!(&film.kept, Kept::Bytes(bytes) if *bytes == fs::read("/proc/version").unwrap()));
+        assert!(film.movie().is_err());
     }
 
-    fn copied(film: &Film, parts: &[(u32, u32)]) -> Result<Vec<u8>, String> {
+    fn copied(film: &Film, parts: &[(u64, u64)]) -> Result<Vec<u8>, String> {
         let parts: Vec<_> =
             parts.iter().map(|(offset, length)| ByteRange { offset: *offset, length: *length }).collect();
         let mut out = Vec::new();
@@ -353,20 +426,19 @@ mod tests {
 
     #[test]
     fn parts_are_copied_from_the_file() {
-        let long = 2 * COPIED as u32 + 100;
+        let long = 2 * COPIED as u64 + 100;
         let bytes = w_movie().file_of(long as usize + 1000).bytes();
         let stored = Stored::new("copied", &bytes);
-        let (tables, whole) = (stored.film(), Film::read_whole(stored.0.as_os_str()).unwrap());
-        assert!(tables.file.is_some() && tables.bytes() != bytes);
+        let (from_file, from_bytes) = (stored.film(), Film::of(bytes.clone()).unwrap());
         for parts in [&[][..], &[(0, 0)], &[(900, long)], &[(1000, 150), (900, 70), (long + 1000, 0)], &[(0, 600)]] {
             let expected: Vec<u8> =
                 parts.iter().flat_map(|(at, length)| bytes[*at as usize..][..*length as usize].to_vec()).collect();
-            assert_eq!(copied(&tables, parts), Ok(expected.clone()));
-            assert_eq!(copied(&whole, parts), Ok(expected));
+            assert_eq!(copied(&from_file, parts), Ok(expected.clone()));
+            assert_eq!(copied(&from_bytes, parts), Ok(expected));
         }
         // The file is the one that was opened, whatever has its name now.
         fs::remove_file(&stored.0).unwrap();
-        assert_eq!(copied(&tables, &[(1000, 150)]).unwrap(), bytes[1000..1150]);
+        assert_eq!(copied(&from_file, &[(1000, 150)]).unwrap(), bytes[1000..1150]);
     }
 
     #[test]
@@ -397,16 +469,29 @@ mod tests {
 
     #[test]
     fn long_films_take_little_memory() {
-        let film = long_film("long", 1_900_000_000).film();
-        assert!(film.file.is_some());
-        assert_eq!(said(film.bytes()), said(&w().bytes()));
-        assert!(copied(&film, &[(1_899_000_000, 1_000_000)]).unwrap().ends_with(&w_movie().moov().bytes()));
-        let longest = long_film("longest", 2_147_483_647).film();
-        assert!(longest.file.is_some() && Movie::open(longest.bytes()).is_ok());
-        let longer = long_film("longer", 5_000_000_000).film();
-        assert!(longer.bytes().len() as u64 == MOST_BYTES);
-        assert_eq!(Movie::open(longer.bytes()).err().map(|refusal| refusal.number()), Some(1));
-        assert_eq!(explain(longer.bytes()).map(|(number, _)| number), Some(1));
-        assert!(most_memory() < 300_000, "{} kB", most_memory());
+        let before = most_memory();
+        for (name, length) in [("long", 1_900_000_000), ("longest", 2_147_483_648), ("100-gb", 100_000_000_000)] {
+            let film = long_film(name, length).film();
+            assert_eq!(said(&film), said_of_whole(&w().bytes()), "{name}");
+            let moov = w_movie().moov().bytes();
+            assert_eq!(copied(&film, &[(length - moov.len() as u64, moov.len() as u64)]).unwrap(), moov);
+        }
+        // Other tests run beside this one.
+        assert!(most_memory() < before + 300_000, "{} kB", most_memory());
+    }
+
+    #[test]
+    fn a_long_film_that_is_refused_is_explained_by_its_moov() {
+        let stored = long_film("refused", 3_000_000_000);
+        let moov = w_movie().moov().bytes();
+        let place = 3_000_000_000 - moov.len() as u64;
+        // The number of entries of stts, which is the first of its tables.
+        let stts = moov.windows(4).position(|kind| kind == b"stts").unwrap();
+        File::options().write(true).open(&stored.0).unwrap().write_all_at(&[1], place + stts as u64 + 4).unwrap();
+        let Err(Failure::Film(Refusal::LeafVersion, Some(why), _)) = stored.film().movie() else {
+            panic!("not refused 4 with an explanation");
+        };
+        let end = format!("(places are counted from the moov, which is at byte {place})");
+        assert!(why.contains("stts at byte") && why.ends_with(&end), "{why}");
     }
 }

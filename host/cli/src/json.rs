@@ -123,9 +123,10 @@ impl Object<'_> {
     }
 
     /// A time in units of a scale, and after it the same in seconds.
-    pub fn time(&mut self, key: &str, units: impl Into<i64>, scale: u32) -> io::Result<&mut Self> {
+    pub fn time(&mut self, key: &str, units: impl Into<i128>, scale: impl Into<u64>) -> io::Result<&mut Self> {
         let units = units.into();
-        self.put(key, units)?.put(&seconds_key(key), Value::Seconds(units as f64 / f64::from(scale)))
+        let seconds = Value::Seconds(units as f64 / scale.into() as f64);
+        self.put(key, Value::Number(units))?.put(&seconds_key(key), seconds)
     }
 
     /// A time that is not there.
@@ -222,8 +223,8 @@ mod tests {
     #[test]
     fn times_have_seconds() {
         let all = written(|o| {
-            o.time("a", 24u32, 600)?.time("b", -7i64, 600)?.time("c", u32::MAX, 1)?.no_time("d")?;
-            o.time("e", 1u32, u32::MAX)?.time("f", 0u32, 3).map(drop)
+            o.time("a", 24u32, 600u32)?.time("b", -7i64, 600u32)?.time("c", u32::MAX, 1u32)?.no_time("d")?;
+            o.time("e", 1u32, u32::MAX)?.time("f", 0u32, 3u32).map(drop)
         });
         assert_eq!(
             all,

@@ -17,6 +17,7 @@ mod help;
 mod input;
 mod json;
 mod output;
+mod progress;
 mod suggest;
 mod syntax;
 mod table;

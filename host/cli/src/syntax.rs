@@ -26,7 +26,7 @@ pub const OUT: Opt = Opt { flag: "-o", value: Some("OUT"), about: "write raw byt
 /// What stands in the place of a command and asks no film.
 pub const HELPERS: [&str; 2] = ["completion", "help"];
 
-pub static COMMANDS: [Command; 10] = [
+pub static COMMANDS: [Command; 11] = [
     Command {
         name: "tracks",
         operands: &["FILE..."],
@@ -54,6 +54,13 @@ pub static COMMANDS: [Command; 10] = [
         options: &[&JSON],
         about: "the media time that a track shows at a movie time",
         ask: |words| Ok(Ask::Map { track: words.track(1)?, time: words.movie_time(2)? }),
+    },
+    Command {
+        name: "edits",
+        operands: &["FILE", "TRACK"],
+        options: &[&JSON],
+        about: "the edit list of a track, in movie time and in media time",
+        ask: |words| Ok(Ask::Edits { track: words.track(1)? }),
     },
     Command {
         name: "stretch",

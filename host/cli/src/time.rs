@@ -1,6 +1,6 @@
 //! Times as people write them and as they are shown to them. Both ways are computed in whole numbers, and rounded down.
 use crate::failure::{hint, Failure};
-use chaldoref::{MediaTime, Movie, Refusal, Track, TrackId};
+use chaldoref::{MediaTime, Movie, MovieTime, Refusal, Track, TrackId};
 use std::ops::Range;
 
 const MILLISECONDS: u64 = 1000;
@@ -154,10 +154,21 @@ fn units(whole: u64, fraction: &str, scale: u32) -> Option<MediaTime> {
 
 /// A time as hours, minutes, seconds and milliseconds. No accepted movie or slip has scale 0.
 pub fn clock(time: MediaTime, scale: u32) -> String {
-    let all = u64::from(time.0) * MILLISECONDS / u64::from(scale);
-    let (seconds, milliseconds) = (all / MILLISECONDS, all % MILLISECONDS);
-    let (minutes, seconds) = (seconds / SECONDS_A_MINUTE, seconds % SECONDS_A_MINUTE);
-    let (hours, minutes) = (minutes / MINUTES_AN_HOUR, minutes % MINUTES_AN_HOUR);
+    clock_of(time.0.into(), scale.into())
+}
+
+/// The same of a movie time.
+pub fn movie_clock(time: MovieTime, scale: u32) -> String {
+    clock_of(time.0.into(), scale.into())
+}
+
+/// The same of numbers of 64 bits, which a slip of form 2 may have.
+pub fn clock_of(time: u64, scale: u64) -> String {
+    let all = u128::from(time) * u128::from(MILLISECONDS) / u128::from(scale);
+    let [thousand, minute, hour] = [MILLISECONDS, SECONDS_A_MINUTE, MINUTES_AN_HOUR].map(u128::from);
+    let (seconds, milliseconds) = (all / thousand, all % thousand);
+    let (minutes, seconds) = (seconds / minute, seconds % minute);
+    let (hours, minutes) = (minutes / hour, minutes % hour);
     format!("{hours:02}:{minutes:02}:{seconds:02}.{milliseconds:03}")
 }
 

@@ -1,12 +1,13 @@
 //! What an answer does not say of a film. A warning changes neither the answer nor the exit status.
 use crate::atoms;
+use crate::film::Film;
 use chaldoref::{Movie, Track, TrackId};
 use std::io::{self, Write};
 
 /// Of a film whose tracks are listed.
-pub fn of_tracks(movie: &Movie) -> Vec<String> {
+pub fn of_tracks(film: &Film, movie: &Movie) -> Vec<String> {
     let mut warnings = Vec::new();
-    if atoms::has_fragments(movie.file()) {
+    if film.has_fragments() {
         warnings.push("the film is fragmented: samples in moof atoms are not read, and are not counted here".into());
     }
     warnings.extend(disagreements(movie).map(|words| format!("{words}: no slip can be written of this film")));
@@ -21,8 +22,8 @@ pub fn disagreements<'m>(movie: &'m Movie) -> impl Iterator<Item = String> + 'm 
 }
 
 /// Of a stretch of a track.
-pub fn of_stretch(file: &[u8], track: TrackId) -> Vec<String> {
-    if !atoms::has_ctts(file, track.0) {
+pub fn of_stretch(movie: &Movie, track: TrackId) -> Vec<String> {
+    if !atoms::has_ctts(movie.film().lent(), track.0) {
         return Vec::new();
     }
     vec![format!("track {track} has a ctts: a stretch is of decode time, and what is shown in that time may differ")]

@@ -1,7 +1,7 @@
 //! A question with the lengths of what is lent for it: what the reference expects, and whether the library does just that.
 use crate::lent::Lent;
 use crate::library::{ask, Lending};
-use crate::question::{Answer, Answered, Question};
+use crate::question::{Answer, Answered, Question, Way};
 use reference::maker::Random;
 
 const NO_ROOM: u32 = 16;
@@ -71,6 +71,7 @@ pub fn expected(question: Question, answer: &Answered, lengths: Lengths) -> (u32
 #[derive(Debug)]
 pub struct Difference {
     pub question: Question,
+    pub way: Way,
     pub lengths: Lengths,
     pub library: String,
     pub reference: String,
@@ -79,8 +80,8 @@ pub struct Difference {
 
 impl std::fmt::Display for Difference {
     fn fmt(&self, f: &mut std::fmt::Formatter) -> std::fmt::Result {
-        let Difference { question, lengths: Lengths { room, places, .. }, library, reference, fault } = self;
-        writeln!(f, "question: {question:?} with room {room} and {places} places")?;
+        let Difference { question, way, lengths: Lengths { room, places, .. }, library, reference, fault } = self;
+        writeln!(f, "question: {question:?}, way {way:?}, with room {room} and {places} places")?;
         writeln!(f, "library: {library}\nreference: {reference}")?;
         write!(f, "{fault}")
     }
@@ -92,49 +93,71 @@ fn shown<T: std::fmt::Debug>(list: &[T]) -> String {
     format!("{:?}{dots} ({})", &list[..list.len().min(16)], list.len())
 }
 
-fn lending(question: Question, lengths: Lengths) -> Lending {
+fn lending(question: Question, way: Way, lengths: Lengths) -> Lending {
     let (numbers, bytes) = match question {
         Question::WriteSlip { .. } => (0, lengths.room),
-        Question::TrackList | Question::Stretch { .. } | Question::Profile { .. } | Question::ReadSlip => {
-            (lengths.room, 0)
-        }
+        Question::TrackList
+        | Question::Stretch { .. }
+        | Question::Profile { .. }
+        | Question::ReadSlip
+        | Question::ReadAnySlip => (lengths.room, 0),
         _ => (0, 0),
     };
+    let (narrow, wide) = if question.is_wide(way) { (0, numbers) } else { (numbers, 0) };
     Lending {
-        numbers: Lent::new(numbers, lengths.pattern),
+        numbers: Lent::new(narrow, lengths.pattern),
+        wide: Lent::new(wide, lengths.pattern ^ 3),
         bytes: Lent::new(bytes, lengths.pattern ^ 1),
         places: Lent::new(lengths.places, lengths.pattern ^ 2),
     }
 }
 
+/// "Lists go to lent 32-bit numbers", but "Sample offsets and pairs are 64-bit there": what goes to each.
+fn lists(question: Question, way: Way, numbers: &[u64]) -> (Vec<u32>, Vec<u64>) {
+    if question.is_wide(way) {
+        return (Vec::new(), numbers.to_vec());
+    }
+    (numbers.iter().map(|n| u32::try_from(*n).unwrap()).collect(), Vec::new())
+}
+
 /// What is wrong with the library's number and with what it wrote, if anything is.
-fn fault(found: u32, lent: &Lending, number: u32, written: &Answer) -> Option<String> {
+fn fault(
+    (question, way): (Question, Way),
+    found: u32,
+    lent: &Lending,
+    number: u32,
+    written: &Answer,
+) -> Option<String> {
     if found != number {
         return Some(format!("the result is {found}, should be {number}"));
     }
+    let (narrow, wide) = lists(question, way, &written.numbers);
     let of = |what: &str, fault: Option<String>| fault.map(|fault| format!("{what}: {fault}"));
     of("places", lent.places.fault(&written.places))
-        .or_else(|| of("numbers", lent.numbers.fault(&written.numbers)))
+        .or_else(|| of("numbers", lent.numbers.fault(&narrow)))
+        .or_else(|| of("numbers of 64 bits", lent.wide.fault(&wide)))
         .or_else(|| of("bytes", lent.bytes.fault(&written.bytes)))
 }
 
 /// Asks the library with lent memory of those lengths. Answers what was lent and the number, or how it differs from what the reference says.
 pub fn compare(
-    file: &[u8],
+    film: (&[u8], Way),
     question: Question,
     answer: &Answered,
     lengths: Lengths,
 ) -> Result<(u32, Lending), Box<Difference>> {
+    let (bytes, way) = film;
     let (number, written) = expected(question, answer, lengths);
-    let mut lent = lending(question, lengths);
-    let found = ask(file, question, &mut lent);
-    let Some(fault) = fault(found, &lent, number, &written) else {
+    let mut lent = lending(question, way, lengths);
+    let found = ask(bytes, way, question, &mut lent);
+    let Some(fault) = fault((question, way), found, &lent, number, &written) else {
         return Ok((number, lent));
     };
-    let said = |number: u32, places: &[u64], numbers: &[u32], bytes: &[u8]| {
-        format!("{number}, places {}, numbers {}, bytes {}", shown(places), shown(numbers), shown(bytes))
+    let said = |number: u32, places: &[u64], numbers: String, bytes: &[u8]| {
+        format!("{number}, places {}, numbers {numbers}, bytes {}", shown(places), shown(bytes))
     };
-    let library = said(found, lent.places.elements(), lent.numbers.elements(), lent.bytes.elements());
-    let reference = said(number, &written.places, &written.numbers, &written.bytes);
-    Err(Box::new(Difference { question, lengths, library, reference, fault }))
+    let numbers = if question.is_wide(way) { shown(lent.wide.elements()) } else { shown(lent.numbers.elements()) };
+    let library = said(found, lent.places.elements(), numbers, lent.bytes.elements());
+    let reference = said(number, &written.places, shown(&written.numbers), &written.bytes);
+    Err(Box::new(Difference { question, way, lengths, library, reference, fault }))
 }

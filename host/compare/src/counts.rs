@@ -1,23 +1,31 @@
 //! How often each refusal was met, by which question.
 use crate::faults::FAULTS;
-use crate::question::KINDS;
+use crate::question::{Way, KINDS};
 use std::fmt::Write;
 
 /// Refusals are numbered from 1 to 19; 0 is an answer.
 const NUMBERS: usize = 20;
 
+/// The two ways in, in the order of `way_of`.
+const WAYS: [&str; 2] = ["whole files", "moovs alone"];
+
+fn way_of(way: Way) -> usize {
+    usize::from(way != Way::Whole)
+}
+
 #[derive(Default)]
 pub struct Counts {
-    questions: [[u64; KINDS.len()]; NUMBERS],
-    /// Films by the number with which the file is refused by default.
-    films: [u64; NUMBERS],
+    questions: [[u64; NUMBERS]; KINDS.len()],
+    /// Films of each way by the number with which they are refused by default.
+    films: [[u64; NUMBERS]; WAYS.len()],
     /// Those of them that are refused 11 where strict reading is asked for.
-    strict: [u64; NUMBERS],
+    strict: [[u64; NUMBERS]; WAYS.len()],
     /// Of these, the questions that were answered.
     accepted: [u64; KINDS.len()],
-    slips: u64,
-    /// Malformed slips by what is at fault.
-    faults: [u64; FAULTS.len()],
+    /// Slips that begin with form 2, and others.
+    slips: [u64; 2],
+    /// Malformed slips of the two kinds by what is at fault.
+    faults: [[u64; FAULTS.len()]; 2],
 }
 
 /// Whether a file can be refused with that number by default; 0 is accepted.
@@ -32,10 +40,12 @@ fn is_of_slip(kind: &str) -> bool {
 
 /// Whether include/chaldoref.h names that number for that question.
 fn can_meet(number: usize, kind: &str) -> bool {
+    let kind = kind.strip_prefix("moov_").unwrap_or(kind);
+    let reads = ["read_slip", "read_any_slip"].contains(&kind);
     match number {
         0 | 16 => true,
-        17 => kind == "read_slip",
-        _ if kind == "read_slip" => false,
+        17 => reads,
+        _ if reads => false,
         11 => kind == "write_slip",
         14 => kind != "track_list",
         15 => !["track_list", "profile", "feature", "peak"].contains(&kind),
@@ -49,10 +59,10 @@ const AFTER_11: [usize; 4] = [0, 19, 12, 13];
 
 impl Counts {
     /// A film, by the numbers with which it is refused by default and strictly.
-    pub fn film(&mut self, number: u32, strict: u32) {
-        let number = usize::try_from(number).unwrap();
-        self.films[number] += 1;
-        self.strict[number] += u64::from(strict == 11);
+    pub fn film(&mut self, way: Way, number: u32, strict: u32) {
+        let (way, number) = (way_of(way), usize::try_from(number).unwrap());
+        self.films[way][number] += 1;
+        self.strict[way][number] += u64::from(strict == 11);
     }
 
     /// A question of a film that only strict reading refuses, or refuses with another number.
@@ -61,66 +71,79 @@ impl Counts {
     }
 
     /// A slip, and the kind of its first fault if it is malformed.
-    pub fn slip(&mut self, fault: Option<usize>) {
-        self.slips += 1;
+    pub fn slip(&mut self, slip: &[u8], fault: Option<usize>) {
+        let form = usize::from(slip.first() == Some(&2));
+        self.slips[form] += 1;
         if let Some(kind) = fault {
-            self.faults[kind] += 1;
+            self.faults[form][kind] += 1;
         }
     }
 
     pub fn question(&mut self, kind: usize, number: u32) {
-        self.questions[usize::try_from(number).unwrap()][kind] += 1;
+        self.questions[kind][usize::try_from(number).unwrap()] += 1;
     }
 
     pub fn films(&self) -> u64 {
-        self.films.iter().sum()
+        self.films.iter().flatten().sum()
     }
 
     pub fn questions(&self) -> u64 {
         self.questions.iter().flatten().sum()
     }
 
-    /// A line for each number, a column for each question; a dash where the question never gives that number.
-    pub fn table(&self) -> String {
-        let mut text = format!("{:>3} {:>9} {:>10}", "", "films", "questions");
-        for kind in KINDS {
-            write!(text, " {kind:>12}").unwrap();
-        }
-        for (number, row) in self.questions.iter().enumerate() {
-            let films = if is_of_film(number) { self.films[number].to_string() } else { "-".to_string() };
-            write!(text, "\n{number:>3} {films:>9} {:>10}", row.iter().sum::<u64>()).unwrap();
-            for (kind, count) in KINDS.iter().zip(row) {
-                let shown = if can_meet(number, kind) { count.to_string() } else { "-".to_string() };
-                write!(text, " {shown:>12}").unwrap();
-            }
-        }
-        write!(text, "\nall {:>9} {:>10}", self.films(), self.questions()).unwrap();
-        for kind in 0..KINDS.len() {
-            write!(text, " {:>12}", self.questions.iter().map(|row| row[kind]).sum::<u64>()).unwrap();
+    /// A line of counts under a name; a dash where a number is never given.
+    fn line(name: &str, row: &[u64; NUMBERS], is_given: impl Fn(usize) -> bool) -> String {
+        let mut text = format!("{name:<16} {:>10}", row.iter().sum::<u64>());
+        for (number, count) in row.iter().enumerate() {
+            let shown = if is_given(number) { count.to_string() } else { "-".to_string() };
+            write!(text, " {shown:>8}").unwrap();
         }
         text + "\n"
     }
 
+    /// A line for each way's films and for each function, a column for each number.
+    pub fn table(&self) -> String {
+        let mut text = format!("{:<16} {:>10}", "", "all");
+        for number in 0..NUMBERS {
+            write!(text, " {number:>8}").unwrap();
+        }
+        text += "\n";
+        for (way, row) in WAYS.iter().zip(&self.films) {
+            text += &Counts::line(way, row, is_of_film);
+        }
+        for (kind, row) in KINDS.iter().zip(&self.questions) {
+            text += &Counts::line(kind, row, |number| can_meet(number, kind));
+        }
+        text
+    }
+
     /// How many films are refused 11 strictly, by what they are refused by default.
     pub fn strict_line(&self) -> String {
-        let [accepted, elsewhere, past_end, edits] = AFTER_11.map(|number| self.strict[number]);
-        format!(
-            "refused 11 strictly, by default accepted {accepted}, refused 19 {elsewhere}, refused 12 {past_end}, refused 13 {edits}"
-        )
+        let line = |(way, strict): (&&str, &[u64; NUMBERS])| {
+            let [accepted, elsewhere, past_end, edits] = AFTER_11.map(|number| strict[number]);
+            format!(
+                "{way} refused 11 strictly: by default accepted {accepted}, refused 19 {elsewhere}, refused 12 {past_end}, refused 13 {edits}"
+            )
+        };
+        WAYS.iter().zip(&self.strict).map(line).collect::<Vec<_>>().join("\n")
     }
 
     /// How many slips were read, and how many of them were malformed where.
     pub fn slip_lines(&self) -> String {
-        let faults: Vec<String> =
-            FAULTS.iter().zip(self.faults).map(|(name, count)| format!("{name} {count}")).collect();
-        format!("slips read: {}\nmalformed at: {}", self.slips, faults.join(", "))
+        let line = |form: usize| {
+            let faults: Vec<String> =
+                FAULTS.iter().zip(self.faults[form]).map(|(name, count)| format!("{name} {count}")).collect();
+            let of = ["slips read that do not begin with form 2", "slips read that do"][form];
+            format!("{of}: {}; malformed at: {}", self.slips[form], faults.join(", "))
+        };
+        [line(0), line(1)].join("\n")
     }
 
     /// A sentence for each number that a question can give and was never met, so that it was not compared; and for each given that can't be.
     pub fn complaints(&self) -> Vec<String> {
         let mut all = Vec::new();
-        for (number, row) in self.questions.iter().enumerate() {
-            for (kind, count) in KINDS.iter().zip(row) {
+        for (kind, row) in KINDS.iter().zip(&self.questions) {
+            for (number, count) in row.iter().enumerate() {
                 match (can_meet(number, kind), *count) {
                     (true, 0) => all.push(format!("{kind} never met {number}")),
                     (false, 1..) => all.push(format!("{kind} met {number}, which it never gives")),
@@ -128,14 +151,19 @@ impl Counts {
                 }
             }
         }
-        let never = (0..NUMBERS).filter(|number| is_of_film(*number) && self.films[*number] == 0);
-        all.extend(never.map(|number| format!("no film was refused {number}")));
-        let never = AFTER_11.iter().filter(|number| self.strict[**number] == 0);
-        all.extend(never.map(|number| format!("no film was refused 11 strictly and {number} by default")));
+        for (way, name) in WAYS.iter().enumerate() {
+            let never = (0..NUMBERS).filter(|number| is_of_film(*number) && self.films[way][*number] == 0);
+            all.extend(never.map(|number| format!("of {name} none was refused {number}")));
+            let never = AFTER_11.iter().filter(|number| self.strict[way][**number] == 0);
+            all.extend(never.map(|number| format!("of {name} none was refused 11 strictly and {number} by default")));
+        }
         let unasked = KINDS.iter().zip(self.accepted).filter(|(kind, count)| *count == 0 && !is_of_slip(kind));
         all.extend(unasked.map(|(kind, _)| format!("{kind} was never answered of a film that is refused 11 strictly")));
-        let places = FAULTS.iter().zip(self.faults).filter(|(_, count)| *count == 0);
-        all.extend(places.map(|(name, _)| format!("no slip was malformed at: {name}")));
+        for (form, faults) in self.faults.iter().enumerate() {
+            let of = ["slip of form 1", "slip of form 2"][form];
+            let never = FAULTS.iter().zip(faults).filter(|(_, count)| **count == 0);
+            all.extend(never.map(|(name, _)| format!("no {of} was malformed at: {name}")));
+        }
         all
     }
 }
@@ -154,13 +182,17 @@ mod tests {
                 }
             }
         }
-        (0..NUMBERS).filter(|number| is_of_film(*number)).for_each(|number| {
-            let number = number.try_into().unwrap();
-            counts.film(number, number);
-        });
-        AFTER_11.into_iter().for_each(|number| counts.film(number.try_into().unwrap(), 11));
+        for way in [Way::Whole, Way::Moov(0)] {
+            (0..NUMBERS).filter(|number| is_of_film(*number)).for_each(|number| {
+                let number = number.try_into().unwrap();
+                counts.film(way, number, number);
+            });
+            AFTER_11.into_iter().for_each(|number| counts.film(way, number.try_into().unwrap(), 11));
+        }
         (0..KINDS.len()).for_each(|kind| counts.strict(kind, 0));
-        (0..FAULTS.len()).for_each(|kind| counts.slip(Some(kind)));
+        for slip in [[1], [2]] {
+            (0..FAULTS.len()).for_each(|kind| counts.slip(&slip, Some(kind)));
+        }
         counts
     }
 
@@ -172,20 +204,22 @@ mod tests {
     #[test]
     fn what_was_never_met_is_complained_of() {
         let mut counts = full();
-        counts.questions[15][1] = 0;
-        counts.films[7] = 0;
-        counts.strict[12] = 0;
+        counts.questions[1][15] = 0;
+        counts.films[0][7] = 0;
+        counts.films[1][1] = 0;
+        counts.strict[0][12] = 0;
         counts.accepted[5] = 0;
-        counts.faults[4] = 0;
+        counts.faults[1][4] = 0;
         let expected = [
             "sample never met 15",
-            "no film was refused 7",
-            "no film was refused 11 strictly and 12 by default",
+            "of whole files none was refused 7",
+            "of whole files none was refused 11 strictly and 12 by default",
+            "of moovs alone none was refused 1",
             "stretch was never answered of a film that is refused 11 strictly",
-            "no slip was malformed at: b",
+            "no slip of form 2 was malformed at: b",
         ];
         assert_eq!(counts.complaints(), expected);
-        assert!(counts.table().lines().any(|line| line.starts_with(" 15") && line.contains(" 0 ")));
+        assert!(counts.table().lines().any(|line| line.starts_with("sample ") && line.contains(" 0 ")));
     }
 
     #[test]
@@ -193,7 +227,7 @@ mod tests {
         let mut counts = full();
         counts.question(0, 14);
         counts.question(1, 11);
-        let expected = ["sample met 11, which it never gives", "track_list met 14, which it never gives"];
+        let expected = ["track_list met 14, which it never gives", "sample met 11, which it never gives"];
         assert_eq!(counts.complaints(), expected);
     }
 }

@@ -1,5 +1,5 @@
 //! What the first fault of a malformed slip is, by its place: so that the counts show that each was met.
-use reference::slip::{cut, value};
+use reference::slip::{cut, value_within, FORM_2};
 
 /// The kinds of faults: which number breaks a rule, or that the slip ends early or late.
 pub const FAULTS: [&str; 10] =
@@ -8,7 +8,8 @@ pub const FAULTS: [&str; 10] =
 /// The kind of the fault at a place, as an index of `FAULTS`.
 pub fn kind(slip: &[u8], place: usize) -> usize {
     let (before, _) = cut(&slip[..place]);
-    let is_whole = before.len() > 5 && Ok(before.len()) == usize::try_from(6 + 2 * value(&before[5]).unwrap());
+    let is_whole =
+        before.len() > 5 && Ok(before.len()) == usize::try_from(6 + 2 * value_within(FORM_2, &before[5]).unwrap());
     match before.len() {
         _ if place == slip.len() => 8,
         _ if is_whole => 9,

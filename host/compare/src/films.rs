@@ -3,8 +3,9 @@ use crate::case::{compare, Difference, Lengths};
 use crate::choose::{peaks, questions};
 use crate::counts::Counts;
 use crate::faults;
-use crate::question::{slip_answer, Answered, Film, Question};
+use crate::question::{any_slip_answer, slip_answer, Answered, Film, Question, Way};
 use reference::maker::Random;
+use reference::movie::MoovAlone;
 
 /// The comparison so far.
 #[derive(Default)]
@@ -44,53 +45,69 @@ impl Bytes<'_> {
 }
 
 /// A difference that is not in the answer itself.
-fn other(question: Question, lengths: Lengths, fault: &str) -> Box<Difference> {
-    let nothing = String::new();
-    Box::new(Difference { question, lengths, library: nothing.clone(), reference: nothing, fault: fault.to_string() })
+fn other(question: Question, way: Way, lengths: Lengths, fault: &str) -> Box<Difference> {
+    let (library, reference) = (String::new(), String::new());
+    Box::new(Difference { question, way, lengths, library, reference, fault: fault.to_string() })
+}
+
+/// A film as it is lent, and as the reference reads it.
+struct Asked<'a> {
+    bytes: &'a Bytes<'a>,
+    way: Way,
+    film: Film,
+}
+
+impl<'a> Asked<'a> {
+    fn of(bytes: &'a Bytes, way: Way) -> Asked<'a> {
+        let film = match way {
+            Way::Whole => Film::of(bytes.lent()),
+            Way::Moov(length) => Film::of(&MoovAlone { moov: bytes.lent(), length }),
+        };
+        Asked { bytes, way, film }
+    }
 }
 
 impl Comparison {
     /// Puts one question with memory of those lengths, counts it and answers what the library wrote.
     fn case(
         &mut self,
-        bytes: &Bytes,
+        (bytes, way): (&Bytes, Way),
         question: Question,
         answer: &Answered,
         lengths: Lengths,
     ) -> Result<(u32, Vec<u64>, Vec<u8>), Box<Difference>> {
-        let (number, lent) = compare(bytes.lent(), question, answer, lengths)?;
+        let (number, lent) = compare((bytes.lent(), way), question, answer, lengths)?;
         if !bytes.are_unchanged() {
-            return Err(other(question, lengths, "the file was written to"));
+            return Err(other(question, way, lengths, "the film was written to"));
         }
-        self.counts.question(question.kind(), number);
+        self.counts.question(question.kind(way), number);
         Ok((number, lent.places.elements().to_vec(), lent.bytes.elements().to_vec()))
     }
 
     /// Puts a question about a film with memory of any lengths; a slip that is written is read back.
-    fn question(
-        &mut self,
-        random: &mut Random,
-        bytes: &Bytes,
-        film: &Film,
-        question: Question,
-    ) -> Result<(), Box<Difference>> {
+    fn question(&mut self, random: &mut Random, asked: &Asked, question: Question) -> Result<(), Box<Difference>> {
+        let Asked { bytes, way, film } = asked;
         let answer = question.answer(film);
         let lengths = Lengths::any(random, question, &answer);
-        let (number, places, written) = self.case(bytes, question, &answer, lengths)?;
+        let (number, places, written) = self.case((bytes, *way), question, &answer, lengths)?;
         if film.strict != film.number() {
-            self.counts.strict(question.kind(), number);
+            self.counts.strict(question.kind(*way), number);
         }
         if number != 0 {
             return Ok(());
         }
+        let fault = |words| other(question, *way, lengths, words);
         match question {
             Question::SampleBytes { .. } if places[0] + places[1] > u64::try_from(bytes.lent().len()).unwrap() => {
-                Err(other(question, lengths, "the sample's bytes pass the file's end"))
+                Err(fault("the sample's bytes pass the file's end"))
             }
             Question::WriteSlip { id, a, b } => {
                 let slip = &written[..usize::try_from(places[0]).unwrap()];
+                if *way == Way::Whole && slip[0] != 1 {
+                    return Err(fault("the slip of a whole file is not of form 1"));
+                }
                 let head = self.slip(random, slip)?;
-                self.same_numbers(film, (id, a, b), head).map_err(|fault| other(question, lengths, fault))
+                self.same_numbers(film, (id, a, b), head).map_err(fault)
             }
             _ => Ok(()),
         }
@@ -112,31 +129,44 @@ impl Comparison {
     }
 
     /// Puts so many rounds of every question about a film, and once the questions about the highest rates of each track.
-    pub fn film(&mut self, random: &mut Random, bytes: &Bytes, rounds: usize) -> Result<(), Box<Difference>> {
-        let film = Film::of(bytes.lent());
-        self.counts.film(film.number(), film.strict);
+    pub fn film(&mut self, random: &mut Random, bytes: &Bytes, way: Way, rounds: usize) -> Result<(), Box<Difference>> {
+        let asked = Asked::of(bytes, way);
+        let film = &asked.film;
+        self.counts.film(way, film.number(), film.strict);
         // Another round for a refused film would ask the same.
         let rounds = if film.movie.is_ok() { rounds } else { 1 };
+        let is_offered = |question: &Question| way == Way::Whole || question.is_of_moov();
         for _ in 0..rounds {
-            for question in questions(random, &film.movie) {
-                self.question(random, bytes, &film, question)?;
+            for question in questions(random, &film.movie).into_iter().filter(is_offered) {
+                self.question(random, &asked, question)?;
             }
         }
         for question in peaks(&film.movie) {
-            self.question(random, bytes, &film, question)?;
+            self.question(random, &asked, question)?;
         }
         Ok(())
     }
 
-    /// Reads a slip, with exactly the room it needs and with memory of any lengths. Answers how the reference reads it.
+    /// Reads a slip by both readers, with exactly the room it needs and with memory of any lengths. Answers how the reference reads it in either form.
     pub fn slip(&mut self, random: &mut Random, slip: &[u8]) -> Result<Answered, Box<Difference>> {
         let bytes = Bytes::copy(random, slip);
-        let answer = slip_answer(slip);
-        self.counts.slip(answer.as_ref().err().map(|refused| faults::kind(slip, refused.place)));
-        let exact = Lengths::exact(Question::ReadSlip, &answer, random.bits());
-        self.case(&bytes, Question::ReadSlip, &answer, exact)?;
-        let any = Lengths::any(random, Question::ReadSlip, &answer);
-        self.case(&bytes, Question::ReadSlip, &answer, any)?;
+        self.slip_by(random, &bytes, Question::ReadSlip, &slip_answer(slip))?;
+        let answer = any_slip_answer(slip);
+        self.counts.slip(slip, answer.as_ref().err().map(|refused| faults::kind(slip, refused.place)));
+        self.slip_by(random, &bytes, Question::ReadAnySlip, &answer)?;
         Ok(answer)
+    }
+
+    fn slip_by(
+        &mut self,
+        random: &mut Random,
+        bytes: &Bytes,
+        reader: Question,
+        answer: &Answered,
+    ) -> Result<(), Box<Difference>> {
+        for lengths in [Lengths::exact(reader, answer, random.bits()), Lengths::any(random, reader, answer)] {
+            self.case((bytes, Way::Whole), reader, answer, lengths)?;
+        }
+        Ok(())
     }
 }

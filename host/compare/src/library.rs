@@ -1,24 +1,33 @@
 //! The library's functions, each called once for a question: the only place where they are called, and all that is unsafe about it.
 #![allow(unsafe_code)]
 use crate::lent::Lent;
-use crate::question::Question;
+use crate::question::{Question, Way};
 use chaldoref::raw::*;
 
 /// What a question is asked with: lists go to numbers, slips to bytes, and the answer's own numbers to places.
 pub struct Lending {
     pub numbers: Lent<u32>,
+    pub wide: Lent<u64>,
     pub bytes: Lent<u8>,
     pub places: Lent<u64>,
 }
 
-/// Asks the library: the file, or for `ReadSlip` the slip. The answer is the number of the refusal, 0 for none.
-pub fn ask(file: &[u8], question: Question, lending: &mut Lending) -> u32 {
+/// Asks the library: the film, by that way, or for `ReadSlip` and `ReadAnySlip` the slip. The answer is the number of the refusal, 0 for none.
+pub fn ask(lent: &[u8], way: Way, question: Question, lending: &mut Lending) -> u32 {
+    match way {
+        Way::Whole => ask_whole(lent, question, lending),
+        Way::Moov(length) => ask_moov(lent, length, question, lending),
+    }
+}
+
+fn ask_whole(file: &[u8], question: Question, lending: &mut Lending) -> u32 {
     let (f, len) = (file.as_ptr(), file.len());
     let (room, room_len) = (lending.numbers.pointer(), lending.numbers.len());
+    let (wide, wide_len) = (lending.wide.pointer(), lending.wide.len());
     let (out, out_len) = (lending.bytes.pointer(), lending.bytes.len());
     let (places, places_len) = (lending.places.pointer(), lending.places.len());
-    // SAFETY: every pointer comes from a slice or a vector, so it is aligned, not null and valid for its length; the four belong to different
-    // owners, the three that are written to are borrowed mutably, and i64 has the size and alignment of u64.
+    // SAFETY: every pointer comes from a slice or a vector, so it is aligned, not null and valid for its length; all belong to different
+    // owners, those that are written to are borrowed mutably, and i64 has the size and alignment of u64.
     unsafe {
         match question {
             Question::TrackList => chaldoref_track_list(f, len, room, room_len, places, places_len),
@@ -31,8 +40,38 @@ pub fn ask(file: &[u8], question: Question, lending: &mut Lending) -> u32 {
             Question::Feature { id, code } => chaldoref_feature(f, len, id, code, places, places_len),
             Question::Peak { id, code } => chaldoref_peak(f, len, id, code, places, places_len),
             Question::ReadSlip => chaldoref_read_slip(f, len, room, room_len, places, places_len),
+            Question::ReadAnySlip => chaldoref_read_any_slip(f, len, wide, wide_len, places, places_len),
             Question::WriteSlip { id, a, b } => {
                 chaldoref_write_slip(f, len, id, a, b, out, out_len, places, places_len)
+            }
+        }
+    }
+}
+
+fn ask_moov(moov: &[u8], length: u64, question: Question, lending: &mut Lending) -> u32 {
+    let (m, len) = (moov.as_ptr(), moov.len());
+    let (room, room_len) = (lending.numbers.pointer(), lending.numbers.len());
+    let (wide, wide_len) = (lending.wide.pointer(), lending.wide.len());
+    let (out, out_len) = (lending.bytes.pointer(), lending.bytes.len());
+    let (places, places_len) = (lending.places.pointer(), lending.places.len());
+    // SAFETY: as for a whole file.
+    unsafe {
+        match question {
+            Question::TrackList => chaldoref_moov_track_list(m, len, length, room, room_len, places, places_len),
+            Question::Sample { id, n } => chaldoref_moov_sample(m, len, length, id, n, places.cast(), places_len),
+            Question::SampleAt { id, t } => chaldoref_moov_sample_at(m, len, length, id, t, places, places_len),
+            Question::MediaTime { id, t } => chaldoref_moov_media_time(m, len, length, id, t, places, places_len),
+            Question::Stretch { id, a, b } => {
+                chaldoref_moov_stretch(m, len, length, id, a, b, wide, wide_len, places, places_len)
+            }
+            Question::Profile { id } => chaldoref_moov_profile(m, len, length, id, room, room_len, places, places_len),
+            Question::Feature { id, code } => chaldoref_moov_feature(m, len, length, id, code, places, places_len),
+            Question::Peak { id, code } => chaldoref_moov_peak(m, len, length, id, code, places, places_len),
+            Question::WriteSlip { id, a, b } => {
+                chaldoref_moov_write_slip(m, len, length, id, a, b, out, out_len, places, places_len)
+            }
+            Question::SampleBytes { .. } | Question::ReadSlip | Question::ReadAnySlip => {
+                unreachable!("not offered of a moov alone")
             }
         }
     }

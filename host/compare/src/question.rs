@@ -1,8 +1,8 @@
 //! The questions, and what the reference answers.
 use reference::movie::refusals::read;
-use reference::movie::strict_refusal;
 use reference::movie::tables::{Movie, Sample};
-use reference::slip::read_slip;
+use reference::movie::{strict_refusal, Film as Lendable};
+use reference::slip::{read_any_slip, read_slip};
 
 /// A question of include/chaldoref.h.
 #[derive(Clone, Copy, Debug, PartialEq)]
@@ -17,11 +17,35 @@ pub enum Question {
     Feature { id: u32, code: u32 },
     Peak { id: u32, code: u32 },
     ReadSlip,
+    ReadAnySlip,
     WriteSlip { id: u32, a: u32, b: u32 },
 }
 
-/// How the questions are called, in the order of `Question::kind`.
-pub const KINDS: [&str; 11] = [
+/// How a film is lent: its whole file, or its moov alone with the length of its file.
+#[derive(Clone, Copy, Debug, PartialEq)]
+pub enum Way {
+    Whole,
+    Moov(u64),
+}
+
+/// How the functions are called, in the order of `Question::place`, and how many places each fills.
+const FUNCTIONS: [(&str, usize); 12] = [
+    ("track_list", 1),
+    ("sample", 8),
+    ("sample_bytes", 2),
+    ("sample_at", 2),
+    ("media_time", 2),
+    ("stretch", 2),
+    ("profile", 1),
+    ("feature", 1),
+    ("peak", 2),
+    ("read_slip", 6),
+    ("write_slip", 1),
+    ("read_any_slip", 6),
+];
+
+/// Every function of include/chaldoref.h, in the order of `Question::kind`: those of a whole file and of slips, then those of a moov alone.
+pub const KINDS: [&str; 2 * FUNCTIONS.len() - 3] = [
     "track_list",
     "sample",
     "sample_bytes",
@@ -33,10 +57,17 @@ pub const KINDS: [&str; 11] = [
     "peak",
     "read_slip",
     "write_slip",
+    "read_any_slip",
+    "moov_track_list",
+    "moov_sample",
+    "moov_sample_at",
+    "moov_media_time",
+    "moov_stretch",
+    "moov_profile",
+    "moov_feature",
+    "moov_peak",
+    "moov_write_slip",
 ];
-
-/// How many places each question fills, in the same order.
-const PLACES: [usize; 11] = [1, 8, 2, 2, 2, 2, 1, 1, 2, 6, 1];
 
 /// A film as the reference reads it.
 pub struct Film {
@@ -47,8 +78,8 @@ pub struct Film {
 }
 
 impl Film {
-    pub fn of(file: &[u8]) -> Film {
-        Film { movie: read(file), strict: strict_refusal(file) }
+    pub fn of(film: &(impl Lendable + ?Sized)) -> Film {
+        Film { movie: read(film), strict: strict_refusal(film) }
     }
 
     /// The number with which it is refused by default, 0 for none.
@@ -61,7 +92,7 @@ impl Film {
 #[derive(Clone, Debug, Default, PartialEq)]
 pub struct Answer {
     pub places: Vec<u64>,
-    pub numbers: Vec<u32>,
+    pub numbers: Vec<u64>,
     pub bytes: Vec<u8>,
 }
 
@@ -86,7 +117,8 @@ fn long(n: usize) -> u64 {
 }
 
 impl Question {
-    pub fn kind(&self) -> usize {
+    /// The place of the function among `FUNCTIONS`.
+    fn place(&self) -> usize {
         match self {
             Question::TrackList => 0,
             Question::Sample { .. } => 1,
@@ -99,11 +131,33 @@ impl Question {
             Question::Peak { .. } => 8,
             Question::ReadSlip => 9,
             Question::WriteSlip { .. } => 10,
+            Question::ReadAnySlip => 11,
         }
     }
 
+    /// The place of the function that is called, among `KINDS`.
+    pub fn kind(&self, way: Way) -> usize {
+        let name = FUNCTIONS[self.place()].0;
+        let called = if way == Way::Whole { name.to_string() } else { format!("moov_{name}") };
+        KINDS.iter().position(|kind| *kind == called).expect("the way offers the question")
+    }
+
     pub fn places(&self) -> usize {
-        PLACES[self.kind()]
+        FUNCTIONS[self.place()].1
+    }
+
+    /// Whether the numbers of its list have 64 bits.
+    pub fn is_wide(&self, way: Way) -> bool {
+        match self {
+            Question::Stretch { .. } => way != Way::Whole,
+            Question::ReadAnySlip => true,
+            _ => false,
+        }
+    }
+
+    /// Whether it is offered where the moov is lent alone.
+    pub fn is_of_moov(&self) -> bool {
+        !matches!(self, Question::SampleBytes { .. })
     }
 
     /// The reference's answer about a film. The slip writer alone reads it strictly.
@@ -146,7 +200,7 @@ impl Question {
                 let bytes = movie.slip(id, a, b)?;
                 Answer { bytes: bytes.clone(), ..only(&[long(bytes.len())]) }
             }
-            Question::ReadSlip => unreachable!("a slip is no film"),
+            Question::ReadSlip | Question::ReadAnySlip => unreachable!("a slip is no film"),
         })
     }
 }
@@ -156,9 +210,9 @@ fn only(places: &[u64]) -> Answer {
     Answer { places: places.to_vec(), ..Answer::default() }
 }
 
-/// "Lists go to lent 32-bit numbers", with the number of rows.
+/// A list, with the number of rows.
 fn listed<const WIDTH: usize>(rows: impl Iterator<Item = [u64; WIDTH]>) -> Answer {
-    let numbers: Vec<u32> = rows.flatten().map(|n| u32::try_from(n).unwrap()).collect();
+    let numbers: Vec<u64> = rows.flatten().collect();
     Answer { numbers: numbers.clone(), ..only(&[long(numbers.len() / WIDTH)]) }
 }
 
@@ -176,14 +230,25 @@ fn sample_places(sample: &Sample) -> [u64; 8] {
     ]
 }
 
-/// The reference's reading of a slip. A slip has a byte at least for each number, so this room is enough.
+/// The reference's reading of a slip of form 1. A slip has a byte at least for each number, so this room is enough.
 pub fn slip_answer(slip: &[u8]) -> Answered {
     let mut numbers = vec![0; slip.len()];
     let (number, head, place) = read_slip(slip, &mut numbers);
+    let head = [head.id, head.scale, head.a, head.b, head.pairs].map(u64::from);
+    slip_read((number, place), head, numbers.into_iter().map(u64::from).collect())
+}
+
+/// The same of a slip of either form.
+pub fn any_slip_answer(slip: &[u8]) -> Answered {
+    let mut numbers = vec![0; slip.len()];
+    let (number, head, place) = read_any_slip(slip, &mut numbers);
+    slip_read((number, place), [head.id, head.scale, head.a, head.b, head.pairs], numbers)
+}
+
+fn slip_read((number, place): (u32, usize), head: [u64; 5], mut numbers: Vec<u64>) -> Answered {
     if number != 0 {
         return Err(Refused { number, place });
     }
-    numbers.truncate(2 * usize::try_from(head.pairs).unwrap());
-    let places = [head.id, head.scale, head.a, head.b, head.pairs, 0].map(u64::from);
-    Ok(Answer { numbers, ..only(&places) })
+    numbers.truncate(2 * usize::try_from(head[4]).unwrap());
+    Ok(Answer { numbers, ..only(&[&head[..], &[0]].concat()) })
 }

@@ -4,7 +4,9 @@ use crate::case::Difference;
 use crate::counts::Counts;
 use crate::films::{Bytes, Comparison};
 use crate::options::Options;
-use reference::maker::{self, limits, slips, Random};
+use crate::question::Way;
+use reference::maker::{self, alone, limits, slips, Random};
+use reference::movie::MoovAlone;
 use reference::slip::MOST_PAIRS;
 use std::panic::{catch_unwind, AssertUnwindSafe};
 
@@ -48,16 +50,33 @@ impl Run {
         Err(format!("DIFFERENCE: seed {}, {name}\n{fault}\n{}", self.seed, keep(bytes)))
     }
 
-    /// The film of an index, a slip, and the same slip damaged.
+    /// A whole film, and its moov alone if it has one.
+    fn both_ways(&mut self, random: &mut Random, name: &str, film: &[u8], rounds: usize) -> Result<(), String> {
+        let bytes = Bytes::copy(random, film);
+        self.on(name, film, |all| all.film(random, &bytes, Way::Whole, rounds))?;
+        alone::moov_of(film).map_or(Ok(()), |moov| self.moov(random, &format!("the moov of {name}"), moov, rounds))
+    }
+
+    fn moov(&mut self, random: &mut Random, name: &str, film: MoovAlone<&[u8]>, rounds: usize) -> Result<(), String> {
+        let (bytes, way) = (Bytes::copy(random, film.moov), Way::Moov(film.length));
+        self.on(name, film.moov, |all| all.film(random, &bytes, way, rounds))
+    }
+
+    /// The film of an index, a moov of a film that is too long to be made, a slip of each form, and the same slips damaged.
     fn made(&mut self, index: u64) -> Result<(), String> {
         let mut random = Random::of(self.seed, index);
         let film = maker::film(&mut random);
-        let bytes = Bytes::copy(&mut random, &film);
-        self.on(&format!("film {index}"), &film, |all| all.film(&mut random, &bytes, ROUNDS))?;
-        let slip = slips::slip(&mut random);
-        self.on(&format!("slip {index}"), &slip, |all| all.slip(&mut random, &slip).map(drop))?;
-        let damaged = slips::damaged(&mut random, &slip);
-        self.on(&format!("damaged slip {index}"), &damaged, |all| all.slip(&mut random, &damaged).map(drop))
+        self.both_ways(&mut random, &format!("film {index}"), &film, ROUNDS)?;
+        let MoovAlone { moov, length } = alone::film(&mut random);
+        let film = MoovAlone { moov: &moov[..], length };
+        self.moov(&mut random, &format!("moov {index} of {length} bytes"), film, ROUNDS)?;
+        for make in [slips::slip, slips::wide_slip] {
+            let slip = make(&mut random);
+            self.on(&format!("slip {index}"), &slip, |all| all.slip(&mut random, &slip).map(drop))?;
+            let damaged = slips::damaged(&mut random, &slip);
+            self.on(&format!("damaged slip {index}"), &damaged, |all| all.slip(&mut random, &damaged).map(drop))?;
+        }
+        Ok(())
     }
 
     /// The films and slips at the limits.
@@ -66,8 +85,7 @@ impl Run {
         for which in 0..limits::FILMS {
             eprintln!("limit {which}");
             let film = limits::limit(&mut random, which);
-            let bytes = Bytes::copy(&mut random, &film);
-            self.on(&format!("limit {which}"), &film, |all| all.film(&mut random, &bytes, LIMIT_ROUNDS))?;
+            self.both_ways(&mut random, &format!("limit {which}"), &film, LIMIT_ROUNDS)?;
         }
         let most = u32::try_from(MOST_PAIRS).unwrap();
         for pairs in [most, most + 1] {
@@ -84,7 +102,12 @@ impl Run {
             eprintln!("{}", film.name);
             let mapped = film.mapped().map_err(|error| format!("{}: {error}", film.name))?;
             let bytes = Bytes::ReadOnly(mapped.bytes());
-            self.on(film.name, mapped.bytes(), |all| all.film(&mut random, &bytes, BIG_ROUNDS))?;
+            self.on(film.name, mapped.bytes(), |all| all.film(&mut random, &bytes, Way::Whole, BIG_ROUNDS))?;
+            let way = Way::Moov(1 << 31);
+            self.on(film.name, mapped.bytes(), |all| all.film(&mut random, &bytes, way, 1))?;
+            if let Some(moov) = alone::moov_of(mapped.bytes()) {
+                self.moov(&mut random, &format!("the moov of {}", film.name), moov, BIG_ROUNDS)?;
+            }
         }
         Ok(())
     }
@@ -93,8 +116,7 @@ impl Run {
         let film = std::fs::read(name).map_err(|error| format!("{name}: {error}"))?;
         eprintln!("{name}: {}", reference::movie::refusal(&film));
         let mut random = Random::new(self.seed ^ OTHERS_SEED);
-        let bytes = Bytes::copy(&mut random, &film);
-        self.on(name, &film, |all| all.film(&mut random, &bytes, FILE_ROUNDS))
+        self.both_ways(&mut random, name, &film, FILE_ROUNDS)
     }
 
     /// All that the options ask for, small films first, or the words for the first difference.

@@ -292,6 +292,7 @@ mod tests {
     /// The slip of film W's stretch 24 to 73.
     const PAPER: [u8; 13] = [0x01, 0x01, 0xd8, 0x04, 0x18, 0x49, 0x02, 0xcc, 0x08, 0x32, 0x84, 0x07, 0x46];
     const HEAD: Head = Head { id: 1, scale: 600, a: 24, b: 73, pairs: 2 };
+    const WIDE_HEAD: Head<u64> = Head { id: 1, scale: 600, a: 24, b: 73, pairs: 2 };
 
     #[test]
     fn the_papers_slip_is_read() {
@@ -303,7 +304,7 @@ mod tests {
     #[test]
     fn the_papers_slip_is_written() {
         let mut out = [0; 13];
-        let mut at = put_head(&mut out, HEAD);
+        let mut at = put_head(&mut out, WIDE_HEAD, false);
         for n in [1100, 50, 900, 70] {
             at = put_number(&mut out, at, n);
         }
@@ -446,7 +447,7 @@ mod tests {
         // All pairs are (0,0) and there, so that only their number can be at fault.
         for (pairs, refusal, place) in [(1_048_576, 0, 0), (1_048_577, MALFORMED, 5)] {
             let mut slip = vec![0; 3_000_000];
-            let at = put_head(&mut slip, Head { id: 1, scale: 1, a: 0, b: 1, pairs });
+            let at = put_head(&mut slip, Head { id: 1, scale: 1, a: 0, b: 1, pairs }, false);
             slip.truncate(at + 2 * usize::try_from(pairs).unwrap());
             let mut room = vec![9; 2_097_152];
             let (number, _, at) = read_slip(&slip, &mut room);

@@ -7,8 +7,8 @@ use crate::filed::Filed;
 use crate::input;
 use crate::json::Object;
 use crate::table::{self, number, text};
-use crate::time::{clock, stretch_in_words};
-use chaldoref::{MediaTime, Movie, Slip, Track};
+use crate::time::{clock, clock_of, stretch_in_words};
+use chaldoref::{AnySlip, MediaTime, Movie, Track};
 use std::ffi::OsString;
 use std::io::{self, Write};
 use std::ops::Range;
@@ -34,8 +34,13 @@ pub fn check(movie: &Movie, names: &[OsString], to: Answer) -> Result<(), Failur
 }
 
 fn account<'m>(track: &'m Track, slips: &[Checked]) -> Account<'m> {
-    let own = slips.iter().filter_map(Checked::good).filter(|slip| slip.id == track.id);
-    Account { track, filed: Filed::of(own.map(|slip| slip.a..slip.b).collect(), track.total) }
+    let own = slips.iter().filter_map(Checked::good).filter(|slip| is_of(slip, track));
+    // A good slip has times of the track.
+    Account { track, filed: Filed::of(own.filter_map(AnySlip::time).collect(), track.total) }
+}
+
+fn is_of(slip: &AnySlip, track: &Track) -> bool {
+    slip.id == u64::from(track.id.0)
 }
 
 impl Report<'_> {
@@ -75,7 +80,8 @@ impl Report<'_> {
 
     /// The names of the good slips that file some of that time of a track.
     fn filed_by(&self, track: &Track, time: &Range<MediaTime>) -> String {
-        let files = |slip: &Slip| slip.id == track.id && slip.a < time.end && time.start < slip.b;
+        let (a, b) = (u64::from(time.start.0), u64::from(time.end.0));
+        let files = |slip: &AnySlip| is_of(slip, track) && slip.a < b && a < slip.b;
         let some = self.slips.iter().filter(|checked| checked.good().is_some_and(files));
         some.map(|checked| input::called(checked.name)).collect::<Vec<_>>().join(", ")
     }
@@ -118,9 +124,9 @@ fn print_slips(slips: &[Checked], out: &mut dyn Write) -> io::Result<()> {
     let row = |checked: &Checked| {
         let [track, scale, a, b, time, length] = match &checked.slip {
             Some(slip) => {
-                let numbers = [slip.id.0, slip.scale, slip.a.0, slip.b.0, slip.film_time()].map(|n| n.to_string());
+                let numbers = [slip.id, slip.scale, slip.a, slip.b, slip.film_time()].map(|n| n.to_string());
                 let [track, scale, a, b, time] = numbers;
-                [track, scale, a, b, time, clock(MediaTime(slip.film_time()), slip.scale)]
+                [track, scale, a, b, time, clock_of(slip.film_time(), slip.scale)]
             }
             None => ["-"; 6].map(String::from),
         };
@@ -159,9 +165,9 @@ fn part(what: &str, track: &Track, time: &Range<MediaTime>) -> String {
 fn slip_fields(o: &mut Object, checked: &Checked) -> io::Result<()> {
     let (slip, wrong) = (checked.slip.as_ref(), checked.wrong.as_ref());
     o.put("file", checked.name.to_string_lossy().into_owned())?;
-    o.put("track", slip.map(|slip| slip.id.0))?.put("scale", slip.map(|slip| slip.scale))?;
+    o.put("track", slip.map(|slip| slip.id))?.put("scale", slip.map(|slip| slip.scale))?;
     match slip {
-        Some(slip) => time_fields(o, &(slip.a..slip.b), slip.scale)?,
+        Some(slip) => o.time("a", slip.a, slip.scale)?.time("b", slip.b, slip.scale).map(drop)?,
         None => o.no_time("a")?.no_time("b").map(drop)?,
     }
     o.put("good", wrong.is_none())?.put("fault", wrong.map(|wrong| wrong.kind.name().to_string()))?;

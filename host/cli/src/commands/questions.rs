@@ -1,4 +1,5 @@
 //! Tracks, samples, times and profiles.
+use super::edits::{header_fields, header_in_words};
 use super::{scale, Answer, CLOCK};
 use crate::failure::Failure;
 use crate::film::Film;
@@ -9,11 +10,14 @@ use crate::warnings;
 use chaldoref::{Movie, MovieTime, ProfileRecord, Shown, Track, TrackId};
 use std::io;
 
-pub fn tracks(movie: &Movie, to: Answer) -> Result<(), Failure> {
-    let warnings = warnings::of_tracks(movie);
+pub fn tracks(film: &Film, movie: &Movie, to: Answer) -> Result<(), Failure> {
+    let warnings = warnings::of_tracks(film, movie);
     to.tell(&warnings);
     if to.json {
-        return to.document(|o| o.list("tracks", movie.tracks(), track_fields)?.texts("warnings", &warnings).map(drop));
+        return to.document(|o| {
+            o.object("movie", Some(&movie.header()), header_fields)?;
+            o.list("tracks", movie.tracks(), track_fields)?.texts("warnings", &warnings).map(drop)
+        });
     }
     let columns = [
         number("id"),
@@ -32,7 +36,8 @@ pub fn tracks(movie: &Movie, to: Answer) -> Result<(), Failure> {
         let subtype = t.subtype.to_string();
         [t.id.to_string(), subtype, scale, total, clock(t.total, t.scale), samples, chunks, edits, stored]
     };
-    Ok(table::write(to.out, columns, movie.tracks(), row)?)
+    table::write(to.out, columns, movie.tracks(), row)?;
+    Ok(writeln!(to.out, "{}", header_in_words(&movie.header()))?)
 }
 
 fn track_fields(o: &mut Object, t: &Track) -> io::Result<()> {
@@ -68,7 +73,8 @@ pub fn sample(movie: &Movie, track: TrackId, n: u32, to: Answer) -> Result<(), F
     let start = clock(s.decode, scale);
     let sync = if s.sync { "yes" } else { "no" };
     let [n, decode, duration] = [n, s.decode.0, s.duration].map(|n| n.to_string());
-    let [description, chunk, offset, size] = [s.description, s.chunk, s.offset, s.size].map(|n| n.to_string());
+    let [description, chunk, size] = [s.description, s.chunk, s.size].map(|n| n.to_string());
+    let offset = s.offset.to_string();
     let composition = s.composition.to_string();
     let row = [n, decode, start, duration, composition, sync.into(), description, chunk, offset, size];
     Ok(table::write(to.out, columns, &[row], |row| row.clone())?)

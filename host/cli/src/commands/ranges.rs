@@ -18,7 +18,7 @@ use std::os::unix::fs::MetadataExt;
 pub fn stretch(movie: &Movie, track: TrackId, span: &Span, to: Answer) -> Result<(), Failure> {
     let (time, stretch) = span.ask(movie, track, |time| movie.stretch(track, time))?;
     let scale = scale(movie, track)?;
-    let warnings = warnings::of_stretch(movie.file(), track);
+    let warnings = warnings::of_stretch(movie, track);
     warnings::tell(&warnings);
     if to.json {
         return to.document(|o| {
@@ -35,24 +35,24 @@ pub fn stretch(movie: &Movie, track: TrackId, span: &Span, to: Answer) -> Result
 pub fn stretch_bytes(film: &Film, movie: &Movie, track: TrackId, span: &Span, to: Answer) -> Result<(), Failure> {
     let (time, stretch) = span.ask(movie, track, |time| movie.stretch(track, time))?;
     tell_units(movie, track, span, &time)?;
-    warnings::tell(&warnings::of_stretch(movie.file(), track));
+    warnings::tell(&warnings::of_stretch(movie, track));
     film.copy(&stretch.pairs, to.out)
 }
 
-pub fn slip(movie: &Movie, track: TrackId, span: &Span, to: Answer) -> Result<(), Failure> {
+pub fn slip(film: &Film, movie: &Movie, track: TrackId, span: &Span, to: Answer) -> Result<(), Failure> {
     if to.json {
-        return slip_document(movie, track, span, to);
+        return slip_document(film, movie, track, span, to);
     }
-    let slip = slip_of(movie, track, span)?;
+    let slip = slip_of(film, movie, track, span)?;
     for (i, byte) in slip.iter().enumerate() {
         write!(to.out, "{}{byte:02X}", if i > 0 { " " } else { "" })?;
     }
     Ok(to.out.write_all(b"\n")?)
 }
 
-fn slip_document(movie: &Movie, track: TrackId, span: &Span, to: Answer) -> Result<(), Failure> {
-    let (time, slip) = written(movie, track, span)?;
-    let warnings = warnings::of_stretch(movie.file(), track);
+fn slip_document(film: &Film, movie: &Movie, track: TrackId, span: &Span, to: Answer) -> Result<(), Failure> {
+    let (time, slip) = written(film, movie, track, span)?;
+    let warnings = warnings::of_stretch(movie, track);
     warnings::tell(&warnings);
     let scale = scale(movie, track)?;
     to.document(|o| {
@@ -62,15 +62,16 @@ fn slip_document(movie: &Movie, track: TrackId, span: &Span, to: Answer) -> Resu
 }
 
 /// The stretch that a slip is of, and the slip's bytes.
-fn written(movie: &Movie, track: TrackId, span: &Span) -> Result<(Range<MediaTime>, Vec<u8>), Failure> {
-    span.ask(movie, track, |time| movie.write_slip(track, time)).map_err(|failure| Failure::of_slip(movie, failure))
+fn written(film: &Film, movie: &Movie, track: TrackId, span: &Span) -> Result<(Range<MediaTime>, Vec<u8>), Failure> {
+    let written = span.ask(movie, track, |time| movie.write_slip(track, time));
+    written.map_err(|failure| film.slip_refused(movie, failure))
 }
 
 /// The bytes of the slip, and on standard error what people must know of it.
-pub fn slip_of(movie: &Movie, track: TrackId, span: &Span) -> Result<Vec<u8>, Failure> {
-    let (time, slip) = written(movie, track, span)?;
+pub fn slip_of(film: &Film, movie: &Movie, track: TrackId, span: &Span) -> Result<Vec<u8>, Failure> {
+    let (time, slip) = written(film, movie, track, span)?;
     tell_units(movie, track, span, &time)?;
-    warnings::tell(&warnings::of_stretch(movie.file(), track));
+    warnings::tell(&warnings::of_stretch(movie, track));
     Ok(slip)
 }
 

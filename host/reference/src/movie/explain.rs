@@ -22,9 +22,9 @@ struct Survey {
     is_movie: bool,
 }
 
-fn survey(file: &[u8]) -> Survey {
+fn survey(lent: &[u8]) -> Survey {
     let mut seen = Survey::default();
-    visit(TOP, 0, file, &mut |parent, place, size| {
+    visit(TOP, 0, lent, &mut |parent, place, size| {
         seen.atoms += 1;
         seen.is_movie |= parent == TOP && AT_TOP_LEVEL.contains(&&place.kind);
         if parent == TOP && place.kind == *b"moov" {
@@ -44,25 +44,26 @@ fn of_no_movie(file: &[u8], (number, words): Refused) -> Refused {
     (number, format!("this is no QuickTime movie{why}"))
 }
 
-/// The number with which a file is refused by default, and why; nothing where it is accepted, or has too much to be written out.
-pub fn explain(file: &[u8]) -> Option<Refused> {
-    explain_as(file, Reading::Default)
+/// The number with which a film is refused by default, and why; nothing where it is accepted, or has too much to be written out. Of a moov that is
+/// lent alone places are counted from its first byte.
+pub fn explain(film: &(impl Film + ?Sized)) -> Option<Refused> {
+    explain_as(film, Reading::Default)
 }
 
 /// The same where strict reading is asked for, as the slip writer does.
-pub fn explain_strictly(file: &[u8]) -> Option<Refused> {
-    explain_as(file, Reading::Strict)
+pub fn explain_strictly(film: &(impl Film + ?Sized)) -> Option<Refused> {
+    explain_as(film, Reading::Strict)
 }
 
-fn explain_as(file: &[u8], reading: Reading) -> Option<Refused> {
-    let seen = survey(file);
+fn explain_as(film: &(impl Film + ?Sized), reading: Reading) -> Option<Refused> {
+    let film = film.lent();
+    let seen = survey(film.bytes);
     if seen.atoms > MOST_ATOMS || seen.moov_bytes > MOST_MOOV_BYTES {
         return None;
     }
-    let film = file.lent();
     let (found, tables) = match read_tables(film) {
         Ok(read) => read,
-        Err(refused @ (2..=3, _)) if !seen.is_movie => return Some(of_no_movie(file, refused)),
+        Err(refused @ (2..=3, _)) if !seen.is_movie => return Some(of_no_movie(film.bytes, refused)),
         Err(refused) => return Some(refused),
     };
     if tables.tracks.iter().map(|track| track.sizes.len()).sum::<usize>() > MOST_SAMPLES {

@@ -1,0 +1,171 @@
+//! The moov of a film, read from anything that reads and seeks.
+use crate::ffi::{self, promised};
+use crate::film::Film;
+use crate::movie::MAX_FILE_BYTES;
+use crate::refusal::Refusal;
+use crate::room::room;
+use crate::units::FourCC;
+use std::error::Error;
+use std::fmt;
+use std::io::{self, ErrorKind, Read, Seek, SeekFrom};
+
+/// As many bytes of an atom's header are looked at.
+const HEADER: usize = 16;
+
+/// As many bytes are read at once, so that small atoms that follow one another are not read one by one.
+const WINDOW: usize = 4096;
+
+/// The moov atom of a film, with its place and the length of its file. Of the film nothing else is read but the headers
+/// of the atoms at top level, whatever its length.
+///
+/// ```
+/// use chaldoref::{Moov, Movie, TrackId};
+///
+/// # std::env::set_current_dir("../..")?;
+/// let moov = Moov::read(std::fs::File::open("films/w.mov")?)?;
+/// let movie = Movie::open(&moov)?;
+/// assert_eq!((moov.length, movie.sample(TrackId(1), 4)?.offset), (4096, 900));
+/// # Ok::<(), Box<dyn std::error::Error>>(())
+/// ```
+#[non_exhaustive]
+#[derive(Clone, PartialEq, Eq, Hash)]
+pub struct Moov {
+    /// The whole atom.
+    pub bytes: Vec<u8>,
+    /// The place of its first byte in the file.
+    pub place: u64,
+    /// The length of the file.
+    pub length: u64,
+}
+
+impl Moov {
+    /// Finds the moov of a film and reads it. The proved library says where to read, and what is wrong with the film's
+    /// top level.
+    ///
+    /// # Errors
+    ///
+    /// [`ReadError::Refused`] where the film's top level is refused: [`Refusal::AtomSize`], [`Refusal::AtomCount`]
+    /// where there is no moov or more than one, [`Refusal::FileTooLong`] where the file, or the moov, is longer than may
+    /// be; [`ReadError::Io`] where it cannot be read, or there is no memory for the moov.
+    pub fn read(film: impl Read + Seek) -> Result<Moov, ReadError> {
+        Moov::read_seeing(film, |_, _| ())
+    }
+
+    /// The same, which tells the type and the place of each atom at top level as it is met.
+    ///
+    /// # Errors
+    ///
+    /// Those of [`Moov::read`].
+    pub fn read_seeing(film: impl Read + Seek, mut see: impl FnMut(FourCC, u64)) -> Result<Moov, ReadError> {
+        let mut film = Window { film, place: 0, bytes: Vec::new() };
+        let length = film.film.seek(SeekFrom::End(0))?;
+        let mut walk = [length, 0, 0, 0, 0, 0];
+        loop {
+            let place = walk[1];
+            let header = film.header(place, length)?;
+            let kind = header.get(4..8).and_then(|kind| kind.try_into().ok()).map(FourCC::from_bytes);
+            walk = ffi::top_level(header, walk)?;
+            match walk {
+                [_, _, _, at, size, 1] => return film.moov(at, size, length),
+                _ => kind.into_iter().for_each(|kind| see(kind, place)),
+            }
+        }
+    }
+}
+
+/// A film of which some bytes from a place on were read.
+struct Window<R> {
+    film: R,
+    place: u64,
+    bytes: Vec<u8>,
+}
+
+impl<R: Read + Seek> Window<R> {
+    /// The bytes of an atom's header at a place: fewer only where the file ends.
+    fn header(&mut self, place: u64, length: u64) -> io::Result<&[u8]> {
+        let wanted = length.saturating_sub(place).min(HEADER as u64) as usize;
+        let begin = place.checked_sub(self.place).and_then(|begin| usize::try_from(begin).ok());
+        if begin.and_then(|begin| self.bytes.get(begin..)?.get(..wanted)).is_none() {
+            self.film.seek(SeekFrom::Start(place))?;
+            let most = length.saturating_sub(place).min(WINDOW as u64) as usize;
+            self.bytes.resize(most, 0);
+            self.place = place;
+            self.film.read_exact(&mut self.bytes).map_err(shorter)?;
+        }
+        let begin = promised::<u64, usize>(place - self.place);
+        Ok(&self.bytes[begin..begin + wanted])
+    }
+
+    /// The moov, of which no more is read than may be lent.
+    fn moov(mut self, place: u64, size: u64, length: u64) -> Result<Moov, ReadError> {
+        if size > MAX_FILE_BYTES {
+            return Err(Refusal::FileTooLong.into());
+        }
+        let mut bytes = room(promised(size)).map_err(io::Error::from)?;
+        self.film.seek(SeekFrom::Start(place))?;
+        self.film.read_exact(&mut bytes).map_err(shorter)?;
+        Ok(Moov { bytes, place, length })
+    }
+}
+
+/// The bytes were there when the length was asked.
+fn shorter(error: io::Error) -> io::Error {
+    match error.kind() {
+        ErrorKind::UnexpectedEof => io::Error::new(ErrorKind::UnexpectedEof, "it became shorter while it was read"),
+        _ => error,
+    }
+}
+
+impl fmt::Debug for Moov {
+    /// The lengths; the bytes themselves would be no help.
+    fn fmt(&self, f: &mut fmt::Formatter<'_>) -> fmt::Result {
+        let mut shown = f.debug_struct("Moov");
+        shown.field("bytes", &self.bytes.len()).field("place", &self.place).field("length", &self.length).finish()
+    }
+}
+
+impl<'a> From<&'a Moov> for Film<'a> {
+    fn from(moov: &'a Moov) -> Film<'a> {
+        Film::Moov { moov: &moov.bytes, length: moov.length }
+    }
+}
+
+/// Why no moov was read.
+#[non_exhaustive]
+#[derive(Debug)]
+pub enum ReadError {
+    /// The film's top level is refused.
+    Refused(Refusal),
+    /// It could not be read.
+    Io(io::Error),
+}
+
+impl From<Refusal> for ReadError {
+    fn from(refusal: Refusal) -> ReadError {
+        ReadError::Refused(refusal)
+    }
+}
+
+impl From<io::Error> for ReadError {
+    fn from(error: io::Error) -> ReadError {
+        ReadError::Io(error)
+    }
+}
+
+impl fmt::Display for ReadError {
+    fn fmt(&self, f: &mut fmt::Formatter<'_>) -> fmt::Result {
+        match self {
+            ReadError::Refused(refusal) => refusal.fmt(f),
+            ReadError::Io(error) => error.fmt(f),
+        }
+    }
+}
+
+impl Error for ReadError {
+    fn source(&self) -> Option<&(dyn Error + 'static)> {
+        match self {
+            ReadError::Refused(refusal) => Some(refusal),
+            ReadError::Io(error) => Some(error),
+        }
+    }
+}
