@@ -43,11 +43,11 @@ module _ (w v : Source) (e : v .strict ≡ w .strict) where
 -- ---- the answers, from the film's refusal and its moov
 
 module _ (s m : List ℕ) (w v : Source) (e : filmRefusal m v ≡ filmRefusal s w) (d : moovOf m ≡ moovOf s) where
-  ask-same : (id : ℕ) → askRefusal m v id ≡ askRefusal s w id
+  pub ask-same : (id : ℕ) → askRefusal m v id ≡ askRefusal s w id
   unfolding askRefusal
   ask-same id = rw (e, d)
 
-  track-same : (id : ℕ) → trackAsked m id ≡ trackAsked s id
+  pub track-same : (id : ℕ) → trackAsked m id ≡ trackAsked s id
   unfolding trackAsked
   track-same id = rw d
 

@@ -3,3 +3,4 @@ mod Trees
 mod Shapes
 pub mod Agree
 pub mod Walked
+pub mod Stretches

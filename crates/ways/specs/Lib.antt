@@ -1,3 +1,4 @@
 pub mod Ways
 pub mod Agree
 pub mod Walked
+pub mod Stretches
