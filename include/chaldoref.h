@@ -8,10 +8,11 @@
  *
  * There are two ways in. A function takes the whole file; or, as chaldoref_moov_..,
  * the moov atom alone, with its header and nothing else, and the length of its file.
- * Both answer the same. By the second way a file may be longer, up to 2^63 - 1 bytes,
- * and have 64-bit chunk offsets (co64 in place of stco); offsets and pairs are then
- * 64-bit numbers, and the bytes of a sample are not offered. chaldoref_top_level_step
- * tells where in a file its moov is.
+ * Of a file of at most 2,147,483,647 bytes that its atoms fill, with one moov and no
+ * co64, both answer the same. By the second way a file may be longer, up to 2^63 - 1
+ * bytes, and have 64-bit chunk offsets (co64 in place of stco); offsets and pairs are
+ * then 64-bit numbers, and the bytes of a sample are not offered.
+ * chaldoref_top_level_step tells where in a file its moov is.
  *
  * A slice is a pointer and a length, counted in elements. Three kinds are lent:
  *
@@ -84,7 +85,7 @@ enum {
     CHALDOREF_TIME_SCALE = 8,         /* a movie or media time scale is 0 */
     CHALDOREF_TABLES = 9,             /* the sample tables contradict each other */
     CHALDOREF_TOTAL_DURATION = 10,    /* sample or edit durations total over 4,294,967,295 */
-    CHALDOREF_STORED_DURATION = 11,   /* the mdhd duration is not the total of the sample durations: chaldoref_write_slip only */
+    CHALDOREF_STORED_DURATION = 11,   /* the mdhd duration is not the total of the sample durations: slip writing only */
     CHALDOREF_PAST_END = 12,          /* a chunk's offset plus the sizes of its samples passes the file's end */
     CHALDOREF_EDIT_LIST = 13,         /* an edit list is wrong */
     CHALDOREF_NO_TRACK = 14,          /* no track has that ID */
@@ -313,6 +314,8 @@ uint32_t chaldoref_write_slip(
  * no moov or more than one; 16. Length / 8 + 1 steps are the most.
  * places: 6: the file's length; where to read next; how many moovs were met (2 for more than
  *         one); the place and the size of the last of them; 1 where it is found, else 0.
+ *         Where it is found the first two are 0, and after a refusal all are: keep the length.
+ *         Fewer bytes than a header has, where more of the file remain, are refused 2.
  */
 uint32_t chaldoref_top_level_step(
     const uint8_t *header, size_t header_len,
@@ -389,7 +392,8 @@ uint32_t chaldoref_moov_write_slip(
 
 /*
  * Reads a slip of form 1 or 2. One of form 1 is read as chaldoref_read_slip reads it; the
- * numbers of one of form 2 are below 2^64, and one of them is 2^32 or more. Refusals 17, 16.
+ * numbers of one of form 2 are below 2^64, and one of them is 2^32 or more: without one it
+ * is malformed at place 0, if nothing else is wrong. Refusals 17, 16.
  * room and places: as for chaldoref_read_slip, with numbers of 64 bits in the room.
  */
 uint32_t chaldoref_read_any_slip(
@@ -404,7 +408,7 @@ static inline const char *chaldoref_version(void)
 }
 
 /*
- * The words of the documents for a refusal, by its number; "answered" for 0. For a number
+ * Words for a refusal of a whole file, by its number; "answered" for 0. For a number
  * that no refusal has it says so: the result is never NULL.
  */
 static inline const char *chaldoref_refusal_text(uint32_t number)
