@@ -13,10 +13,11 @@
 #include <stdlib.h>
 #include <string.h>
 
-enum { ROUNDS = 150, AV_EVERY = 15, MOST = 24, ROOM = 2 * FILM_SAMPLES, OUT = 24 + 10 * FILM_SAMPLES };
+enum { ROUNDS = 150, AV_EVERY = 15, MOST = 24, ROOM = 2 * FILM_SAMPLES, OUT = 24 + 18 * FILM_SAMPLES };
 
 /* What is lent to every question; it isn't cleared between them. */
 static uint32_t room[ROOM];
+static uint64_t wide_room[ROOM];
 static uint8_t out[OUT];
 static volatile uint64_t sink;
 
@@ -108,6 +109,74 @@ static bool ask_write_slip(const struct film *f, const struct track_facts *t, do
         && places[3] == t->total && places[4] == t->chunks;
 }
 
+/* By the moov alone: the second way in. */
+static bool ask_moov_track_list(const struct film *f, const struct track_facts *t, double *ms)
+{
+    (void)t;
+    uint64_t tracks;
+    double begin = now_ms();
+    uint32_t refused = chaldoref_moov_track_list(f->moov, f->moov_len, f->len, room, ROOM, &tracks, 1);
+    *ms = now_ms() - begin;
+    return refused == 0 && tracks == (uint64_t)f->tracks && is_line(room, &f->track[0]);
+}
+
+static bool ask_moov_stretch(const struct film *f, const struct track_facts *t, double *ms)
+{
+    uint64_t places[2], sum = 0;
+    double begin = now_ms();
+    uint32_t refused = chaldoref_moov_stretch(f->moov, f->moov_len, f->len, t->id, 0, t->total, wide_room, ROOM, places, 2);
+    *ms = now_ms() - begin;
+    for (uint32_t i = 0; i < t->chunks; i++)
+        sum += wide_room[2 * i + 1];
+    return refused == 0 && places[0] == t->chunks && places[1] == t->bytes && sum == t->bytes;
+}
+
+static bool ask_moov_write_slip(const struct film *f, const struct track_facts *t, double *ms)
+{
+    uint64_t len, places[CHALDOREF_READ_SLIP_PLACES];
+    double begin = now_ms();
+    uint32_t refused = chaldoref_moov_write_slip(f->moov, f->moov_len, f->len, t->id, 0, t->total, out, OUT, &len, 1);
+    *ms = now_ms() - begin;
+    return refused == 0 && chaldoref_read_slip(out, len, room, ROOM, places, CHALDOREF_READ_SLIP_PLACES) == 0
+        && places[3] == t->total && places[4] == t->chunks;
+}
+
+/* The slip of the whole, written before, read by each reader; and one pass over its bytes. */
+static size_t slip_of(const struct film *f, const struct track_facts *t)
+{
+    uint64_t len;
+    return chaldoref_write_slip(f->bytes, f->len, t->id, 0, t->total, out, OUT, &len, 1) == 0 ? (size_t)len : 0;
+}
+
+static bool ask_slip_pass(const struct film *f, const struct track_facts *t, double *ms)
+{
+    size_t len = slip_of(f, t);
+    double begin = now_ms();
+    sink = scalar_pass(out, len / 4 * 4);
+    *ms = now_ms() - begin;
+    return len != 0;
+}
+
+static bool ask_read_slip(const struct film *f, const struct track_facts *t, double *ms)
+{
+    uint64_t places[CHALDOREF_READ_SLIP_PLACES];
+    size_t len = slip_of(f, t);
+    double begin = now_ms();
+    uint32_t refused = chaldoref_read_slip(out, len, room, ROOM, places, CHALDOREF_READ_SLIP_PLACES);
+    *ms = now_ms() - begin;
+    return refused == 0 && places[4] == t->chunks;
+}
+
+static bool ask_read_any_slip(const struct film *f, const struct track_facts *t, double *ms)
+{
+    uint64_t places[CHALDOREF_READ_SLIP_PLACES];
+    size_t len = slip_of(f, t);
+    double begin = now_ms();
+    uint32_t refused = chaldoref_read_any_slip(out, len, wide_room, ROOM, places, CHALDOREF_READ_SLIP_PLACES);
+    *ms = now_ms() - begin;
+    return refused == 0 && places[4] == t->chunks;
+}
+
 static bool ask_feature(const struct film *f, const struct track_facts *t, double *ms)
 {
     uint64_t value;
@@ -162,6 +231,12 @@ static int gather(struct candidate *c, const struct film *f)
     c[n++] = (struct candidate){ .name = "last sample", .run = ask_sample, .track = f->track };
     c[n++] = (struct candidate){ .name = "sample at the last time", .run = ask_sample_at, .track = f->track };
     c[n++] = (struct candidate){ .name = "slip of the whole", .run = ask_write_slip, .track = f->track };
+    c[n++] = (struct candidate){ .name = "track list, moov alone", .run = ask_moov_track_list, .track = f->track };
+    c[n++] = (struct candidate){ .name = "whole stretch, moov alone", .run = ask_moov_stretch, .track = f->track };
+    c[n++] = (struct candidate){ .name = "slip of the whole, moov alone", .run = ask_moov_write_slip, .track = f->track };
+    c[n++] = (struct candidate){ .name = "scalar pass over that slip", .run = ask_slip_pass, .track = f->track };
+    c[n++] = (struct candidate){ .name = "that slip read", .run = ask_read_slip, .track = f->track };
+    c[n++] = (struct candidate){ .name = "that slip read, either form", .run = ask_read_any_slip, .track = f->track };
     c[n++] = (struct candidate){ .name = "feature avvb", .run = ask_feature, .track = f->track, .slow = f->track->edits != 0 };
     c[n++] = (struct candidate){ .name = "feature mvbr", .run = ask_highest, .track = f->track };
     c[n++] = (struct candidate){ .name = "peak of mvbr", .run = ask_peak, .track = f->track };
@@ -215,7 +290,7 @@ static double least_of(const struct candidate *c, int n, ask *run)
 /* Neither a pass nor libavformat. */
 static bool is_question(const struct candidate *c)
 {
-    return c->track != NULL || c->run == ask_track_list;
+    return (c->track != NULL && c->run != ask_slip_pass) || c->run == ask_track_list;
 }
 
 static void print_row(const struct candidate *c, double scalar, double vector, double open)

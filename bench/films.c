@@ -16,6 +16,7 @@ struct plan {
     uint32_t common_size;  /* 0: a size for each sample */
     uint32_t (*deal)(uint32_t chunk, uint32_t begin);
     uint32_t edits;        /* entries of an edit list that each show the whole track; 0: no list */
+    uint32_t atoms;        /* free atoms of 8 bytes before the tables */
 };
 
 struct writer {
@@ -211,6 +212,8 @@ static void put_stsd(struct writer *w, const struct plan *p)
 static void put_stbl(struct writer *w, const struct plan *p, struct track_facts *f, uint32_t offset)
 {
     size_t at = open_atom(w, "stbl");
+    for (uint32_t i = 0; i < p->atoms; i++)
+        close_atom(w, open_atom(w, "free"));
     put_stsd(w, p);
     put_stts(w, p, f);
     if (p->offsets)
@@ -334,13 +337,14 @@ static uint32_t one(uint32_t chunk, uint32_t begin)
     return 1;
 }
 
-static const struct plan typical = { VIDE, 30000, false, false, false, 0, in_thirds, 0 };
-static const struct plan sound = { SOUN, 48000, false, false, false, 0, in_thirds, 0 };
-static const struct plan full = { VIDE, 30000, true, true, true, 0, ten_or_twenty, 0 };
-static const struct plan short_chunks = { VIDE, 30000, true, true, true, 0, one_or_two, 0 };
-static const struct plan lone = { VIDE, 30000, false, false, false, 2, one, 0 };
-static const struct plan edited = { VIDE, 30000, false, false, false, 0, in_thirds, 256 };
-static const struct plan full_edited = { VIDE, 30000, true, true, true, 0, ten_or_twenty, 256 };
+static const struct plan typical = { VIDE, 30000, false, false, false, 0, in_thirds, 0, 0 };
+static const struct plan sound = { SOUN, 48000, false, false, false, 0, in_thirds, 0, 0 };
+static const struct plan full = { VIDE, 30000, true, true, true, 0, ten_or_twenty, 0, 0 };
+static const struct plan short_chunks = { VIDE, 30000, true, true, true, 0, one_or_two, 0, 0 };
+static const struct plan lone = { VIDE, 30000, false, false, false, 2, one, 0, 0 };
+static const struct plan edited = { VIDE, 30000, false, false, false, 0, in_thirds, 256, 0 };
+static const struct plan many_atoms = { VIDE, 30000, false, false, false, 2, in_thirds, 0, 1000000 };
+static const struct plan full_edited = { VIDE, 30000, true, true, true, 0, ten_or_twenty, 256, 0 };
 
 static const struct {
     const char *name, *tables;
@@ -352,6 +356,7 @@ static const struct {
     { "full tables, short chunks", "the same with chunks of 1 and 2 samples in turn", { &short_chunks, NULL } },
     { "one sample a chunk", "stts one run, a common size, stsc one entry, 1,000,000 chunks", { &lone, NULL } },
     { "one track, 256 edits", "as one track, with 256 edits that each show all of it", { &edited, NULL } },
+    { "a million atoms", "stts one run, a common size, stsc few entries, and 1,000,000 free atoms of 8 bytes before them in stbl", { &many_atoms, NULL } },
     { "full tables, 256 edits", "as full tables, with 256 edits that each show all of it", { &full_edited, NULL } },
 };
 
