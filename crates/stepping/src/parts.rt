@@ -16,7 +16,7 @@ ghost use Rattle.positions.specs.Moving.{StandsAt, Agrees};
 ghost use Rattle.stepping.specs.Parts.{bytesIn, readiedIn};
 
 // In each table, of an accepted track.
-pub fn moving_at(lent: &[u8], tables: Tables, samples: u32, index: u32) -> Moving
+pub(crate) fn moving_at(lent: &[u8], tables: Tables, samples: u32, index: u32) -> Moving
     requires { ⌜ (Agrees (bytesIn (now lent) tables) samples) × (index < samples) × (length (partIn (now lent) (tables .stsc)) < 2 ^ 32) ⌝ }
     ensures { λ r. ⌜ StandsAt (bytesIn (now (lent .entry)) tables) samples index r ⌝ }
 {
