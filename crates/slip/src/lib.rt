@@ -2,7 +2,7 @@
 pub mod any;
 
 use slip_scan::SlipScan;
-use slip_scan::fill_numbers;
+use number_values::fill_numbers;
 use slip_scan::find_slip;
 ghost use mathlib.Core.Bool.{false};
 ghost use Rattle.slip.specs.Slip.{Reads};

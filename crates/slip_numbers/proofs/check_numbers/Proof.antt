@@ -1,4 +1,4 @@
--- `slip_scan::check_numbers` meets its contract: the invariant says that what is left to check decides what all of it is.
+-- `slip_numbers::check_numbers` meets its contract: the invariant says that what is left to check decides what all of it is.
 -- Assumes nothing.
 use borrow.Author.Needs.{needs}
 use mathlib.Core.Path.{_≡_, refl, sym, ap, _∙_}
@@ -6,14 +6,14 @@ use Prim.Native.Nat.{_≤_, _<_, _^_, _-_}
 use native.Mathlib.Omega.{arith}
 use borrow.Author.Tests.{not-true, not-false}
 use denote.Ref.{now}
-use Rattle.slip_scan.specs.Steps.{run, checkedOf}
+use Rattle.slip_numbers.specs.Steps.{run, checkedOf}
 use Rattle.number_cursor.specs.declared.Step.{Step}
 use Rattle.leb128.specs.Reading.{moreOf, topOf}
 use Rattle.leb128.proofs.Readings.{read-next, width}
 use Rattle.number_cursor.proofs.Steps.{step-moved, counted-one}
-use Rattle.slip_scan.proofs.Runs.{check-none, check-good, check-fault, check-broken, check-short}
-use Rattle.slip_scan.proofs.check_numbers.Statement.{statement}
-use Rattle.slip_scan.proofs.check_numbers.Tie as tie
+use Rattle.slip_numbers.proofs.Runs.{check-none, check-good, check-fault, check-broken, check-short}
+use Rattle.slip_numbers.proofs.check_numbers.Statement.{statement}
+use Rattle.slip_numbers.proofs.check_numbers.Tie as tie
 
 abbrev Inv-loop : tie.InvT-loop
 Inv-loop bytes c rest₀ prev₀ p₀ rest prev p =

@@ -1,4 +1,4 @@
--- `slip_scan::check_pairs` meets its contract: the invariant says that what is left to check, past the head, decides what all of it is.
+-- `slip_numbers::check_pairs` meets its contract: the invariant says that what is left to check, past the head, decides what all of it is.
 -- Assumes nothing.
 use borrow.Author.Needs.{needs}
 use mathlib.Core.Path.{_≡_, refl, sym, _∙_}
@@ -10,10 +10,10 @@ use Rattle.leb128.specs.Reading.{readAt, moreOf, topOf}
 use Rattle.leb128.specs.declared.number.NumberRead.the-variants.{Good}
 use Rattle.leb128.proofs.Readings.{read-next, width}
 use Rattle.leb128.proofs.Quick.{quick-is}
-use Rattle.slip_scan.specs.Steps.{run, checkedOf}
-use Rattle.slip_scan.proofs.Runs.{allowed-past, check-none, check-good, check-broken, check-short}
-use Rattle.slip_scan.proofs.check_pairs.Statement.{statement}
-use Rattle.slip_scan.proofs.check_pairs.Tie as tie
+use Rattle.slip_numbers.specs.Steps.{run, checkedOf}
+use Rattle.slip_numbers.proofs.Runs.{allowed-past, check-none, check-good, check-broken, check-short}
+use Rattle.slip_numbers.proofs.check_pairs.Statement.{statement}
+use Rattle.slip_numbers.proofs.check_pairs.Tie as tie
 
 abbrev Inv-loop : tie.InvT-loop
 Inv-loop bytes c from wide rest₀ at₀ rest at =

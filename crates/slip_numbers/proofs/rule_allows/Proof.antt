@@ -1,11 +1,11 @@
--- `slip_scan::rule_allows` meets its contract: at each `return` the tests that led there say which case of `allowed` holds.
+-- `slip_numbers::rule_allows` meets its contract: at each `return` the tests that led there say which case of `allowed` holds.
 -- Assumes nothing.
 use Prim.Native.Nat.{_≤_, _<_}
 use native.Mathlib.Omega.{arith}
 use borrow.Author.Tests.{eq-eqb, ne-eqb, lt-ltb, le-ltb, le-leb, lt-leb}
-use Rattle.slip_scan.specs.Rules.{allowed}
-use Rattle.slip_scan.proofs.rule_allows.Statement.{statement}
-use Rattle.slip_scan.proofs.rule_allows.Tie as tie
+use Rattle.slip_numbers.specs.Rules.{allowed}
+use Rattle.slip_numbers.proofs.rule_allows.Statement.{statement}
+use Rattle.slip_numbers.proofs.rule_allows.Tie as tie
 
 returns : tie.Need-returns
 unfolding allowed

@@ -6,20 +6,20 @@ use mathlib.Core.Bool.{Bool, true, false, cond}
 use mathlib.Core.List.{List, [], _∷_, _++_, append-assoc}
 use Prim.Native.Nat.{ℕ, zero, suc, _+_, _-_, _<_, _≤_}
 use native.Mathlib.Omega.{arith}
-use native.Mathlib.Numerals.{add-one}
 use native.Mathlib.Nat.{add-zero}
-use lib.ListN.{length, getD, drop, set, length-append}
+use lib.ListN.{length, getD, drop, length-append}
 use borrow.Author.Tests.{le-leb}
-use lib.Seq.{sets, drop-drop, getD-drop}
+use lib.Seq.{drop-drop, getD-drop}
 use Rattle.leb128.specs.Numbers.{groups, writes, Below}
 use Rattle.leb128.specs.Reading.{limit, readAt}
-use Rattle.slip_scan.specs.Rules.{allowed}
-use Rattle.slip_scan.specs.Steps.{NumberRun, all, stopped, prepend, ruled, run, checkedOf, valueOf, nextOf, valuesFrom}
+use Rattle.number_values.specs.Values.{valueOf, nextOf, valuesFrom}
+use Rattle.slip_numbers.specs.Rules.{allowed}
+use Rattle.slip_numbers.specs.Steps.{NumberRun, all, stopped, prepend, ruled, run, checkedOf}
 use Rattle.leb128.specs.declared.number.NumberRead.{NumberRead}
 use Rattle.leb128.specs.declared.number.NumberRead.the-variants.{Good, Broken, Short}
-use Rattle.slip_scan.specs.declared.Checked.the-variants.{All, Stopped}
-use Rattle.leb128.proofs.Groups.{Written, limit-pos, groups-count, number-written}
-use Rattle.leb128.proofs.Readings.{read-good, read-written}
+use Rattle.slip_numbers.specs.declared.Checked.the-variants.{All, Stopped}
+use Rattle.leb128.proofs.Groups.{Written, number-written}
+use Rattle.leb128.proofs.Readings.{read-good}
 
 -- numbers that a slip may have from the i-th on, after prev, each below the bound
 abbrev pub Allowed : ℕ → ℕ → ℕ → List ℕ → Type 0
@@ -143,12 +143,7 @@ pub allowed-past : (i prev n : ℕ) → 6 ≤ i → allowed i prev n ≡ true
 unfolding allowed
 allowed-past i prev n h = rw (le-leb 6 i h)
 
--- ---- the values that a loop stores
-
-pub length-values : (k top : ℕ) (bs : List ℕ) (c at : ℕ) → length (valuesFrom k top bs c at) ≡ c
-unfolding valuesFrom
-length-values k top bs zero at = refl
-length-values k top bs (suc c) at = ap suc (length-values k top bs c (nextOf at (readAt k top bs at)))
+-- ---- the values of a run
 
 -- the values of a run that has all its numbers are those, also as they are read by other limits, if these take each good number as it is
 module _ (k top k′ top′ : ℕ) (bs : List ℕ) (wider : (at n next : ℕ) → readAt k top bs at ≡ Good n next → readAt k′ top′ bs at ≡ Good n next) where
@@ -174,22 +169,6 @@ module _ (k top k′ top′ : ℕ) (bs : List ℕ) (wider : (at n next : ℕ) �
       go (Broken x) q e′ ih = absurd (let z : _≡_ {A = ℕ} 0 1 = cc in omega arith)
       go (Short x) q e′ ih = absurd (let z : _≡_ {A = ℕ} 0 1 = cc in omega arith)
 
--- a value is below the limit
-pub value-below : (k top : ℕ) (bs : List ℕ) (at : ℕ) → 0 < top → top ≤ 128 → ((x : ℕ) → getD bs x 0 < 256) → valueOf (readAt k top bs at) < limit k top
-value-below k top bs at p t are = go (readAt k top bs at) refl
-  where
-    go : (r : NumberRead) → readAt k top bs at ≡ r → valueOf r < limit k top
-    go (Good n next) q = read-written top bs at k n next p t are q .below
-    go (Broken x) q = limit-pos k top p
-    go (Short x) q = limit-pos k top p
-
--- one turn of the loop that stores
-pub fill-turn : (k top : ℕ) (bs out : List ℕ) (j n p : ℕ) → j < n → sets out j (valuesFrom k top bs (n - j) p) ≡ sets (set out j (valueOf (readAt k top bs p))) (j + 1) (valuesFrom k top bs (n - (j + 1)) (nextOf p (readAt k top bs p)))
-unfolding valuesFrom
-fill-turn k top bs out j n p h =
-    let s : n - j ≡ suc (n - (j + 1)) = omega arith in
-    rw (s, add-one)
-
 -- ---- what a check that was answered says
 
 pub checked-all : (r : NumberRun) (at : ℕ) → All at ≡ checkedOf r → (ns : List ℕ) × (r ≡ all ns at)
@@ -202,21 +181,4 @@ unfolding checkedOf
 checked-stopped (all ns end) p e = absurd (let z : _≡_ {A = ℕ} 0 1 = cc in omega arith)
 checked-stopped (stopped x) p e = let q : x ≡ p = cc in ap stopped q
 
--- each value is below the limit
-pub values-below : (k top : ℕ) (bs : List ℕ) (c at i : ℕ) → 0 < top → top ≤ 128 → ((x : ℕ) → getD bs x 0 < 256) → getD (valuesFrom k top bs c at) i 0 < limit k top
-unfolding valuesFrom
-values-below k top bs zero at i p t are = limit-pos k top p
-values-below k top bs (suc c) at zero p t are = value-below k top bs at p t are
-values-below k top bs (suc c) at (suc i) p t are = values-below k top bs c (nextOf at (readAt k top bs at)) i p t are
 
--- a number takes a byte at least
-writes-long : (ns : List ℕ) → length ns ≤ length (writes ns)
-unfolding writes
-writes-long [] = omega arith
-writes-long (n ∷ ns) = omega (arith, writes-long ns, length-append (groups n) (writes ns), groups-count n)
-
-pub checked-long : (k top : ℕ) (bs : List ℕ) (c i prev at end : ℕ) → 0 < top → top ≤ 128 → k ≤ 9 → ((x : ℕ) → getD bs x 0 < 256) → All end ≡ checkedOf (run k top bs c i prev at) → at + c ≤ end
-checked-long k top bs c i prev at end p t w are e =
-    let r = checked-all (run k top bs c i prev at) end e in
-    let s = run-ran k top bs c i prev at (r .0) end p t w are (r .1) in
-    omega (arith, s .past, s .count, writes-long (r .0))

@@ -1,4 +1,4 @@
--- `slip_scan::fill_numbers` meets its contract: the invariant says that the values left, stored from j on, make what all of them make of the room at entry.
+-- `number_values::fill_numbers` meets its contract: the invariant says that the values left, stored from j on, make what all of them make of the room at entry.
 -- Assumes nothing.
 use borrow.Author.Needs.{needs}
 use mathlib.Core.Path.{_≡_, refl, ap, sym, _∙_}
@@ -15,11 +15,11 @@ use Rattle.leb128.specs.Reading.{readAt}
 use Rattle.leb128.specs.declared.number.NumberRead.the-variants.{Good}
 use Rattle.leb128.proofs.Readings.{read-next}
 use Rattle.leb128.proofs.Quick.{quick-is}
-use Rattle.slip_scan.specs.Steps.{valuesFrom, valueOf, nextOf}
+use Rattle.number_values.specs.Values.{valuesFrom, valueOf, nextOf}
 use Rattle.leb128.proofs.Groups.{limit32}
-use Rattle.slip_scan.proofs.Runs.{length-values, value-below, fill-turn}
-use Rattle.slip_scan.proofs.fill_numbers.Statement.{statement}
-use Rattle.slip_scan.proofs.fill_numbers.Tie as tie
+use Rattle.number_values.proofs.Values.{length-values, value-below, fill-turn}
+use Rattle.number_values.proofs.fill_numbers.Statement.{statement}
+use Rattle.number_values.proofs.fill_numbers.Tie as tie
 
 abbrev Inv-loop : tie.InvT-loop
 Inv-loop bytes at room₀ n j₀ p₀ room j p =
