@@ -34,5 +34,3 @@ unfolding valuesFrom
 fill-turn k top bs out j n p h =
     let s : n - j ≡ suc (n - (j + 1)) = omega arith in
     rw (s, add-one)
-
-

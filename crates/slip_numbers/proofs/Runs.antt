@@ -180,5 +180,3 @@ pub checked-stopped : (r : NumberRun) (p : ℕ) → Stopped p ≡ checkedOf r �
 unfolding checkedOf
 checked-stopped (all ns end) p e = absurd (let z : _≡_ {A = ℕ} 0 1 = cc in omega arith)
 checked-stopped (stopped x) p e = let q : x ≡ p = cc in ap stopped q
-
-
