@@ -34,9 +34,9 @@ use Rattle.movie.specs.Rooms.{filledRoom, roomAfter}
 use Rattle.movie.proofs.Strict.{strict-less}
 use Rattle.questions.specs.Asked.{askRefusal, trackAsked}
 use Rattle.stretch.specs.Stretches.{firstIn, pastIn, pairsIn, bytesIn, stretchPairs}
-use Rattle.stretch.specs.Slips.{slipHead, slipOfStretch, slipRefusal, slipAnswer, Slips}
+use Rattle.slip_writing.specs.Slips.{slipHead, slipOfStretch, slipRefusal, slipAnswer, Slips}
 use Rattle.stretch.specs.declared.StretchAnswer.the-variants as stretch
-use Rattle.stretch.specs.declared.slips.SlipAnswer.the-variants as slip
+use Rattle.slip_writing.specs.declared.SlipAnswer.the-variants as slip
 use Rattle.questions.proofs.Asking.{asked}
 use Rattle.theorems.specs.Slips.{Bytes, headOf, ReadsBack, OnlyWriting, BothReaders}
 use Rattle.theorems.proofs.Bytes.{scale-small, asked-id, id-small}

@@ -16,9 +16,9 @@ use Rattle.structure.specs.Track.{scaleOf, durationOf}
 use Rattle.structure.specs.Movie.{moovOf, tracksOf}
 use Rattle.questions.specs.Asked.{trackAsked}
 use Rattle.stretch.specs.Stretches.{stretchAnswer, Stretches}
-use Rattle.stretch.specs.Slips.{Slips}
+use Rattle.slip_writing.specs.Slips.{Slips}
 use Rattle.stretch.specs.declared.StretchAnswer.the-variants as stretch
-use Rattle.stretch.specs.declared.slips.SlipAnswer.the-variants as slip
+use Rattle.slip_writing.specs.declared.SlipAnswer.the-variants as slip
 use Rattle.theorems.specs.Entries.{mediaTotal}
 
 -- each number of a list is a byte, as the type of a file says

@@ -6,7 +6,7 @@ use mathlib.Core.List.{List}
 use lib.ListN.{length}
 use Rattle.structure.specs.Source.{wholeFile, moovAlone, strictly}
 use Rattle.stretch.specs.Stretches.{stretchPairs, spanRefusal, stretchRefusal}
-use Rattle.stretch.specs.Slips.{slipHead, slipOfStretch, slipRefusal}
+use Rattle.slip_writing.specs.Slips.{slipHead, slipOfStretch, slipRefusal}
 use Rattle.ways.specs.Ways.{moovAtom, BothWays}
 use Rattle.ways.specs.Stretches.{SameStretches}
 use Rattle.ways.proofs.Shapes.{moov-same}

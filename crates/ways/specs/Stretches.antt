@@ -7,7 +7,7 @@ use Rattle.pairs.specs.Pairs.{flat}
 use Rattle.structure.specs.declared.source.Source.{Source}
 use Rattle.movie.specs.Rooms.{roomAfter}
 use Rattle.stretch.specs.Stretches.{stretchPairs, stretchRefusal, stretchAnswer}
-use Rattle.stretch.specs.Slips.{slipOfStretch, slipRefusal, slipAnswer}
+use Rattle.slip_writing.specs.Slips.{slipOfStretch, slipRefusal, slipAnswer}
 
 -- the film of the bytes s and the source w, and that of the bytes m and the source v
 pub record SameStretches (s : List ℕ) (w : Source) (m : List ℕ) (v : Source) : Type 0 where
