@@ -185,6 +185,8 @@ writing h any bs room after p =
 
 pub only-writing : (h : Head) → OnlyWriting h
 only-writing h = record {
+  has = λ any pairs rules room enough r after reads.
+      reads-back any (slipBytes h pairs) room r after reads h pairs (record { bytes = refl; rules = rules }) enough;
   written = writing h;
   same = λ one other bs cs room₁ room₂ after₁ after₂ p q e. writing h one bs room₁ after₁ p ∙ ap (slipBytes h) e ∙ sym (writing h other cs room₂ after₂ q);
 }

@@ -40,7 +40,7 @@ pub record HoldsFor (t : List ℕ) (k c : ℕ) : Type 0 where
   pub from : firstChunk t k ≤ c
   pub to : suc k < stscEntries t → c < firstChunk t (suc k)
 
--- "as many as its stsc entry says": ps has one number for each chunk of stco, that of the stsc entry which holds for it, and together they are N
+-- "as many as its stsc entry says": ps has one number for each chunk, that of the stsc entry which holds for it, and together they are N
 pub record Deals (t ps : List ℕ) : Type 0 where
   pub chunks : length ps ≡ chunksOf t
   pub each : (c : ℕ) → 1 ≤ c → c ≤ chunksOf t → (k : ℕ) × HoldsFor t k c × (getD ps (c - 1) 0 ≡ samplesPerChunk t k)
