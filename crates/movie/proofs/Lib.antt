@@ -1,3 +1,4 @@
+pub mod Repeats
 pub mod Places
 pub mod Tables
 pub mod Accepted

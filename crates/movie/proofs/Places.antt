@@ -1,8 +1,8 @@
 -- What a walk over the atoms of a moov's body learns of the tracks' IDs at a place s from the size z there.
 -- Assumes nothing.
-use Prim.Native.Nat.{ℕ, _≤_, _<_}
+use Prim.Native.Nat.{ℕ, suc, _≤_, _<_}
 use mathlib.Core.Path.{_≡_}
-use mathlib.Core.List.{List, [], _∷_}
+use mathlib.Core.List.{List, [], _∷_, _++_}
 use mathlib.Core.Bool.{true, false}
 use lib.ListN.{length, take, drop, length-drop, length-take}
 use native.Mathlib.Omega.{arith}
@@ -10,10 +10,12 @@ use borrow.Author.Tests.{eq-eqb, ne-eqb}
 use Rattle.bigendian.specs.BigEndian.{u32At}
 use Rattle.atoms.specs.Kinds.{moov, trak}
 use Rattle.atoms.specs.Atoms.{headerOf, bodyOf, sizeIn}
+use Rattle.words.specs.Words.{listed}
 use Rattle.structure.specs.Track.{idOf}
 use Rattle.structure.specs.Movie.{tracksOf}
 use Rattle.structure.proofs.Places.{tracks-none, tracks-here, tracks-next}
-use Rattle.movie.specs.Tracks.{idsOf, repeats, hasTrack, trackWith}
+use Rattle.movie.specs.Tracks.{idsOf, hasTrack, trackWith}
+use Rattle.movie.proofs.Repeats.{again}
 
 module _ (s : List ℕ) (z : ℕ) (e : z ≡ sizeIn moov s) where
   -- ---- whether a track has an ID
@@ -34,23 +36,26 @@ module _ (s : List ℕ) (z : ℕ) (e : z ≡ sizeIn moov s) where
   unfolding hasTrack
   has-next id h f = rw (tracks-next s z e h f)
 
-  -- ---- whether an ID occurs twice
+  -- ---- whether an ID occurs twice, those in xs having been met
 
-  pub repeats-none : z < 8 → repeats (idsOf s) ≡ false
-  repeats-none h = rw (tracks-none s z e h)
+  pub again-end : (xs : List ℕ) → z < 8 → again xs (idsOf s) ≡ false
+  again-end xs h = rw (tracks-none s z e h)
 
-  pub repeats-here : (b : List ℕ) (i : ℕ) → 8 ≤ z → u32At s 4 ≡ trak → b ≡ bodyOf (take z s) → i ≡ idOf b → hasTrack i (drop z s) ≡ true
-      → repeats (idsOf s) ≡ true
-  unfolding hasTrack
-  repeats-here b i h f g d q = rw (tracks-here s z e h f, ← g, ← d, q)
+  pub again-found : (xs b : List ℕ) (i : ℕ) → 8 ≤ z → u32At s 4 ≡ trak → b ≡ bodyOf (take z s) → i ≡ idOf b → listed i xs ≡ true → again xs (idsOf s) ≡ true
+  again-found xs b i h f g d q = rw (tracks-here s z e h f, ← g, ← d, q)
 
-  pub repeats-past : (b : List ℕ) (i : ℕ) → 8 ≤ z → u32At s 4 ≡ trak → b ≡ bodyOf (take z s) → i ≡ idOf b → hasTrack i (drop z s) ≡ false
-      → repeats (idsOf s) ≡ repeats (idsOf (drop z s))
-  unfolding hasTrack
-  repeats-past b i h f g d q = rw (tracks-here s z e h f, ← g, ← d, q)
+  pub again-here : (xs b : List ℕ) (i : ℕ) → 8 ≤ z → u32At s 4 ≡ trak → b ≡ bodyOf (take z s) → i ≡ idOf b → listed i xs ≡ false
+      → again xs (idsOf s) ≡ again (xs ++ i ∷ []) (idsOf (drop z s))
+  again-here xs b i h f g d q = rw (tracks-here s z e h f, ← g, ← d, q)
 
-  pub repeats-next : 8 ≤ z → (u32At s 4 ≡ trak → ⊥) → repeats (idsOf s) ≡ repeats (idsOf (drop z s))
-  repeats-next h f = rw (tracks-next s z e h f)
+  pub again-next : (xs : List ℕ) → 8 ≤ z → (u32At s 4 ≡ trak → ⊥) → again xs (idsOf s) ≡ again xs (idsOf (drop z s))
+  again-next xs h f = rw (tracks-next s z e h f)
+
+  pub one-track : 8 ≤ z → u32At s 4 ≡ trak → length (tracksOf s) ≡ suc (length (tracksOf (drop z s)))
+  one-track h f = rw (tracks-here s z e h f)
+
+  pub no-track : 8 ≤ z → (u32At s 4 ≡ trak → ⊥) → length (tracksOf s) ≡ length (tracksOf (drop z s))
+  no-track h f = rw (tracks-next s z e h f)
 
   -- ---- the track that has an ID
 

@@ -1,6 +1,6 @@
 -- Rows 7 to 13 and 19 of the table: they follow those of the crate shape, and each track's own are those that the crate track judges.
 -- Assumes nothing.
-use Prim.Native.Nat.{ℕ, zero, suc, _<_, _^_}
+use Prim.Native.Nat.{ℕ, zero, suc, _≤_, _<_, _^_}
 use mathlib.Core.Path.{_≡_, refl, sym, ap, _∙_}
 use mathlib.Core.List.{List, _++_}
 use mathlib.Core.Bool.{true}
@@ -72,6 +72,8 @@ pub then-tables : (s m : List ℕ) (w : Source) (r len q : ℕ) → r ≡ refusa
 unfolding orElse
 then-tables s m w r len q e z d l h = sym (film-is s w ∙ rw (← e, eq-eqb r 0 z, ← d, ← l, ← h))
 
-pub moov-fits : (s m : List ℕ) (w : Source) (r : ℕ) → r ≡ refusalOf w s → r ≡ 0 → m ≡ moovOf s → length m < 2 ^ 32
+pub moov-fits : (s m : List ℕ) (w : Source) (r : ℕ) → r ≡ refusalOf w s → r ≡ 0 → m ≡ moovOf s → (length m < 2 ^ 32) × (length (tracksOf m) ≤ 16)
 unfolding moovOf
-moov-fits s m w r e z d = rw d (omega (arith, shaped s w (sym e ∙ z) .short, body-short file moov 0 s))
+moov-fits s m w r e z d =
+    let h = shaped s w (sym e ∙ z) in
+    (rw d (omega (arith, h .short, body-short file moov 0 s)), rw d (h .movie .few-tracks))

@@ -11,16 +11,16 @@ use structure::moov::movie_scale;
 use structure::source::Source;
 use tracks::ids_repeat;
 ghost use mathlib.Core.Path.{_≡_};
-ghost use Prim.Native.Nat.{_<_, _^_};
+ghost use Prim.Native.Nat.{_<_, _≤_, _^_};
 ghost use lib.ListN.{length};
-ghost use Rattle.structure.specs.Movie.{movieScale};
+ghost use Rattle.structure.specs.Movie.{tracksOf, movieScale};
 ghost use Rattle.structure.specs.Rows.{ofWhole};
 ghost use Rattle.movie.specs.Refusals.{filmRefusal};
 ghost use Rattle.movie.specs.TableRows.{tableRows, tablesRefusal};
 
 // What 7 and 8 say of the movie itself: an ID that occurs twice, a time scale of 0.
 fn own_refusal(moov: &[u8], scale: u32, len: u64, source: Source) -> u32
-    requires { ⌜ scale ≡ movieScale (now moov) ⌝ }
+    requires { ⌜ (scale ≡ movieScale (now moov)) × (length (tracksOf (now moov)) ≤ 16) ⌝ }
     ensures { λ r. ⌜ r ≡ ofWhole (tableRows source scale len) (now (moov .entry)) ⌝ }
 {
     if ids_repeat(moov) {
@@ -34,7 +34,7 @@ fn own_refusal(moov: &[u8], scale: u32, len: u64, source: Source) -> u32
 
 // The first of 7 to 13 and 19, in the order of judging, that applies to a movie, from the body of its moov, the length of its file and its source; 0 where none does.
 fn tables_refusal(moov: &[u8], len: u64, source: Source) -> u32
-    requires { ⌜ length (now moov) < 2 ^ 32 ⌝ }
+    requires { ⌜ (length (now moov) < 2 ^ 32) × (length (tracksOf (now moov)) ≤ 16) ⌝ }
     ensures { λ r. ⌜ r ≡ tablesRefusal source len (now (moov .entry)) ⌝ }
 {
     let scale = movie_scale(moov);

@@ -13,14 +13,18 @@ use Rattle.presence.specs.declared.Counts.{Counts}
 use Rattle.presence.specs.Present.{present}
 use Rattle.presence.specs.Counts.{nothingCounted, withKind, withAtoms, presentBy}
 use Rattle.leaves.specs.declared.LeafRule.the-variants.{Version, Size}
-use Rattle.leaves.specs.Leaves.{atomOk, leavesOk}
+use Rattle.leaves.specs.declared.Form.the-variants.{Skipped}
+use Rattle.leaves.specs.Leaves.{formOf, skipped, versionOk, sizeOk, leafOk, atomOk, leavesOk}
 use Rattle.tree.specs.declared.Checks.{Checks}
-use Rattle.tree.specs.Checks.{allRight, noneRight, bothChecks, leafChecks, treeChecks}
+use Rattle.tree.specs.Checks.{allRight, noneRight, bothChecks, leafChecks, treeChecks, Unruled}
 use borrow.Author.Tests.{ne-eqb}
 use native.Mathlib.Omega.{arith}
 use Rattle.atoms.proofs.Pieces.{filled-end}
 use Rattle.atoms.proofs.Laws.{below, everywhere-open, atoms-none, atoms-next, fill-stop, fill-next}
 use Rattle.presence.proofs.Counting.{countsIn, present-by}
+
+pub not-left : true ≡ false → ⊥
+not-left e = let z : _≡_ {A = ℕ} 0 1 = ap (λ b. cond b 0 1) e in omega arith
 
 and-assoc : (a b c : Bool) → ((a && b) && c) ≡ (a && (b && c))
 and-assoc true b c = refl
@@ -74,6 +78,14 @@ module _ (wide : Bool) (n p : ℕ) where
   pub atom-leaf : (k : ℕ) (a : List ℕ) (q : Bool) (leaf : Checks) → k ≡ kindOf a → q ≡ container p k → q ≡ false → leaf ≡ leafChecks wide p k a → leaf ≡ atomChecks a
   unfolding atomChecks
   atom-leaf k a q leaf e f g i = i ∙ rw (← e, ← f, g) (checks-are _ _ refl refl (sym (and-unit _)) (sym (and-unit _)))
+
+  -- one of which no rule speaks
+  pub atom-other : (k : ℕ) (a : List ℕ) (found : Checks) → k ≡ kindOf a → Unruled k → found ≡ bothChecks found (atomChecks a)
+  unfolding atomChecks skipped versionOk sizeOk leafOk
+  atom-other k a found e o =
+      let f : (x : Bool) → formOf x p (kindOf a) ≡ Skipped = λ x. rw (← e) (o .unread x p) in
+      let g : container p (kindOf a) ≡ false = rw (← e) (o .leaf p) in
+      sym (ap (bothChecks found) (checks-are (atomChecks a) allRight (rw g) (rw g) (rw (f wide, g)) (rw (f wide, g))) ∙ both-unit found)
 
   filled-all : (l : List (List ℕ)) → allChecks l .filled ≡ all (below filled n p) l
   unfolding allChecks atomChecks all

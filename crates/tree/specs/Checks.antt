@@ -1,11 +1,16 @@
 -- The rules of the tree as one walk answers them. These need not be believed: they are between the crates' own functions, and each field stands for a
 -- definition of the crates atoms, presence and leaves.
 use Prim.Native.Nat.{ℕ}
+use mathlib.Core.Path.{_≡_}
 use mathlib.Core.List.{List}
 use mathlib.Core.Bool.{Bool, true, false, _&&_}
+use Rattle.atoms.specs.Kinds.{container}
 use Rattle.atoms.specs.Atoms.{filled}
 use Rattle.atoms.specs.Tree.{everywhere}
 use Rattle.presence.specs.Present.{present}
+use Rattle.presence.specs.declared.Counts.{Counts}
+use Rattle.presence.specs.Counts.{withKind}
+use Rattle.leaves.specs.declared.Form.the-variants.{Skipped}
 use Rattle.leaves.specs.declared.LeafRule.the-variants.{Version, Size}
 use Rattle.leaves.specs.Leaves.{formOf, leafOk, leavesOk}
 use Rattle.tree.specs.declared.Checks.{Checks}
@@ -44,3 +49,9 @@ treeChecks wide n p s =
       versions = everywhere (leavesOk Version wide) n p s;
       sizes = everywhere (leavesOk Size wide) n p s;
     }
+
+-- an atom of kind k is not counted, no read leaf and no container
+pub record Unruled (k : ℕ) : Type 0 where
+  pub uncounted : (c : Counts) → withKind c k ≡ c
+  pub unread : (wide : Bool) (p : ℕ) → formOf wide p k ≡ Skipped
+  pub leaf : (p : ℕ) → container p k ≡ false

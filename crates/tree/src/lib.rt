@@ -1,6 +1,7 @@
 // The rules that hold of every body of the tree, all in one walk.
 use atoms::body_of;
 use atoms::is_container;
+use atoms::kinds;
 use atoms::size_in;
 use bigendian::u32_at;
 use leaves::LeafRule;
@@ -11,7 +12,8 @@ use presence::has_its_atoms;
 use presence::nothing_counted;
 use presence::with_kind;
 ghost use mathlib.Core.Path.{_≡_};
-ghost use Rattle.tree.specs.Checks.{allRight, noneRight, bothChecks, leafChecks, treeChecks};
+ghost use mathlib.Core.Bool.{false};
+ghost use Rattle.tree.specs.Checks.{allRight, noneRight, bothChecks, leafChecks, treeChecks, Unruled};
 
 // Whether each rule holds: atoms fill a body exactly; it has the atoms that it must have; each read leaf has its version, and its size.
 pub struct Checks {
@@ -67,6 +69,36 @@ fn leaf_checks(atom: &[u8], parent: u32, kind: u32, wide: bool) -> Checks
     }
 }
 
+// Whether a rule speaks of atoms of that kind. The walk passes over all others at once.
+fn is_ruled(kind: u32) -> bool
+    ensures { λ r. ⌜ (r ≡ false → Unruled kind) ⌝ }
+{
+    match kind {
+        kinds::MOOV
+        | kinds::TRAK
+        | kinds::EDTS
+        | kinds::MDIA
+        | kinds::MINF
+        | kinds::STBL
+        | kinds::DINF => true,
+        kinds::MVHD
+        | kinds::TKHD
+        | kinds::ELST
+        | kinds::MDHD
+        | kinds::HDLR
+        | kinds::DREF
+        | kinds::STSD => true,
+        kinds::STTS
+        | kinds::CTTS
+        | kinds::STSC
+        | kinds::STSZ
+        | kinds::STCO
+        | kinds::CO64
+        | kinds::STSS => true,
+        _ => false,
+    }
+}
+
 // The rules of the body of that parent and of the body of every container below it, with that many levels to go.
 pub fn check_tree(body: &[u8], parent: u32, level: u32, wide: bool) -> Checks
     ensures { λ r. ⌜ r ≡ treeChecks wide level parent (now (body .entry)) ⌝ }
@@ -90,10 +122,12 @@ pub fn check_tree(body: &[u8], parent: u32, level: u32, wide: bool) -> Checks
         }
         let atom = &t[..n];
         let kind = u32_at(atom, 4);
-        counts = with_kind(counts, kind);
-        found = both_checks(found, leaf_checks(atom, parent, kind, wide));
-        if is_container(parent, kind) {
-            found = both_checks(found, check_tree(body_of(atom), kind, level - 1, wide));
+        if is_ruled(kind) {
+            counts = with_kind(counts, kind);
+            found = both_checks(found, leaf_checks(atom, parent, kind, wide));
+            if is_container(parent, kind) {
+                found = both_checks(found, check_tree(body_of(atom), kind, level - 1, wide));
+            }
         }
         t = &t[n..];
     }

@@ -9,7 +9,7 @@ use Rattle.movie.proofs.own_refusal.Statement.{statement}
 use Rattle.movie.proofs.own_refusal.Tie as tie
 
 ids-repeat-requires : tie.Need-ids-repeat-requires
-ids-repeat-requires c κs = search needs
+ids-repeat-requires c κs = c .before .pre .1
 
 returns : tie.Need-returns
 unfolding tableRows sameIds first
@@ -19,13 +19,13 @@ returns-2 : tie.Need-returns-2
 unfolding tableRows sameIds movieScaleIsZero first
 returns-2 c =
     let a = c .before in
-    simp (← a .before .ids-repeat .ensures, a .if1 .left, ← a .before .before .before .pre, eq-eqb _ _ (c .if2 .taken))
+    simp (← a .before .ids-repeat .ensures, a .if1 .left, ← a .before .before .before .pre .0, eq-eqb _ _ (c .if2 .taken))
 
 returns-3 : tie.Need-returns-3
 unfolding tableRows sameIds movieScaleIsZero first
 returns-3 c =
     let a = c .before in
-    simp (← a .before .ids-repeat .ensures, a .if1 .left, ← a .before .before .before .pre, ne-eqb _ _ (c .if2 .left))
+    simp (← a .before .ids-repeat .ensures, a .if1 .left, ← a .before .before .before .pre .0, ne-eqb _ _ (c .if2 .left))
 
 pub own-refusal-spec : {M : Type 1} → statement M
 own-refusal-spec = tie.close (tie.spec ids-repeat-requires returns returns-2 returns-3)

@@ -28,14 +28,14 @@ movie-scale-requires : tie.Need-movie-scale-requires Inv-loop μ-loop
 movie-scale-requires c κs = search needs
 
 own-refusal-requires : tie.Need-own-refusal-requires Inv-loop μ-loop
-own-refusal-requires c κs = search needs
+own-refusal-requires c κs = (c .movie-scale .ensures, c .before .before .pre .1)
 
 loop-holds : tie.Need-loop-holds Inv-loop μ-loop
 loop-holds c =
     let a = c .before .before .before in
     let m = now (a .args .moov) in
     let scale = c .before .movie-scale .result in (
-      a .pre,
+      a .pre .0,
       ap (λ x. earlierOf x (ofTracks (tableRows (a .args .source) scale (a .args .len)) (tracksOf m))) (c .own-refusal .ensures)
           ∙ sym (tables-by-tracks (a .args .source) scale (a .args .len) m (c .before .movie-scale .ensures)),
     )

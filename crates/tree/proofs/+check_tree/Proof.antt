@@ -9,8 +9,9 @@ use denote.Ref.{now}
 use lib.ListN.{length, take, length-drop}
 use lib.Seq.{length-take-le}
 use Rattle.bigendian.proofs.Parts.{rest}
+use Rattle.presence.specs.Counts.{withKind}
 use Rattle.tree.specs.Checks.{bothChecks}
-use Rattle.tree.proofs.Walking.{atomChecks, atom-container, atom-leaf, both-assoc, tree-none, Walked, walked-start, walked-next, walked-end}
+use Rattle.tree.proofs.Walking.{atomChecks, atom-container, atom-leaf, atom-other, both-assoc, tree-none, Walked, walked-start, walked-next, walked-end}
 use Prim.Native.Nat.{ℕ, _-_, _<_}
 use borrow.Fn.Kinds.{In}
 use borrow.Fn.PlainCycle.{Measures, is, falls, and}
@@ -26,6 +27,7 @@ use Rattle.presence.proofs.nothing_counted.Reads as nothing-counted-reads
 use Rattle.presence.proofs.with_kind.Reads as with-kind-reads
 use Rattle.tree.proofs.all_right.Reads as all-right-reads
 use Rattle.tree.proofs.both_checks.Reads as both-checks-reads
+use Rattle.tree.proofs.is_ruled.Reads as is-ruled-reads
 use Rattle.tree.proofs.leaf_checks.Reads as leaf-checks-reads
 use Rattle.tree.proofs.none_right.Reads as none-right-reads
 use Rattle.tree.proofs.+check_tree.{statement}
@@ -50,7 +52,7 @@ check-tree-μ-loop body parent level wide t₀ counts₀ found₀ t counts found
 
 -- what is known of the callees
 abbrev calls : ℕ → check-tree-lts.Claims
-calls t = (none-right-reads.Asked, none-right-reads.Learnt, nothing-counted-reads.Asked, nothing-counted-reads.Learnt, all-right-reads.Asked, all-right-reads.Learnt, size-in-reads.Asked, size-in-reads.Learnt, has-its-atoms-reads.Asked, has-its-atoms-reads.Learnt, both-checks-reads.Asked, both-checks-reads.Learnt, u32-at-reads.Asked, u32-at-reads.Learnt, with-kind-reads.Asked, with-kind-reads.Learnt, leaf-checks-reads.Asked, leaf-checks-reads.Learnt, is-container-reads.Asked, is-container-reads.Learnt, body-of-reads.Asked, body-of-reads.Learnt, check-tree-below t, check-tree.Post)
+calls t = (none-right-reads.Asked, none-right-reads.Learnt, nothing-counted-reads.Asked, nothing-counted-reads.Learnt, all-right-reads.Asked, all-right-reads.Learnt, size-in-reads.Asked, size-in-reads.Learnt, has-its-atoms-reads.Asked, has-its-atoms-reads.Learnt, both-checks-reads.Asked, both-checks-reads.Learnt, u32-at-reads.Asked, u32-at-reads.Learnt, is-ruled-reads.Asked, is-ruled-reads.Learnt, with-kind-reads.Asked, with-kind-reads.Learnt, leaf-checks-reads.Asked, leaf-checks-reads.Learnt, is-container-reads.Asked, is-container-reads.Learnt, body-of-reads.Asked, body-of-reads.Learnt, check-tree-below t, check-tree.Post)
 
 check-tree-none-right-requires : (t : ℕ) → check-tree-lts.Need-none-right-requires (calls t) (check-tree-at t) check-tree.Post check-tree-Inv-loop check-tree-μ-loop
 check-tree-none-right-requires t c κs = tt
@@ -94,6 +96,9 @@ check-tree-slice-aggregate-atom t c = sym (length-take-le _ _ (c .before .before
 check-tree-u32-at-requires : (t : ℕ) → check-tree-lts.Need-u32-at-requires (calls t) (check-tree-at t) check-tree.Post check-tree-Inv-loop check-tree-μ-loop
 check-tree-u32-at-requires t c κs = omega (arith, length-take-le (c .before .before .size-in .result) (now (c .before .before .before .loop .t)) (c .before .before .size-in .ensures .1))
 
+check-tree-is-ruled-requires : (t : ℕ) → check-tree-lts.Need-is-ruled-requires (calls t) (check-tree-at t) check-tree.Post check-tree-Inv-loop check-tree-μ-loop
+check-tree-is-ruled-requires t c κs = tt
+
 check-tree-with-kind-requires : (t : ℕ) → check-tree-lts.Need-with-kind-requires (calls t) (check-tree-at t) check-tree.Post check-tree-Inv-loop check-tree-μ-loop
 check-tree-with-kind-requires t c κs = tt
 
@@ -114,7 +119,7 @@ check-tree-sub-check-tree t c = search needs
 
 check-tree-check-tree-requires : (t : ℕ) → check-tree-lts.Need-check-tree-requires (calls t) (check-tree-at t) check-tree.Post check-tree-Inv-loop check-tree-μ-loop
 check-tree-check-tree-requires t c κs =
-    let b = c .before .before .before .before .before .before .before .before .before .before .before .before .before in
+    let b = c .before .before .before .before .before .before .before .before .before .before .before .before .before .before .before in
     (omega (arith, pos-of-ne-zero (b .if1 .left), b .before .before .pre .0), tt)
 
 check-tree-both-checks-requires-3 : (t : ℕ) → check-tree-lts.Need-both-checks-requires-3 (calls t) (check-tree-at t) check-tree.Post check-tree-Inv-loop check-tree-μ-loop
@@ -131,35 +136,45 @@ check-tree-part-t-end t c = search needs
 
 check-tree-loop-less : (t : ℕ) → check-tree-lts.Need-loop-less (calls t) (check-tree-at t) check-tree.Post check-tree-Inv-loop check-tree-μ-loop
 check-tree-loop-less t c =
-    let r = now (c .before .before .before .before .before .before .before .before .before .before .loop .t) in
-    let n = c .before .before .before .before .before .before .before .before .before .size-in .result in
+    let z = c .before .before .before .before .before .before in
+    let r = now (z .before .loop .t) in
+    let n = z .size-in .result in
     rw (rest n r) (omega (arith, length-drop n r))
 
--- where the ways meet: the atom is a container that was gone into, or a leaf
-joined-found : (t : ℕ) (c : check-tree-lts.Joined3 (calls t) (check-tree-at t) check-tree.Post check-tree-Inv-loop check-tree-μ-loop)
-    → c .if3 .found ≡ bothChecks (c .before .before .before .before .before .before .before .before .before .loop .found) (atomChecks (c .before .before .before .before .before .before .before .before .before .before .before .before .before .before .args .wide) (c .before .before .before .before .before .before .before .before .before .before .before .before .before .before .args .level - 1) (c .before .before .before .before .before .before .before .before .before .before .before .before .before .before .args .parent) (take (c .before .before .before .before .before .before .before .before .size-in .result) (now (c .before .before .before .before .before .before .before .before .before .loop .t))))
-joined-found t c =
-    let a = c .before .before .before .before .before .before .before .before .before .before .before .before .before .before .args in
-    let found = c .before .before .before .before .before .before .before .before .before .loop .found in
-    let u = c .before .before .before .before .before .u32-at .ensures in
-    let k = c .before .is-container .ensures in
-    let leaf = c .before .before .before .leaf-checks in
-    let both = c .before .before .both-checks2 .ensures in
+-- where the ways meet: the atom is a container that was gone into, another of which a rule speaks, or passed over
+joined : (t : ℕ) (c : check-tree-lts.Joined3 (calls t) (check-tree-at t) check-tree.Post check-tree-Inv-loop check-tree-μ-loop)
+    → (c .if3 .counts ≡ withKind (c .before .before .before .before .before .before .loop .counts) (c .before .before .u32-at .result))
+    × (c .if3 .found ≡ bothChecks (c .before .before .before .before .before .before .loop .found) (atomChecks (c .before .before .before .before .before .before .before .before .before .before .before .args .wide) (c .before .before .before .before .before .before .before .before .before .before .before .args .level - 1) (c .before .before .before .before .before .before .before .before .before .before .before .args .parent) (take (c .before .before .before .before .before .size-in .result) (now (c .before .before .before .before .before .before .loop .t)))))
+joined t c =
+    let a = c .before .before .before .before .before .before .before .before .before .before .before .args in
+    let l = c .before .before .before .before .before .before .loop in
+    let u = c .before .before .u32-at .ensures in
     ⊎-elim
-    (λ w. w .4 ∙ w .3 .ensures ∙ ap (λ x. bothChecks x (w .2 .result)) both ∙ both-assoc found (leaf .result) (w .2 .result)
-    ∙ ap (bothChecks found) (atom-container (a .wide) (a .level - 1) (a .parent) _ _ _ _ _ _ u k (w .0 .taken) (w .1 .ensures) (leaf .ensures) (w .2 .ensures)))
-    (λ w. w .1 ∙ both ∙ ap (bothChecks found) (atom-leaf (a .wide) (a .level - 1) (a .parent) _ _ _ _ u k (w .0 .left) (leaf .ensures)))
+    (λ w. (
+      w .9 ∙ w .1 .ensures,
+      w .10 ∙ w .8 .ensures ∙ ap (λ x. bothChecks x (w .7 .result)) (w .3 .ensures) ∙ both-assoc (l .found) (w .2 .result) (w .7 .result)
+          ∙ ap (bothChecks (l .found)) (atom-container (a .wide) (a .level - 1) (a .parent) _ _ _ _ _ _ u (w .4 .ensures) (w .5 .taken) (w .6 .ensures) (w .2 .ensures) (w .7 .ensures)),
+    ))
+    (⊎-elim
+    (λ w. (
+      w .6 ∙ w .1 .ensures,
+      w .7 ∙ w .3 .ensures ∙ ap (bothChecks (l .found)) (atom-leaf (a .wide) (a .level - 1) (a .parent) _ _ _ _ u (w .4 .ensures) (w .5 .left) (w .2 .ensures)),
+    ))
+    (λ w.
+    let o = c .before .is-ruled .ensures (w .0 .left) in
+    (w .1 ∙ sym (o .uncounted (l .counts)), w .2 ∙ atom-other (a .wide) (a .level - 1) (a .parent) _ _ (l .found) u o)))
     (c .if3 .came)
 
 check-tree-loop-again : (t : ℕ) → check-tree-lts.Need-loop-again (calls t) (check-tree-at t) check-tree.Post check-tree-Inv-loop check-tree-μ-loop
 check-tree-loop-again t c =
-    let b = c .before .before .before .before .before .before .before .before in
+    let b = c .before .before .before .before .before in
     let l = b .before .before .loop in
     let a = b .before .before .before .before .before .before .before .args in
     let z = b .before .size-in .result in
+    let j = joined t (c .before) in
     rw (rest z (now (l .t)))
     (walked-next (a .wide) (a .level) (a .parent) (now (a .body)) (now (l .t)) (l .counts) (l .found) (l .inv) z (b .before .size-in .ensures .0)
-    _ _ _ (b .if2 .left) (c .before .before .before .before .before .before .u32-at .ensures) (c .before .before .before .before .before .with-kind .ensures) (joined-found t (c .before)))
+    _ _ _ (b .if2 .left) (c .before .before .before .u32-at .ensures) (j .0) (j .1))
 
 pub +check-tree-spec : {M : Type 1} → statement M
 +check-tree-spec = close μ-check-tree λ t. check-tree-lts.spec (calls t)
@@ -178,6 +193,7 @@ pub +check-tree-spec : {M : Type 1} → statement M
     (check-tree-returns-2 t)
     (check-tree-slice-aggregate-atom t)
     (check-tree-u32-at-requires t)
+    (check-tree-is-ruled-requires t)
     (check-tree-with-kind-requires t)
     (check-tree-leaf-checks-requires t)
     (check-tree-both-checks-requires-2 t)
