@@ -3,14 +3,15 @@ use atoms::kinds;
 use bigendian::u32_at;
 use leaves::has_sized_entries;
 use leaves::holds_entries;
+use places::part_of;
+use places::trak::Parts;
 use structure::either;
 use structure::moov::movie_profile;
-use structure::trak::subtype;
-use structure::trak::table;
-use structure::trak::track_profile;
 ghost use mathlib.Core.Path.{_≡_};
 ghost use Rattle.leaf_checks.specs.LeafChecks.{profileOk, shortVideoDescription, wrongTrackSize};
+ghost use Rattle.structure.specs.Track.{profileOf};
 ghost use Rattle.structure.specs.Movie.{movieProfile};
+ghost use Rattle.places.specs.Places.{AreParts};
 
 // Whether a profile has its size; where there is none, nothing is asked.
 fn profile_ok(profile: &[u8]) -> bool
@@ -24,21 +25,25 @@ fn profile_ok(profile: &[u8]) -> bool
 }
 
 // Whether a track of pictures has a description below 36 bytes.
-fn has_short_video_description(trak: &[u8]) -> bool
+fn has_short_video_description(trak: &[u8], p: Parts) -> bool
+    requires { ⌜ AreParts (now trak) p ⌝ }
     ensures { λ r. ⌜ r ≡ shortVideoDescription (now (trak .entry)) ⌝ }
 {
-    if subtype(trak) != kinds::VIDE {
+    let hdlr = p.hdlr;
+    let stsd = p.stsd;
+    if u32_at(part_of(trak, hdlr), 16) != kinds::VIDE {
         return false;
     }
-    !has_sized_entries(table(trak, kinds::STSD), 36)
+    !has_sized_entries(part_of(trak, stsd), 36)
 }
 
-// 5 in a track.
-pub fn is_wrong_track_size(trak: &[u8]) -> bool
+// 5 in a track, from the body of its trak, its parts and its profile.
+pub fn is_wrong_track_size(trak: &[u8], p: Parts, profile: &[u8]) -> bool
+    requires { ⌜ (AreParts (now trak) p) × (now profile ≡ profileOf (now trak)) ⌝ }
     ensures { λ r. ⌜ r ≡ wrongTrackSize (now (trak .entry)) ⌝ }
 {
-    let small = has_short_video_description(trak);
-    let sized = profile_ok(track_profile(trak));
+    let small = has_short_video_description(trak, p);
+    let sized = profile_ok(profile);
     either(small, !sized)
 }
 

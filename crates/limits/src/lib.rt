@@ -1,27 +1,31 @@
 // How many tracks, samples, chunks, edits, descriptions, data references and records there are: refusal 6.
-use atoms::kinds;
 use bigendian::u32_at;
+use places::part_of;
+use places::trak::Parts;
 use structure::either;
 use structure::moov::movie_profile;
 use structure::moov::track_count;
-use structure::trak::data_references;
-use structure::trak::edit_list;
-use structure::trak::offset_table;
-use structure::trak::table;
-use structure::trak::track_profile;
 ghost use mathlib.Core.Path.{_≡_};
+ghost use Rattle.structure.specs.Track.{profileOf};
+ghost use Rattle.places.specs.Places.{AreParts};
 ghost use Rattle.limits.specs.Limits.{overLimits, tooMany};
 
-// Of a track.
-pub fn is_over_limits(trak: &[u8]) -> bool
+// Of a track, from the body of its trak, its parts and its profile.
+pub fn is_over_limits(trak: &[u8], p: Parts, profile: &[u8]) -> bool
+    requires { ⌜ (AreParts (now trak) p) × (now profile ≡ profileOf (now trak)) ⌝ }
     ensures { λ r. ⌜ r ≡ overLimits (now (trak .entry)) ⌝ }
 {
-    let samples = u32_at(table(trak, kinds::STSZ), 16);
-    let chunks = u32_at(offset_table(trak), 12);
-    let edits = u32_at(edit_list(trak), 12);
-    let descriptions = u32_at(table(trak, kinds::STSD), 12);
-    let records = u32_at(track_profile(trak), 12);
-    let references = u32_at(data_references(trak), 12);
+    let stsz = p.stsz;
+    let offsets = p.offsets;
+    let elst = p.elst;
+    let stsd = p.stsd;
+    let dref = p.dref;
+    let samples = u32_at(part_of(trak, stsz), 16);
+    let chunks = u32_at(part_of(trak, offsets), 12);
+    let edits = u32_at(part_of(trak, elst), 12);
+    let descriptions = u32_at(part_of(trak, stsd), 12);
+    let records = u32_at(profile, 12);
+    let references = u32_at(part_of(trak, dref), 12);
     let a = either(1048576 < samples, 1048576 < chunks);
     let b = either(a, 256 < edits);
     let c = either(b, 64 < descriptions);

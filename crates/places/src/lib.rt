@@ -1,5 +1,7 @@
-// Parts of what is lent, by value: where a part begins and how long it is. All sample tables of a track are found in one walk over each container.
+// Parts of what is lent, by value: where a part begins and how long it is. All parts of a track are found in one walk over each container.
+
 pub mod tables;
+pub mod trak;
 
 use atoms::body_of;
 use atoms::size_in;
@@ -9,6 +11,7 @@ ghost use mathlib.Core.Path.{_≡_};
 ghost use lib.ListN.{take};
 ghost use Rattle.atoms.specs.Atoms.{bodyOf, childIn};
 ghost use Rattle.places.specs.Places.{partIn};
+ghost use Rattle.places.specs.Finding.{firstPart};
 
 // It need not lie in what is lent: then it is what there is of it, or nothing.
 pub struct Part {
@@ -69,4 +72,17 @@ pub fn body_part(lent: &[u8], p: Part) -> Part
         at: p.at + (atom.len() - body.len()),
         len: body.len(),
     }
+}
+
+// The first part of the kind wanted: the one found before, or else the next one if it is of that kind.
+pub(crate) fn first_part(found: Part, wanted: u32, kind: u32, next: Part) -> Part
+    ensures { λ r. ⌜ r ≡ firstPart found wanted kind next ⌝ }
+{
+    if found.len != 0 {
+        return found;
+    }
+    if kind == wanted {
+        return next;
+    }
+    found
 }

@@ -2,14 +2,16 @@
 use super::Part;
 use super::body_part;
 use super::child_part;
+use super::first_part;
 use super::part_of;
 use atoms::kinds;
 use atoms::size_in;
 use bigendian::u32_at;
 ghost use mathlib.Core.Path.{_≡_};
+ghost use mathlib.Core.Bool.{false};
 ghost use Rattle.structure.specs.Track.{stblOf};
 ghost use Rattle.places.specs.Places.{partIn, AreTables};
-ghost use Rattle.places.specs.Finding.{firstPart, withAtom, noTables, Finds};
+ghost use Rattle.places.specs.Finding.{NoTable, withAtom, noTables, offsetsIn, Finds};
 
 // The part of each, its header included; empty where it is absent. The offsets are those of stco, and where there is none those of co64.
 pub struct Tables {
@@ -21,8 +23,9 @@ pub struct Tables {
     pub stss: Part,
 }
 
-// Those found so far.
+// Those found so far in an stbl, and its descriptions.
 pub(crate) struct Found {
+    pub stsd: Part,
     pub stts: Part,
     pub ctts: Part,
     pub stsc: Part,
@@ -37,6 +40,7 @@ fn none_found() -> Found
 {
     let none = Part { at: 0, len: 0 };
     Found {
+        stsd: none,
         stts: none,
         ctts: none,
         stsc: none,
@@ -47,22 +51,24 @@ fn none_found() -> Found
     }
 }
 
-// The first part of the kind wanted: the one found before, or else the next one if it is of that kind.
-fn first_part(found: Part, wanted: u32, kind: u32, next: Part) -> Part
-    ensures { λ r. ⌜ r ≡ firstPart found wanted kind next ⌝ }
+// Whether a table is of that kind. The walk passes over all other atoms at once.
+fn is_table(kind: u32) -> bool
+    ensures { λ r. ⌜ (r ≡ false → NoTable kind) ⌝ }
 {
-    if found.len != 0 {
-        return found;
+    match kind {
+        kinds::STSD | kinds::STTS | kinds::CTTS | kinds::STSZ => true,
+        kinds::STSC | kinds::STCO | kinds::CO64 | kinds::STSS => true,
+        _ => false,
     }
-    if kind == wanted {
-        return next;
-    }
-    found
 }
 
 fn with_atom(f: Found, kind: u32, next: Part) -> Found
     ensures { λ r. ⌜ r ≡ withAtom f kind next ⌝ }
 {
+    if !is_table(kind) {
+        return f;
+    }
+    let stsd = f.stsd;
     let stts = f.stts;
     let ctts = f.ctts;
     let stsc = f.stsc;
@@ -71,6 +77,7 @@ fn with_atom(f: Found, kind: u32, next: Part) -> Found
     let co64 = f.co64;
     let stss = f.stss;
     Found {
+        stsd: first_part(stsd, kinds::STSD, kind, next),
         stts: first_part(stts, kinds::STTS, kind, next),
         ctts: first_part(ctts, kinds::CTTS, kind, next),
         stsc: first_part(stsc, kinds::STSC, kind, next),
@@ -82,7 +89,7 @@ fn with_atom(f: Found, kind: u32, next: Part) -> Found
 }
 
 // The tables in the body of an stbl, in one walk over its atoms.
-fn find_tables(lent: &[u8], stbl: Part) -> Found
+pub(crate) fn find_tables(lent: &[u8], stbl: Part) -> Found
     ensures { λ r. ⌜ Finds (now (lent .entry)) (partIn (now (lent .entry)) stbl) r ⌝ }
 {
     let body = part_of(lent, stbl);
@@ -112,6 +119,16 @@ fn stbl_part(lent: &[u8], trak: Part) -> Part
     body_part(lent, stbl)
 }
 
+// The table of chunk offsets: stco, and where there is none co64.
+pub(crate) fn chosen(lent: &[u8], stco: Part, co64: Part) -> Part
+    ensures { λ r. ⌜ r ≡ offsetsIn (now (lent .entry)) stco co64 ⌝ }
+{
+    if part_of(lent, stco).len() == 0 {
+        return co64;
+    }
+    stco
+}
+
 // The sample tables of a track, from the body of its trak.
 pub fn tables_of(lent: &[u8], trak: Part) -> Tables
     ensures { λ r. ⌜ AreTables (now (lent .entry)) (partIn (now (lent .entry)) trak) r ⌝ }
@@ -124,11 +141,7 @@ pub fn tables_of(lent: &[u8], trak: Part) -> Tables
     let stco = found.stco;
     let co64 = found.co64;
     let stss = found.stss;
-    let offsets = if part_of(lent, stco).len() == 0 {
-        co64
-    } else {
-        stco
-    };
+    let offsets = chosen(lent, stco, co64);
     Tables {
         stts,
         ctts,

@@ -7,11 +7,13 @@ use leaf_checks::is_profile_sized;
 use leaf_checks::is_wrong_track_size;
 use limits::is_over_limits;
 use limits::is_too_many;
+use places::trak::parts_of;
 use presence::both;
 use structure::earlier_of;
 use structure::either;
 use structure::moov::moov_body;
 use structure::source::Source;
+use structure::trak::track_profile;
 use tree::check_tree;
 ghost use mathlib.Core.Path.{_≡_};
 ghost use Rattle.structure.specs.Rows.{ofWhole};
@@ -85,10 +87,12 @@ fn own_refusal(moov: &[u8], wide: bool, versions: bool, sizes: bool) -> u32
 fn track_refusal(trak: &[u8], wide: bool) -> u32
     ensures { λ r. ⌜ r ≡ ofTrack (movieRows wide) (now (trak .entry)) ⌝ }
 {
-    if is_wrong_track_size(trak) {
+    let parts = parts_of(trak);
+    let profile = track_profile(trak);
+    if is_wrong_track_size(trak, parts, profile) {
         return 5;
     }
-    if is_over_limits(trak) {
+    if is_over_limits(trak, parts, profile) {
         return 6;
     }
     0

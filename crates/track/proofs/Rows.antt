@@ -13,14 +13,15 @@ use Rattle.lists.specs.Totals.{totalOf}
 use Rattle.lists.proofs.Totals.{total-known, over-known}
 use Rattle.structure.specs.Rows.{first}
 use Rattle.structure.specs.ByTracks.{ofTrack}
-use Rattle.atoms.specs.Kinds.{stts, stsc, stsz, stsd}
+use Rattle.atoms.specs.Kinds.{trak, mdia, tkhd, mdhd, stts, stsc, stsz, stsd}
+use Rattle.atoms.specs.Atoms.{childIn}
 use Rattle.bigendian.specs.BigEndian.{u32At}
 use Rattle.lists.specs.Lists.{sum}
 use Rattle.runs.specs.Runs.{perSample}
 use Rattle.words.specs.Words.{sizes, chunkOffsets}
 use Rattle.chunks.specs.Chunks.{perChunk, endWithin}
 use Rattle.structure.specs.declared.source.Source.{Source}
-use Rattle.structure.specs.Track.{idOf, scaleOf, durationOf, tableOf, offsetTable, elstOf, drefOf}
+use Rattle.structure.specs.Track.{idOf, scaleOf, durationOf, mdiaOf, tableOf, offsetTable, elstOf, drefOf}
 use Rattle.edits.specs.Edits.{editTotal, editsOk}
 use Rattle.references.specs.References.{allInThisFile}
 use Rattle.track.specs.Refusals.{contradicts, totalIn, totalTooLarge, otherDuration, dataElsewhere, chunkPastEnd, wrongEdits}
@@ -107,6 +108,18 @@ unfolding timedRows first totalTooLarge
 timed-over w movie len t a = rw a
 
 -- ---- the conditions, by what the code reads
+
+pub id-by : (t x : List ℕ) (n : ℕ) → x ≡ childIn trak tkhd 0 t → n ≡ u32At x 20 → n ≡ idOf t
+unfolding idOf
+id-by t x n e f = f ∙ ap (λ (l : List ℕ). u32At l 20) e
+
+pub scale-by : (t x : List ℕ) (n : ℕ) → x ≡ childIn mdia mdhd 0 (mdiaOf t) → n ≡ u32At x 20 → n ≡ scaleOf t
+unfolding scaleOf
+scale-by t x n e f = f ∙ ap (λ (l : List ℕ). u32At l 20) e
+
+pub duration-by : (t x : List ℕ) (n : ℕ) → x ≡ childIn mdia mdhd 0 (mdiaOf t) → n ≡ u32At x 24 → n ≡ durationOf t
+unfolding durationOf
+duration-by t x n e f = f ∙ ap (λ (l : List ℕ). u32At l 24) e
 
 pub other-by : (w : Source) (t : List ℕ) (stored total : ℕ) → stored ≡ durationOf t → total ≡ totalIn t → (w .strict && not (eqb stored total)) ≡ otherDuration w t
 unfolding otherDuration

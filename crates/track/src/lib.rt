@@ -7,18 +7,15 @@ use chunk_ends::chunks_end_within;
 use edits::edits_ok;
 use edits::edits_total;
 use lists::Total;
+use places::part_of;
+use places::trak::Parts;
+use places::trak::parts_of;
 use presence::both;
 use references::all_in_this_file;
 use runs::counts;
 use runs::total_duration;
 use structure::source::Source;
-use structure::trak::data_references;
-use structure::trak::edit_list;
-use structure::trak::media_scale;
-use structure::trak::offset_table;
-use structure::trak::stored_duration;
 use structure::trak::table;
-use structure::trak::track_id;
 use words::syncs_agree;
 ghost use mathlib.Core.Path.{_≡_};
 ghost use mathlib.Core.Bool.{_||_};
@@ -26,6 +23,8 @@ ghost use Prim.Native.Nat.{_<_, _^_};
 ghost use lib.ListN.{length};
 ghost use lib.Dec.{ltb, eqb};
 ghost use Rattle.structure.specs.ByTracks.{ofTrack};
+ghost use Rattle.structure.specs.Track.{idOf, scaleOf};
+ghost use Rattle.places.specs.Places.{AreParts};
 ghost use Rattle.lists.specs.Lists.{sum};
 ghost use Rattle.chunks.specs.Chunks.{perChunk};
 ghost use Rattle.runs.specs.Runs.{runsOf};
@@ -66,18 +65,19 @@ fn is_dealt(stsc: &[u8], chunks: u32, samples: u32) -> bool
 }
 
 // Whether the sample tables contradict each other.
-fn is_contradictory(trak: &[u8]) -> bool
+fn is_contradictory(trak: &[u8], p: Parts) -> bool
+    requires { ⌜ AreParts (now trak) p ⌝ }
     ensures { λ r. ⌜ r ≡ contradicts (now (trak .entry)) ⌝ }
 {
-    let samples = u32_at(table(trak, kinds::STSZ), 16);
-    let chunks = u32_at(offset_table(trak), 12);
-    let descriptions = u32_at(table(trak, kinds::STSD), 12);
-    let stsc = table(trak, kinds::STSC);
-    let a = counts(table(trak, kinds::STTS), samples);
-    let b = both(a, may_count(table(trak, kinds::CTTS), samples));
+    let samples = u32_at(part_of(trak, p.stsz), 16);
+    let chunks = u32_at(part_of(trak, p.offsets), 12);
+    let descriptions = u32_at(part_of(trak, p.stsd), 12);
+    let stsc = part_of(trak, p.stsc);
+    let a = counts(part_of(trak, p.stts), samples);
+    let b = both(a, may_count(part_of(trak, p.ctts), samples));
     let c = both(b, deals_agree(stsc, chunks, descriptions));
     let d = both(c, is_dealt(stsc, chunks, samples));
-    !both(d, syncs_agree(table(trak, kinds::STSS), samples))
+    !both(d, syncs_agree(part_of(trak, p.stss), samples))
 }
 
 // Whether the edits' durations total over 4,294,967,295.
@@ -90,43 +90,60 @@ fn is_over(elst: &[u8]) -> bool
     }
 }
 
+// The track's ID.
+fn id_in(trak: &[u8], p: Parts) -> u32
+    requires { ⌜ AreParts (now trak) p ⌝ }
+    ensures { λ r. ⌜ r ≡ idOf (now (trak .entry)) ⌝ }
+{
+    u32_at(part_of(trak, p.tkhd), 20)
+}
+
+// The media time scale.
+fn scale_in(trak: &[u8], p: Parts) -> u32
+    requires { ⌜ AreParts (now trak) p ⌝ }
+    ensures { λ r. ⌜ r ≡ scaleOf (now (trak .entry)) ⌝ }
+{
+    u32_at(part_of(trak, p.mdhd), 20)
+}
+
 // Whether mdhd states another duration than the total, where that is asked for.
-fn has_other_duration(trak: &[u8], total: u32, source: Source) -> bool
-    requires { ⌜ total ≡ totalIn (now trak) ⌝ }
+fn has_other_duration(trak: &[u8], p: Parts, total: u32, source: Source) -> bool
+    requires { ⌜ (AreParts (now trak) p) × (total ≡ totalIn (now trak)) ⌝ }
     ensures { λ r. ⌜ r ≡ otherDuration source (now (trak .entry)) ⌝ }
 {
-    let stored = stored_duration(trak);
+    let stored = u32_at(part_of(trak, p.mdhd), 24);
     both(source.strict, stored != total)
 }
 
 // Whether a description's samples are in another file, or nowhere.
-fn has_data_elsewhere(trak: &[u8]) -> bool
+fn has_data_elsewhere(trak: &[u8], p: Parts) -> bool
+    requires { ⌜ AreParts (now trak) p ⌝ }
     ensures { λ r. ⌜ r ≡ dataElsewhere (now (trak .entry)) ⌝ }
 {
-    let dref = data_references(trak);
-    !all_in_this_file(dref, table(trak, kinds::STSD))
+    let dref = part_of(trak, p.dref);
+    !all_in_this_file(dref, part_of(trak, p.stsd))
 }
 
 // 10 to 13 and 19, in the order of judging, of a track whose durations total `total`.
-fn timed_refusal(trak: &[u8], movie: u32, len: u64, source: Source, total: u32) -> u32
-    requires { ⌜ (total ≡ totalIn (now trak)) × (length (now trak) < 2 ^ 32) ⌝ }
+fn timed_refusal(trak: &[u8], p: Parts, movie: u32, len: u64, source: Source, total: u32) -> u32
+    requires { ⌜ (AreParts (now trak) p) × ((total ≡ totalIn (now trak)) × (length (now trak) < 2 ^ 32)) ⌝ }
     ensures { λ r. ⌜ r ≡ ofTrack (timedRows source movie len) (now (trak .entry)) ⌝ }
 {
-    let elst = edit_list(trak);
+    let elst = part_of(trak, p.elst);
     if is_over(elst) {
         return 10;
     }
-    if has_other_duration(trak, total, source) {
+    if has_other_duration(trak, p, total, source) {
         return 11;
     }
-    if has_data_elsewhere(trak) {
+    if has_data_elsewhere(trak, p) {
         return 19;
     }
-    let stsz = table(trak, kinds::STSZ);
-    if !chunks_end_within(table(trak, kinds::STSC), stsz, offset_table(trak), len) {
+    let stsz = part_of(trak, p.stsz);
+    if !chunks_end_within(part_of(trak, p.stsc), stsz, part_of(trak, p.offsets), len) {
         return 12;
     }
-    if !edits_ok(elst, media_scale(trak), movie, total) {
+    if !edits_ok(elst, scale_in(trak, p), movie, total) {
         return 13;
     }
     0
@@ -137,18 +154,19 @@ pub fn refusal(trak: &[u8], movie: u32, len: u64, source: Source) -> u32
     requires { ⌜ length (now trak) < 2 ^ 32 ⌝ }
     ensures { λ r. ⌜ r ≡ ofTrack (trackRows source movie len) (now (trak .entry)) ⌝ }
 {
-    if track_id(trak) == 0 {
+    let p = parts_of(trak);
+    if id_in(trak, p) == 0 {
         return 7;
     }
-    if media_scale(trak) == 0 {
+    if scale_in(trak, p) == 0 {
         return 8;
     }
-    if is_contradictory(trak) {
+    if is_contradictory(trak, p) {
         return 9;
     }
-    let stts = table(trak, kinds::STTS);
+    let stts = part_of(trak, p.stts);
     match total_duration(stts) {
         Total::Over => 10,
-        Total::Sum(total) => timed_refusal(trak, movie, len, source, total),
+        Total::Sum(total) => timed_refusal(trak, p, movie, len, source, total),
     }
 }

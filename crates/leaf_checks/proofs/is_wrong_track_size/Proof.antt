@@ -9,10 +9,7 @@ use Rattle.leaf_checks.proofs.is_wrong_track_size.Statement.{statement}
 use Rattle.leaf_checks.proofs.is_wrong_track_size.Tie as tie
 
 has-short-video-description-requires : tie.Need-has-short-video-description-requires
-has-short-video-description-requires c κs = tt
-
-track-profile-requires : tie.Need-track-profile-requires
-track-profile-requires c κs = tt
+has-short-video-description-requires c κs = c .before .before .pre .0
 
 profile-ok-requires : tie.Need-profile-ok-requires
 profile-ok-requires c κs = tt
@@ -24,14 +21,13 @@ returns : tie.Need-returns
 unfolding wrongTrackSize
 returns c =
     let b = c .before in
-    either-are (c .either .ensures) (b .before .before .has-short-video-description .ensures) (ap not (b .profile-ok .ensures ∙ ap profileOk (b .before .track-profile .ensures)))
+    either-are (c .either .ensures) (b .before .has-short-video-description .ensures) (ap not (b .profile-ok .ensures ∙ ap profileOk (b .before .before .before .before .pre .1)))
 
 pub is-wrong-track-size-spec : {M : Type 1} → statement M
 is-wrong-track-size-spec =
     tie.close
     (tie.spec
     has-short-video-description-requires
-    track-profile-requires
     profile-ok-requires
     either-requires
     returns)

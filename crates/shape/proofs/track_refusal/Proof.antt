@@ -5,15 +5,21 @@ use Rattle.shape.specs.MovieRows.{movieRows}
 use Rattle.shape.proofs.track_refusal.Statement.{statement}
 use Rattle.shape.proofs.track_refusal.Tie as tie
 
+parts-of-requires : tie.Need-parts-of-requires
+parts-of-requires c κs = tt
+
+track-profile-requires : tie.Need-track-profile-requires
+track-profile-requires c κs = tt
+
 is-wrong-track-size-requires : tie.Need-is-wrong-track-size-requires
-is-wrong-track-size-requires c κs = tt
+is-wrong-track-size-requires c κs = (c .before .parts-of .ensures, c .track-profile .ensures)
 
 returns : tie.Need-returns
 unfolding movieRows first
 returns c = simp (← c .before .is-wrong-track-size .ensures, c .if1 .taken)
 
 is-over-limits-requires : tie.Need-is-over-limits-requires
-is-over-limits-requires c κs = tt
+is-over-limits-requires c κs = let p = c .before .before in (p .before .parts-of .ensures, p .track-profile .ensures)
 
 returns-2 : tie.Need-returns-2
 unfolding movieRows first
@@ -30,4 +36,4 @@ returns-3 c =
 pub track-refusal-spec : {M : Type 1} → statement M
 track-refusal-spec =
     tie.close
-    (tie.spec is-wrong-track-size-requires returns is-over-limits-requires returns-2 returns-3)
+    (tie.spec parts-of-requires track-profile-requires is-wrong-track-size-requires returns is-over-limits-requires returns-2 returns-3)

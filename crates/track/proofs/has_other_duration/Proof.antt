@@ -1,21 +1,24 @@
 -- `track::has_other_duration` meets its contract: both tests are those of the row.
 -- Assumes nothing.
-use borrow.Author.Needs.{needs}
 use mathlib.Core.Path.{_∙_}
-use Rattle.track.proofs.Rows.{other-by}
+use Rattle.track.proofs.Rows.{duration-by, other-by}
 use Rattle.track.proofs.has_other_duration.Statement.{statement}
 use Rattle.track.proofs.has_other_duration.Tie as tie
 
-stored-duration-requires : tie.Need-stored-duration-requires
-stored-duration-requires c κs = search needs
+part-of-requires : tie.Need-part-of-requires
+part-of-requires c κs = tt
+
+u32-at-requires : tie.Need-u32-at-requires
+u32-at-requires c κs = tt
 
 both-requires : tie.Need-both-requires
-both-requires c κs = search needs
+both-requires c κs = tt
 
 returns : tie.Need-returns
 returns c =
-    let s = c .before .before .before in
-    c .both .ensures ∙ other-by _ _ _ _ (c .before .stored-duration .ensures) (s .pre)
+    let m = c .before .before in
+    let h = m .before .before .pre in
+    c .both .ensures ∙ other-by _ _ _ _ (duration-by _ _ _ (m .part-of .ensures ∙ h .0 .mdhd) (c .before .u32-at .ensures)) (h .1)
 
 pub has-other-duration-spec : {M : Type 1} → statement M
-has-other-duration-spec = tie.close (tie.spec stored-duration-requires both-requires returns)
+has-other-duration-spec = tie.close (tie.spec part-of-requires u32-at-requires both-requires returns)

@@ -1,8 +1,8 @@
--- `places::tables::first_part` meets its contract: each test is the one of the definition.
+-- `places::first_part` meets its contract: each test is the one of the definition.
 -- Assumes nothing.
 use borrow.Author.Tests.{eq-eqb, ne-eqb}
-use Rattle.places.proofs.tables.first_part.Statement.{statement}
-use Rattle.places.proofs.tables.first_part.Tie as tie
+use Rattle.places.proofs.first_part.Statement.{statement}
+use Rattle.places.proofs.first_part.Tie as tie
 
 returns : tie.Need-returns
 returns c = simp (ne-eqb _ _ (c .if1 .taken))
