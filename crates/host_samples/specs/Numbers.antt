@@ -4,6 +4,7 @@ use mathlib.Core.Path.{_≡_}
 use mathlib.Core.List.{List, [], _∷_}
 use lib.IntN.{ℤ}
 use Rattle.structure.specs.declared.source.Source.{Source}
+use Rattle.structure.specs.Source.{wholeFile}
 use Rattle.movie.specs.Rooms.{refusedWith}
 use Rattle.questions.specs.Samples.{sampleAnswer, sampleNumbers}
 use Rattle.questions.specs.declared.samples.Sample.{Sample}
@@ -19,10 +20,11 @@ Signable a = (x : Sample) → a ≡ Found x → (x .decode < 2 ^ 63) × (x .chun
 abbrev pub ofSample : List ℕ → Source → ℕ → ℕ → List ℤ
 ofSample s w id n = sampleNumbers (sampleAnswer s w id n)
 
--- "the sample's own bytes, as they stand in the file lent": where they begin and how many they are, none from the beginning on refusal
+-- "the sample's own bytes, as they stand in the file lent": where they begin and how many they are, none from the beginning on refusal. Document 02:
+-- by the second way "sample bytes aren't offered"
 unfoldable pub bytesNumbers : SampleAnswer → List ℕ
 bytesNumbers (Found x) = 0 ∷ x .offset ∷ x .size ∷ []
 bytesNumbers (Refused r) = refusedWith 2 r
 
-abbrev pub ofSampleBytes : List ℕ → Source → ℕ → ℕ → List ℕ
-ofSampleBytes s w id n = bytesNumbers (sampleAnswer s w id n)
+abbrev pub ofSampleBytes : List ℕ → ℕ → ℕ → List ℕ
+ofSampleBytes s id n = bytesNumbers (sampleAnswer s wholeFile id n)

@@ -42,11 +42,11 @@ pub fn hand_sample(lent: &[u8], source: Source, id: u32, n: u32, places: &mut [i
     hand_sample_answer(sample_by_number(lent, source, id, n), places)
 }
 
-// The bytes of sample n, in two places: where they begin in the file, and how many they are.
-pub fn hand_sample_bytes(lent: &[u8], source: Source, id: u32, n: u32, places: &mut [u64]) -> u32
-    ensures { λ r. ⌜ Answers (ofSampleBytes (now (lent .entry)) source id n) (now (places .entry)) r (now (places .exit)) ⌝ }
+// The bytes of sample n in a whole file, in two places: where they begin, and how many they are.
+pub fn hand_sample_bytes(file: &[u8], id: u32, n: u32, places: &mut [u64]) -> u32
+    ensures { λ r. ⌜ Answers (ofSampleBytes (now (file .entry)) id n) (now (places .entry)) r (now (places .exit)) ⌝ }
 {
-    match sample_by_number(lent, source, id, n) {
+    match sample_by_number(file, Source::whole(), id, n) {
         SampleAnswer::Found(s) => hand(0, &[s.offset, s.size as u64], places),
         SampleAnswer::Refused(r) => hand(r, &[0, 0], places),
     }
