@@ -1,7 +1,7 @@
 //! What the header has besides the proved functions: `header.c`, in C and in C++, prints what the crate has.
 mod compiled;
 
-use chaldoref::{Feature, MediaTime, Movie, MovieTime, Refusal, Shown, Slip, TrackId};
+use chaldoref::{Feature, MediaTime, Movie, MovieTime, Refusal, Sample, Shown, Slip, TrackId};
 use reference::film::{self, w_movie, w_track};
 use std::fmt::Write as _;
 use std::path::Path;
@@ -61,6 +61,19 @@ fn sample(movie: &Movie, n: u32) -> String {
     }
 }
 
+fn step(shown: u32, s: Sample) -> String {
+    let sync = u32::from(s.sync);
+    let Sample { decode, duration, composition, description, chunk, offset, size, .. } = s;
+    format!("step {shown} {decode} {duration} {composition} {sync} {description} {chunk} {offset} {size}\n")
+}
+
+/// The samples from one on, done, the same again, and the first of them.
+fn steps(movie: &Movie, n: u32) -> String {
+    let samples: Vec<Sample> = movie.samples_from(ONE, n).unwrap().collect();
+    let all = |shown| samples.iter().map(|sample| step(shown, *sample)).collect::<String>();
+    format!("start 15 0\n{}{}{}{}", all(1), step(0, Sample::default()), all(2), step(3, samples[0]))
+}
+
 fn media_time(movie: &Movie, t: u32) -> String {
     match movie.media_time(ONE, MovieTime(t)).unwrap() {
         Shown::At(media) => format!("media time 1 {media}\n"),
@@ -100,11 +113,11 @@ fn records_and_peak(movie: &Movie) -> String {
 /// What the program has to print about the film.
 fn expected(film: &[u8]) -> String {
     let movie = Movie::open(film).unwrap();
-    let samples: String = [1, 4, 5].map(|n| sample(&movie, n)).concat();
+    let samples = [1, 4, 5].map(|n| sample(&movie, n)).concat() + &[1, 4].map(|n| steps(&movie, n)).concat();
     let times = [0, 60].map(|t| media_time(&movie, t)).concat() + &[71, 72].map(|t| sample_at(&movie, t)).concat();
     let [stretch, slips] = stretch_and_slips(&movie);
     // A file and a slip of no bytes are refused as such; then come room, bytes and places that are too few.
-    let lent = "nothing lent 3 17 16 16 16 16\nlent 1 1 1 1 1\n";
+    let lent = "nothing lent 3 17 16 16 16 16 16\nlent 1 1 1 1 1\n";
     [words(), tracks(&movie), samples, times, stretch, records_and_peak(&movie), slips, lent.to_string()].concat()
 }
 
