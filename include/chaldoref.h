@@ -507,6 +507,29 @@ static inline const char *chaldoref_refusal_text(uint32_t number)
 }
 
 /*
+ * The same for a refusal of a moov alone, with the lengths that it was lent with: of refusal 1, which has three grounds
+ * there, it says which one it is.
+ */
+static inline const char *chaldoref_moov_refusal_text(uint32_t number, size_t moov_len, uint64_t length)
+{
+    switch (number) {
+    case CHALDOREF_FILE_TOO_LONG:
+        if (moov_len > 2147483647u)
+            return "the moov is longer than 2,147,483,647 bytes";
+        if (length > (uint64_t)INT64_MAX)
+            return "the length of the file is above 2^63 - 1";
+        return "the length of the file is below that of its moov";
+    case CHALDOREF_ATOM_SIZE:
+        return "an atom's size is wrong, passes its parent's end, or 1 to 7 bytes (under 16 for a 64-bit size) remain; "
+               "or the lent bytes aren't one moov atom";
+    case CHALDOREF_ATOM_COUNT:
+        return "an atom is absent or occurs too often; or both offset tables or neither is there";
+    default:
+        return chaldoref_refusal_text(number);
+    }
+}
+
+/*
  * A pointer to lend where the caller's own may be NULL because its length is 0, as that of
  * an empty buffer often is:
  *

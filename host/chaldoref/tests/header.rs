@@ -1,7 +1,7 @@
 //! What the header has besides the proved functions: `header.c`, in C and in C++, prints what the crate has.
 mod compiled;
 
-use chaldoref::{Feature, MediaTime, Movie, MovieTime, Refusal, Sample, Shown, Slip, TrackId};
+use chaldoref::{Feature, Film, MediaTime, Movie, MovieTime, Refusal, Sample, Shown, Slip, TrackId};
 use reference::film::{self, w_movie, w_track};
 use std::fmt::Write as _;
 use std::path::Path;
@@ -29,6 +29,14 @@ fn words() -> String {
     for number in [20, u32::MAX] {
         writeln!(lines, "refusal {number}: no refusal has this number").unwrap();
     }
+    let short = Film::Moov { moov: &[0; 8], length: 7 };
+    lines += "of a moov 0: answered\n";
+    for refusal in Refusal::ALL {
+        writeln!(lines, "of a moov {}: {}", refusal.number(), refusal.words_for(short)).unwrap();
+    }
+    lines += "of a moov 20: no refusal has this number\n";
+    lines += "of a moov 1: the length of the file is above 2^63 - 1\n";
+    lines += "of a moov 1: the moov is longer than 2,147,483,647 bytes\n";
     let version = env!("CARGO_PKG_VERSION");
     lines + &format!("version {version}: {version}\n")
 }
