@@ -5,7 +5,7 @@
 #include <stddef.h>
 #include <stdint.h>
 
-enum { FILM_KINDS = 8, FILM_TRACKS = 2, FILM_SAMPLES = 1000000 };
+enum { FILM_KINDS = 11, FILM_TRACKS = 16, FILM_SAMPLES = 1000000 };
 
 /* What the tables of a track say, counted while they are made: the answers are checked against it. */
 struct track_facts {
