@@ -230,6 +230,17 @@ impl Comparison {
         self.done(random, film, &mut position)
     }
 
+    /// Numbers that are too great for what they are in a position are cut to its width by each call: after one that takes no step they are not.
+    fn cut(&mut self, random: &mut Random, film: Stepped, position: &[u64]) -> Result<Vec<u64>, Box<Difference>> {
+        let mut stepper = Lent::holding(position, random.bits());
+        let mut places = Lent::new(STEPS_PLACES, random.bits());
+        film.same("steps", steps(film.lent, &mut stepper, &mut Lent::new(0, 0), &mut places), 0)?;
+        film.check("steps", &places, &[0])?;
+        let cut = stepper.elements().to_vec();
+        film.check("steps", &stepper, &cut)?;
+        Ok(cut)
+    }
+
     /// From a position of another film, or of no film: safe, and it ends after as many steps as are left there.
     fn elsewhere(
         &mut self,
@@ -238,7 +249,7 @@ impl Comparison {
         position: &[u64],
         left: u64,
     ) -> Result<(), Box<Difference>> {
-        let mut position = position.to_vec();
+        let mut position = self.cut(random, film, position)?;
         let mut taken = 0;
         while taken < left.min(MOST_STEPS) {
             let room = SAMPLE * (1 + random.below(40));
