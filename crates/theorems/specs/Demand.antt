@@ -60,9 +60,9 @@ partIn a b (Found x) = part a b (x .decode) (x .duration)
 partIn a b (Refused r) = 0
 
 -- its bytes
-abbrev pub sizeIn : SampleAnswer → ℕ
-sizeIn (Found x) = x .size
-sizeIn (Refused r) = 0
+abbrev pub sizeAnswered : SampleAnswer → ℕ
+sizeAnswered (Found x) = x .size
+sizeAnswered (Refused r) = 0
 
 -- how many numbers there are from first to last, "all numbers between included"
 abbrev pub howMany : ℕ → ℕ → ℕ
@@ -137,7 +137,7 @@ pub record OfTrack (s t : List ℕ) (w : Source) : Type 0 where
   -- "The bytes of a stretch are its answered total: the sizes of all samples included, added", those "from the one at a to the one at b-1"
   pub bytes : (a b z : MediaTime) (room : List ℕ) (k total first last i j : ℕ) → stretchAnswer s w (idOf t) a b room ≡ stretch.Pairs k total
       → z .0 ≡ b .0 - 1 → atAnswer s w (idOf t) a ≡ number.Number first i → atAnswer s w (idOf t) z ≡ number.Number last j
-      → total ≡ added s w (idOf t) sizeIn first last
+      → total ≡ added s w (idOf t) sizeAnswered first last
   -- "a stretch cut at a sample's start gives bytes that add up": the cut m is the start of a sample, strictly inside, and each of the three has
   -- room. A sample of zero duration that stands at m would be in the whole and in neither part, so that there may be none there
   pub cut : (a m b : MediaTime) → NoZeroDuration s w (idOf t) (m .0) → (n : ℕ) (x : Sample)
