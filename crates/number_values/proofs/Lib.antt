@@ -1,1 +1,2 @@
 pub mod Values
+mod Lengths
