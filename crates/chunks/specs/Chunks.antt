@@ -1,5 +1,5 @@
--- Samples dealt to chunks: stsc with stco and stsz. Chunks are numbered from 1 in stsc; elsewhere a chunk and a sample are named by their index
--- from 0.
+-- Samples dealt to chunks: stsc with stco or co64, and stsz. Chunks are numbered from 1 in stsc; elsewhere a chunk and a sample are named by their
+-- index from 0.
 use Prim.Native.Nat.{ℕ, _+_, _-_}
 use mathlib.Core.Bool.{Bool, true, false, cond, not, _&&_, _||_}
 use mathlib.Core.List.{List, [], _∷_, map}

@@ -6,12 +6,12 @@ use mathlib.Core.List.{List, []}
 use lib.ListN.{length}
 use Rattle.slip.specs.Slip.{Outcome, accepted, malformed, slipIn, numbersFor}
 
--- "the numbers after the form": ID, scale, a, b and the number of pairs; and the place that "refusal 17 shall carry", 0 without it
+-- "the numbers after the form": ID, scale, a, b and the number of pairs; and the place that "refusal 17 shall carry", 0 without it.
 -- any: whether form 2 is read too
 abbrev pub ofSlipReading : Bool → List ℕ → List ℕ → List ℕ
 ofSlipReading any bs room = numbersFor (length room) (slipIn any bs)
 
--- "the pairs in lent 32-bit numbers"; document 02: "pairs are 64-bit there"
+-- "the pairs in lent 32-bit numbers"; in 64-bit ones where form 2 is read, which "has numbers below 2^64"
 unfoldable pub pairsOf : Outcome → List ℕ
 pairsOf (accepted h pairs) = pairs
 pairsOf (malformed place) = []

@@ -1,4 +1,4 @@
--- "Lists go to lent 32-bit numbers": lent room before and after an answer.
+-- Lent room before and after an answer, whatever its elements: "Lists go to lent 32-bit numbers", and by document 02 "pairs are 64-bit there".
 use Prim.Native.Nat.{ℕ}
 use mathlib.Core.List.{List, _∷_, _++_}
 use mathlib.Core.Bool.{cond}

@@ -112,7 +112,7 @@ pub record OfTrack (s t : List ℕ) (w : Source) : Type 0 where
   pub in-chunk : (n : ℕ) (x : Sample) → sampleAnswer s w (idOf t) n ≡ Found x → DealtTo perChunk (x .chunk) n
   -- and what a chunk gets are samples, answered with that chunk and so with no other
   pub gets : (c n : ℕ) → DealtTo perChunk c n → (x : Sample) × (sampleAnswer s w (idOf t) n ≡ Found x) × (x .chunk ≡ c)
-  -- "byte ranges in a chunk are contiguous from the chunk's offset": the first sample of a chunk begins at the number that stco (or co64) has for it,
+  -- "byte ranges in a chunk are contiguous from the chunk's offset": the first sample of a chunk begins where stco, or co64, says of it,
   pub first-in : (c : ℕ) → 1 ≤ c → c ≤ chunksOf t
       → (x : Sample) × (sampleAnswer s w (idOf t) (suc (before perChunk (c - 1))) ≡ Found x) × (x .chunk ≡ c)
       × (x .offset ≡ chunkOffset t c)

@@ -35,7 +35,8 @@ pub record SameAnswers (s : List ℕ) (w : Source) (m : List ℕ) (v : Source) :
   pub peak : (id code : ℕ) → peakAnswer m v id code ≡ peakAnswer s w id code
   pub movie : movieAnswer m v ≡ movieAnswer s w
   pub edits : (id : ℕ) (room : List ℤ) → (editsAnswer m v id room ≡ editsAnswer s w id room)
-      × (roomAfter (editsRefusal m v id room) (editNumbers (editsAsked m id)) room ≡ roomAfter (editsRefusal s w id room) (editNumbers (editsAsked s id)) room)
+      × (roomAfter (editsRefusal m v id room) (editNumbers (editsAsked m id)) room
+      ≡ roomAfter (editsRefusal s w id room) (editNumbers (editsAsked s id)) room)
   pub profile : (id : ℕ) (room : List ℕ) → (profileAnswer m v id room ≡ profileAnswer s w id room)
       × (roomAfter (profileRefusal m v id room) (profileNumbers m id) room ≡ roomAfter (profileRefusal s w id room) (profileNumbers s id) room)
   pub stretch : (id : ℕ) (a b : MediaTime) (room : List ℕ) → (stretchAnswer m v id a b room ≡ stretchAnswer s w id a b room)
