@@ -16,7 +16,7 @@ ghost use Rattle.host_opened.specs.Handle.{openedIn, HandsHandle};
 ghost use Rattle.host_opened.specs.Hands.{HandsOpening, HandsSample, HandsNumber, HandsTime};
 
 // How many they are.
-pub const NUMBERS: usize = 19;
+const NUMBERS: usize = 19;
 
 // The handle that the first 19 numbers are: one too large for its field is cut to the field's width, and one that is not there is 0.
 fn handle_in(numbers: &[u64]) -> Opened
