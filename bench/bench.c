@@ -13,12 +13,13 @@
 #include <stdlib.h>
 #include <string.h>
 
-enum { ROUNDS = 150, AV_EVERY = 15, MOST = 24, ROOM = 2 * FILM_SAMPLES, OUT = 24 + 18 * FILM_SAMPLES };
+enum { ROUNDS = 150, AV_EVERY = 15, MOST = 32, ROOM = 2 * FILM_SAMPLES, OUT = 24 + 18 * FILM_SAMPLES, AT_ONCE = 1024 };
 
 /* What is lent to every question; it isn't cleared between them. */
 static uint32_t room[ROOM];
 static uint64_t wide_room[ROOM];
 static uint8_t out[OUT];
+static int64_t sample_room[CHALDOREF_SAMPLE_NUMBERS * AT_ONCE];
 static volatile uint64_t sink;
 
 typedef bool ask(const struct film *f, const struct track_facts *t, double *ms);
@@ -28,6 +29,7 @@ struct candidate {
     ask *run;
     const struct track_facts *track;
     bool slow;
+    bool per_sample; /* told in nanoseconds a sample, in a table of their own */
     int times;
     double ms[ROUNDS];
 };
@@ -88,6 +90,62 @@ static bool ask_sample(const struct film *f, const struct track_facts *t, double
     *ms = now_ms() - begin;
     return refused == 0 && p[0] == (int64_t)t->total - t->last_duration && p[1] == t->last_duration
         && p[5] == t->chunks && p[6] == t->last_begin && p[7] == t->last_size;
+}
+
+/* What was met in going through a track. */
+struct passed {
+    uint64_t samples, bytes, end;
+};
+
+static void pass_sample(struct passed *all, const int64_t *numbers)
+{
+    all->samples++;
+    all->bytes += (uint64_t)numbers[7];
+    all->end = (uint64_t)(numbers[0] + numbers[1]);
+}
+
+static bool is_all(const struct passed *all, const struct track_facts *t)
+{
+    return all->samples == t->samples && all->bytes == t->bytes && all->end == t->total;
+}
+
+/* The track from its first sample to its end, beyond the opening; each sample is looked at. */
+static bool step_through(const struct film *f, const struct track_facts *t, double *ms, size_t at_once)
+{
+    struct chaldoref_stepper stepper;
+    struct passed all = { 0, 0, 0 };
+    size_t count;
+    uint32_t refused = chaldoref_stepper_at(f->bytes, f->len, t->id, 1, &stepper);
+    double begin = now_ms();
+    while ((count = chaldoref_stepper_fill(f->bytes, f->len, &stepper, sample_room, CHALDOREF_SAMPLE_NUMBERS * at_once)) > 0)
+        for (size_t i = 0; i < count; i++)
+            pass_sample(&all, sample_room + CHALDOREF_SAMPLE_NUMBERS * i);
+    *ms = now_ms() - begin;
+    return refused == 0 && is_all(&all, t);
+}
+
+static bool ask_steps_64(const struct film *f, const struct track_facts *t, double *ms)
+{
+    return step_through(f, t, ms, 64);
+}
+
+static bool ask_steps_1024(const struct film *f, const struct track_facts *t, double *ms)
+{
+    return step_through(f, t, ms, AT_ONCE);
+}
+
+static bool ask_step(const struct film *f, const struct track_facts *t, double *ms)
+{
+    struct chaldoref_stepper stepper;
+    struct passed all = { 0, 0, 0 };
+    int64_t places[CHALDOREF_STEP_PLACES];
+    uint32_t refused = chaldoref_stepper_at(f->bytes, f->len, t->id, 1, &stepper);
+    double begin = now_ms();
+    while (chaldoref_step(f->bytes, f->len, stepper.numbers, CHALDOREF_STEPPER_NUMBERS, places, CHALDOREF_STEP_PLACES) == 0
+           && places[0] == 1)
+        pass_sample(&all, places + 1);
+    *ms = now_ms() - begin;
+    return refused == 0 && is_all(&all, t);
 }
 
 static bool ask_sample_at(const struct film *f, const struct track_facts *t, double *ms)
@@ -205,18 +263,26 @@ static bool ask_peak(const struct film *f, const struct track_facts *t, double *
 }
 
 #ifdef WITH_AV
+static long samples_of(const struct film *f)
+{
+    long samples = 0;
+    for (int i = 0; i < f->tracks; i++)
+        samples += f->track[i].samples;
+    return samples;
+}
+
 static bool ask_open(const struct film *f, const struct track_facts *t, double *ms)
 {
     (void)t;
     long entries;
-    return av_read(f->bytes, f->len, false, &entries, ms) && entries == (long)f->tracks * FILM_SAMPLES;
+    return av_read(f->bytes, f->len, false, &entries, ms) && entries == samples_of(f);
 }
 
 static bool ask_info(const struct film *f, const struct track_facts *t, double *ms)
 {
     (void)t;
     long entries;
-    return av_read(f->bytes, f->len, true, &entries, ms) && entries == (long)f->tracks * FILM_SAMPLES;
+    return av_read(f->bytes, f->len, true, &entries, ms) && entries == samples_of(f);
 }
 #endif
 
@@ -226,7 +292,7 @@ static int gather(struct candidate *c, const struct film *f)
     c[n++] = (struct candidate){ .name = "scalar pass over the moov", .run = ask_scalar };
     c[n++] = (struct candidate){ .name = "vector pass over the moov", .run = ask_vector };
     c[n++] = (struct candidate){ .name = "track list", .run = ask_track_list };
-    for (int i = 0; i < f->tracks; i++)
+    for (int i = 0; i < f->tracks && f->track[i].samples != 0; i++)
         c[n++] = (struct candidate){ .name = "whole stretch", .run = ask_stretch, .track = &f->track[i] };
     c[n++] = (struct candidate){ .name = "last sample", .run = ask_sample, .track = f->track };
     c[n++] = (struct candidate){ .name = "sample at the last time", .run = ask_sample_at, .track = f->track };
@@ -240,6 +306,9 @@ static int gather(struct candidate *c, const struct film *f)
     c[n++] = (struct candidate){ .name = "feature avvb", .run = ask_feature, .track = f->track, .slow = f->track->edits != 0 };
     c[n++] = (struct candidate){ .name = "feature mvbr", .run = ask_highest, .track = f->track };
     c[n++] = (struct candidate){ .name = "peak of mvbr", .run = ask_peak, .track = f->track };
+    c[n++] = (struct candidate){ .name = "64 at a time", .run = ask_steps_64, .track = f->track, .per_sample = true };
+    c[n++] = (struct candidate){ .name = "1024 at a time", .run = ask_steps_1024, .track = f->track, .per_sample = true };
+    c[n++] = (struct candidate){ .name = "one by one", .run = ask_step, .track = f->track, .per_sample = true };
 #ifdef WITH_AV
     if (f->track->edits != 0)
         return n; /* its index has what the edits show */
@@ -270,7 +339,7 @@ static void measure(struct candidate *c, int n, const struct film *f)
 {
     for (int round = 0; round <= ROUNDS; round++)
         for (int i = 0; i < n; i++) {
-            if (!c[i].slow || round % AV_EVERY == 0)
+            if (!(c[i].slow || f->slow) || round % AV_EVERY == 0)
                 run_once(&c[i], f);
             if (round == 0)
                 c[i].times = 0;
@@ -308,6 +377,12 @@ static void print_row(const struct candidate *c, double scalar, double vector, d
     putchar('\n');
 }
 
+static void print_ns(const char *name, const struct candidate *c, long samples)
+{
+    double ns = 1e6 / (double)samples;
+    printf("| %s | %.1f | %.1f |\n", name, ns * c->ms[0], ns * c->ms[c->times / 2]);
+}
+
 static void report(const struct candidate *c, int n, const struct film *f)
 {
     double scalar = least_of(c, n, ask_scalar), vector = least_of(c, n, ask_vector), open = 0;
@@ -318,7 +393,17 @@ static void report(const struct candidate *c, int n, const struct film *f)
     printf("| | least ms | median ms | × scalar pass | × vector pass |%s\n", open > 0 ? " times ahead of libavformat's open |" : "");
     printf("|---|---:|---:|---:|---:|%s\n", open > 0 ? "---:|" : "");
     for (int i = 0; i < n; i++)
-        print_row(&c[i], scalar, vector, open);
+        if (!c[i].per_sample)
+            print_row(&c[i], scalar, vector, open);
+    printf("\n| stepping through track 1, beyond the opening | least ns a sample | median ns a sample |\n|---|---:|---:|\n");
+    for (int i = 0; i < n; i++)
+        if (c[i].per_sample)
+            print_ns(c[i].name, &c[i], c[i].track->samples);
+#ifdef WITH_AV
+    for (int i = 0; i < n; i++)
+        if (c[i].run == ask_open)
+            print_ns("libavformat: open, which makes its index", &c[i], samples_of(f));
+#endif
 }
 
 static void bench_film(int kind)
@@ -332,8 +417,26 @@ static void bench_film(int kind)
     free(f.bytes);
 }
 
+/* One row of a film, once, so that its instructions can be counted; or the film's name. */
+static int run_row(int kind, const char *row)
+{
+    static struct candidate c[MOST];
+    struct film f = make_film(kind);
+    int n = gather(c, &f);
+    bool found = strcmp(row, "name") == 0;
+    if (found)
+        printf("%s\n", f.name);
+    for (int i = 0; i < n && !found; i++)
+        if ((found = strcmp(row, c[i].name) == 0))
+            run_once(&c[i], &f);
+    free(f.bytes);
+    return found ? 0 : 1;
+}
+
 int main(int argc, char **argv)
 {
+    if (argc == 3)
+        return run_row(atoi(argv[1]), argv[2]);
     for (int kind = 0; kind < FILM_KINDS; kind++)
         if (argc < 2 || atoi(argv[1]) == kind)
             bench_film(kind);

@@ -5,7 +5,7 @@
 #include <stdlib.h>
 #include <string.h>
 
-enum { VIDE = 0x76696465, SOUN = 0x736f756e, MOVIE_SCALE = 60 };
+enum { VIDE = 0x76696465, SOUN = 0x736f756e, MOVIE_SCALE = 60, ATOMS = 1000000 };
 
 /* How the tables of a track are made. */
 struct plan {
@@ -16,7 +16,15 @@ struct plan {
     uint32_t common_size;  /* 0: a size for each sample */
     uint32_t (*deal)(uint32_t chunk, uint32_t begin);
     uint32_t edits;        /* entries of an edit list that each show the whole track; 0: no list */
-    uint32_t atoms;        /* free atoms of 8 bytes before the tables */
+    uint32_t samples;
+};
+
+/* Where free atoms of 8 bytes stand, and how many in each such place. */
+enum place { NOWHERE, IN_STBL, IN_LAST_TRAK, IN_EACH_MDIA, LAST_IN_MOOV };
+
+struct filling {
+    enum place place;
+    uint32_t atoms;
 };
 
 struct writer {
@@ -105,19 +113,19 @@ static uint32_t least(uint32_t a, uint32_t b)
 
 static uint32_t dealt(const struct plan *p, uint32_t chunk, uint32_t begin)
 {
-    return least(p->deal(chunk, begin), FILM_SAMPLES - begin);
+    return least(p->deal(chunk, begin), p->samples - begin);
 }
 
 static void put_stts(struct writer *w, const struct plan *p, struct track_facts *f)
 {
     size_t at = open_table(w, "stts");
-    uint32_t entries = p->durations_differ ? FILM_SAMPLES : 1;
+    uint32_t entries = p->durations_differ || p->samples == 0 ? p->samples : 1;
     for (uint32_t i = 0; i < entries; i++) {
-        put32(w, FILM_SAMPLES / entries);
+        put32(w, p->samples / entries);
         put32(w, duration_of(p, i));
-        f->total += FILM_SAMPLES / entries * duration_of(p, i);
+        f->total += p->samples / entries * duration_of(p, i);
     }
-    f->last_duration = duration_of(p, FILM_SAMPLES - 1);
+    f->last_duration = duration_of(p, p->samples - 1);
     close_table(w, at, entries);
 }
 
@@ -144,13 +152,13 @@ static void put_stsz(struct writer *w, const struct plan *p, struct track_facts 
     size_t at = open_atom(w, "stsz");
     put32(w, 0);
     put32(w, p->common_size);
-    put32(w, FILM_SAMPLES);
-    for (uint32_t i = 0; i < FILM_SAMPLES; i++) {
+    put32(w, p->samples);
+    for (uint32_t i = 0; i < p->samples; i++) {
         if (p->common_size == 0)
             put32(w, size_of(p, i));
         f->bytes += size_of(p, i);
     }
-    f->last_size = size_of(p, FILM_SAMPLES - 1);
+    f->last_size = size_of(p, p->samples - 1);
     close_atom(w, at);
 }
 
@@ -158,7 +166,7 @@ static void put_stsc(struct writer *w, const struct plan *p, struct track_facts 
 {
     size_t at = open_table(w, "stsc");
     uint32_t entries = 0, before = 0, begin = 0, chunk = 0;
-    for (; begin < FILM_SAMPLES; chunk++) {
+    for (; begin < p->samples; chunk++) {
         uint32_t per = dealt(p, chunk, begin);
         if (per != before) {
             put32(w, chunk + 1);
@@ -178,7 +186,7 @@ static void put_stco(struct writer *w, const struct plan *p, struct track_facts 
 {
     size_t at = open_table(w, "stco");
     uint32_t begin = 0, chunk = 0;
-    for (; begin < FILM_SAMPLES; chunk++) {
+    for (; begin < p->samples; chunk++) {
         uint32_t end = begin + dealt(p, chunk, begin);
         put32(w, offset);
         for (; begin < end; begin++) {
@@ -209,11 +217,17 @@ static void put_stsd(struct writer *w, const struct plan *p)
     close_table(w, at, 1);
 }
 
-static void put_stbl(struct writer *w, const struct plan *p, struct track_facts *f, uint32_t offset)
+/* The free atoms of a place, where it is that one. */
+static void fill(struct writer *w, const struct filling *free, enum place place)
+{
+    for (uint32_t i = 0; free->place == place && i < free->atoms; i++)
+        close_atom(w, open_atom(w, "free"));
+}
+
+static void put_stbl(struct writer *w, const struct plan *p, struct track_facts *f, uint32_t offset, const struct filling *free)
 {
     size_t at = open_atom(w, "stbl");
-    for (uint32_t i = 0; i < p->atoms; i++)
-        close_atom(w, open_atom(w, "free"));
+    fill(w, free, IN_STBL);
     put_stsd(w, p);
     put_stts(w, p, f);
     if (p->offsets)
@@ -238,9 +252,10 @@ static void put_dinf(struct writer *w)
     close_atom(w, dinf);
 }
 
-static void put_mdia(struct writer *w, const struct plan *p, struct track_facts *f, uint32_t offset)
+static void put_mdia(struct writer *w, const struct plan *p, struct track_facts *f, uint32_t offset, const struct filling *free)
 {
     size_t mdia = open_atom(w, "mdia");
+    fill(w, free, IN_EACH_MDIA);
     size_t mdhd = open_atom(w, "mdhd");
     zeros(w, 24);
     close_atom(w, mdhd);
@@ -252,7 +267,7 @@ static void put_mdia(struct writer *w, const struct plan *p, struct track_facts 
     close_atom(w, hdlr);
     size_t minf = open_atom(w, "minf");
     put_dinf(w);
-    put_stbl(w, p, f, offset);
+    put_stbl(w, p, f, offset, free);
     close_atom(w, minf);
     close_atom(w, mdia);
     poke32(w->bytes + mdhd + 20, p->scale);
@@ -276,10 +291,10 @@ static void put_edts(struct writer *w, const struct plan *p, const struct track_
 /* From each sample on as many as last a second; no film is shorter. */
 static void find_peak(const struct plan *p, struct track_facts *f)
 {
-    for (uint32_t first = 0; first < FILM_SAMPLES; first++) {
+    for (uint32_t first = 0; first < p->samples; first++) {
         uint64_t bytes = 0, time = 0;
         uint32_t past = first;
-        for (; past < FILM_SAMPLES && time < p->scale; past++) {
+        for (; past < p->samples && time < p->scale; past++) {
             bytes += size_of(p, past);
             time += duration_of(p, past);
         }
@@ -292,18 +307,20 @@ static void find_peak(const struct plan *p, struct track_facts *f)
     }
 }
 
-static struct track_facts put_trak(struct writer *w, const struct plan *p, uint32_t id, uint32_t offset)
+static struct track_facts put_trak(struct writer *w, const struct plan *p, uint32_t id, uint32_t offset, const struct filling *free)
 {
     struct track_facts f = {
-        .id = id, .subtype = p->subtype, .scale = p->scale, .samples = FILM_SAMPLES, .edits = p->edits
+        .id = id, .subtype = p->subtype, .scale = p->scale, .samples = p->samples, .edits = p->edits
     };
     size_t trak = open_atom(w, "trak");
+    if (id == FILM_TRACKS)
+        fill(w, free, IN_LAST_TRAK);
     size_t tkhd = open_atom(w, "tkhd");
     put32(w, 15);
     zeros(w, 80);
     poke32(w->bytes + tkhd + 20, id);
     close_atom(w, tkhd);
-    put_mdia(w, p, &f, offset);
+    put_mdia(w, p, &f, offset, free);
     if (p->edits != 0)
         put_edts(w, p, &f);
     close_atom(w, trak);
@@ -337,33 +354,46 @@ static uint32_t one(uint32_t chunk, uint32_t begin)
     return 1;
 }
 
-static const struct plan typical = { VIDE, 30000, false, false, false, 0, in_thirds, 0, 0 };
-static const struct plan sound = { SOUN, 48000, false, false, false, 0, in_thirds, 0, 0 };
-static const struct plan full = { VIDE, 30000, true, true, true, 0, ten_or_twenty, 0, 0 };
-static const struct plan short_chunks = { VIDE, 30000, true, true, true, 0, one_or_two, 0, 0 };
-static const struct plan lone = { VIDE, 30000, false, false, false, 2, one, 0, 0 };
-static const struct plan edited = { VIDE, 30000, false, false, false, 0, in_thirds, 256, 0 };
-static const struct plan many_atoms = { VIDE, 30000, false, false, false, 2, in_thirds, 0, 1000000 };
-static const struct plan full_edited = { VIDE, 30000, true, true, true, 0, ten_or_twenty, 256, 0 };
+static const struct plan typical = { VIDE, 30000, false, false, false, 0, in_thirds, 0, FILM_SAMPLES };
+static const struct plan sound = { SOUN, 48000, false, false, false, 0, in_thirds, 0, FILM_SAMPLES };
+static const struct plan full = { VIDE, 30000, true, true, true, 0, ten_or_twenty, 0, FILM_SAMPLES };
+static const struct plan short_chunks = { VIDE, 30000, true, true, true, 0, one_or_two, 0, FILM_SAMPLES };
+static const struct plan lone = { VIDE, 30000, false, false, false, 2, one, 0, FILM_SAMPLES };
+static const struct plan edited = { VIDE, 30000, false, false, false, 0, in_thirds, 256, FILM_SAMPLES };
+static const struct plan small = { VIDE, 30000, false, false, false, 2, in_thirds, 0, FILM_SAMPLES };
+static const struct plan empty = { VIDE, 30000, false, false, false, 2, in_thirds, 0, 0 };
+static const struct plan full_edited = { VIDE, 30000, true, true, true, 0, ten_or_twenty, 256, FILM_SAMPLES };
 
+/* With `others` the film has as many tracks as a film may have, all but the first without samples. */
 static const struct {
     const char *name, *tables;
-    const struct plan *plans[FILM_TRACKS];
+    const struct plan *plans[2];
+    bool others;
+    struct filling free;
 } kinds[FILM_KINDS] = {
-    { "one track", "stts one run, stsz per sample, stsc few entries, chunks of 10 to 30 samples", { &typical, NULL } },
-    { "two tracks", "two tracks like that", { &typical, &sound } },
-    { "full tables", "stts, ctts and stsz per sample, stss every second sample, stsc an entry for each chunk, of 10 and 20 samples in turn", { &full, NULL } },
-    { "full tables, short chunks", "the same with chunks of 1 and 2 samples in turn", { &short_chunks, NULL } },
-    { "one sample a chunk", "stts one run, a common size, stsc one entry, 1,000,000 chunks", { &lone, NULL } },
-    { "one track, 256 edits", "as one track, with 256 edits that each show all of it", { &edited, NULL } },
-    { "a million atoms", "stts one run, a common size, stsc few entries, and 1,000,000 free atoms of 8 bytes before them in stbl", { &many_atoms, NULL } },
-    { "full tables, 256 edits", "as full tables, with 256 edits that each show all of it", { &full_edited, NULL } },
+    { "one track", "stts one run, stsz per sample, stsc few entries, chunks of 10 to 30 samples", { &typical, NULL }, false, { NOWHERE, 0 } },
+    { "two tracks", "two tracks like that", { &typical, &sound }, false, { NOWHERE, 0 } },
+    { "full tables", "stts, ctts and stsz per sample, stss every second sample, stsc an entry for each chunk, of 10 and 20 samples in turn", { &full, NULL }, false, { NOWHERE, 0 } },
+    { "full tables, short chunks", "the same with chunks of 1 and 2 samples in turn", { &short_chunks, NULL }, false, { NOWHERE, 0 } },
+    { "one sample a chunk", "stts one run, a common size, stsc one entry, 1,000,000 chunks", { &lone, NULL }, false, { NOWHERE, 0 } },
+    { "one track, 256 edits", "as one track, with 256 edits that each show all of it", { &edited, NULL }, false, { NOWHERE, 0 } },
+    { "a million atoms", "stts one run, a common size, stsc few entries, and 1,000,000 free atoms of 8 bytes before them in stbl", { &small, NULL }, false, { IN_STBL, ATOMS } },
+    { "full tables, 256 edits", "as full tables, with 256 edits that each show all of it", { &full_edited, NULL }, false, { NOWHERE, 0 } },
+    { "a million atoms in a trak", "such tables in the first of 16 traks, 15 without samples, and the free atoms first in the last of them", { &small, NULL }, true, { IN_LAST_TRAK, ATOMS } },
+    { "a million atoms in 16 mdia", "the same with the free atoms first in each mdia", { &small, NULL }, true, { IN_EACH_MDIA, ATOMS / FILM_TRACKS } },
+    { "a million atoms in moov", "such tables in the one trak, and the free atoms last in moov", { &small, NULL }, false, { LAST_IN_MOOV, ATOMS } },
 };
+
+static void add_trak(struct writer *w, struct film *film, const struct plan *p, uint32_t offset, const struct filling *free)
+{
+    film->track[film->tracks] = put_trak(w, p, (uint32_t)film->tracks + 1, offset, free);
+    film->tracks++;
+}
 
 /* ftyp, mdat, moov: with the mdat first the chunks' offsets are known when stco is written. */
 struct film make_film(int kind)
 {
-    struct film film = { .name = kinds[kind].name, .tables = kinds[kind].tables };
+    struct film film = { .name = kinds[kind].name, .tables = kinds[kind].tables, .slow = kinds[kind].free.place != NOWHERE };
     struct writer w = { 0 };
     size_t ftyp = open_atom(&w, "ftyp");
     put(&w, "qt  \0\0\0\0qt  ", 12);
@@ -377,10 +407,11 @@ struct film make_film(int kind)
     zeros(&w, 100);
     poke32(w.bytes + mvhd + 20, MOVIE_SCALE);
     close_atom(&w, mvhd);
-    for (; film.tracks < FILM_TRACKS && kinds[kind].plans[film.tracks] != NULL; film.tracks++) {
-        uint32_t id = (uint32_t)film.tracks + 1;
-        film.track[film.tracks] = put_trak(&w, kinds[kind].plans[film.tracks], id, data);
-    }
+    for (int i = 0; i < 2 && kinds[kind].plans[i] != NULL; i++)
+        add_trak(&w, &film, kinds[kind].plans[i], data, &kinds[kind].free);
+    while (kinds[kind].others && film.tracks < FILM_TRACKS)
+        add_trak(&w, &film, &empty, data, &kinds[kind].free);
+    fill(&w, &kinds[kind].free, LAST_IN_MOOV);
     close_atom(&w, moov);
     film.bytes = w.bytes;
     film.len = w.len;

@@ -2,10 +2,11 @@
 #ifndef BENCH_FILMS_H
 #define BENCH_FILMS_H
 
+#include <stdbool.h>
 #include <stddef.h>
 #include <stdint.h>
 
-enum { FILM_KINDS = 8, FILM_TRACKS = 2, FILM_SAMPLES = 1000000 };
+enum { FILM_KINDS = 11, FILM_TRACKS = 16, FILM_SAMPLES = 1000000 };
 
 /* What the tables of a track say, counted while they are made: the answers are checked against it. */
 struct track_facts {
@@ -22,6 +23,7 @@ struct film {
     size_t len;
     const uint8_t *moov; /* the atom with its header */
     size_t moov_len;
+    bool slow; /* its questions take so long that fewer rounds are enough */
     int tracks;
     struct track_facts track[FILM_TRACKS];
 };

@@ -14,7 +14,7 @@
  * then 64-bit numbers, and the bytes of a sample are not offered.
  * chaldoref_top_level_step tells where in a file its moov is.
  *
- * A slice is a pointer and a length, counted in elements. Three kinds are lent:
+ * A slice is a pointer and a length, counted in elements. Four kinds are lent:
  *
  *   file, moov,  bytes that are read
  *   slip
@@ -24,6 +24,7 @@
  *                with each function: an answer fills the first places, a refusal
  *                fills the same ones with zeros (17 all but the last, which then
  *                says where the slip goes wrong), the rest is left
+ *   stepper      a position in a track, which steps read and move on
  *
  * Places fewer than a function names are refused 16 as room is, and then nothing
  * at all is written. The order of refusals is: the file's (1 to 13 and 19, which is
@@ -40,15 +41,15 @@
  *
  * Threads. The functions keep no state: any number of threads may call any of them
  * at once, also on the same file, as long as no two calls are lent the same room,
- * out or places.
+ * out, places or stepper.
  *
  * What the host keeps to (the proofs assume it: docs/TRUST.md):
  *   - no pointer is NULL, also where its length is 0 (the chaldoref_lend_ functions
  *     below make such a NULL a pointer that may be lent); each is aligned for its
  *     type and valid for its length, and no length is over PTRDIFF_MAX bytes;
  *   - nothing writes to file, moov or slip during a call;
- *   - room, out and places overlap neither each other nor what is read, and nothing
- *     else reads or writes them during a call.
+ *   - room, out, places and stepper overlap neither each other nor what is read, and
+ *     nothing else reads or writes them during a call.
  * Nothing of what is lent is kept after a call.
  *
  * What is proved are the functions that are only declared here. The static inline
@@ -67,9 +68,9 @@ extern "C" {
 
 /* The version of this header, and of the library that it belongs to. */
 #define CHALDOREF_VERSION_MAJOR 0
-#define CHALDOREF_VERSION_MINOR 3
+#define CHALDOREF_VERSION_MINOR 4
 #define CHALDOREF_VERSION_PATCH 0
-#define CHALDOREF_VERSION "0.3.0"
+#define CHALDOREF_VERSION "0.4.0"
 
 /* The refusals, by their numbers in documents 01 and 02. Of a file the lowest number that
    applies is given, but that 19 is judged after 11 and before 12. */
@@ -111,12 +112,15 @@ enum {
     CHALDOREF_WRITE_SLIP_PLACES = 1,
     CHALDOREF_MOVIE_PLACES = 2,
     CHALDOREF_EDITS_PLACES = 1,
-    CHALDOREF_TOP_LEVEL_PLACES = 6
+    CHALDOREF_TOP_LEVEL_PLACES = 6,
+    CHALDOREF_STEP_PLACES = 9,
+    CHALDOREF_STEPS_PLACES = 1
 };
 
-/* How many numbers a track, a pair, a profile's record and an edit have in a room, and the most of each. */
+/* How many numbers a track, a sample, a pair, a profile's record and an edit have in a room, and the most of each. */
 enum {
     CHALDOREF_TRACK_NUMBERS = 8,
+    CHALDOREF_SAMPLE_NUMBERS = 8,
     CHALDOREF_PAIR_NUMBERS = 2,
     CHALDOREF_RECORD_NUMBERS = 3,
     CHALDOREF_EDIT_NUMBERS = 3,
@@ -124,6 +128,11 @@ enum {
     CHALDOREF_MAX_PAIRS = 1048576,
     CHALDOREF_MAX_RECORDS = 64,
     CHALDOREF_MAX_EDITS = 256
+};
+
+/* As many numbers has a position in a track, which the caller keeps. */
+enum {
+    CHALDOREF_STEPPER_NUMBERS = 29
 };
 
 /* As many bytes of an atom's header are read at most. */
@@ -169,6 +178,64 @@ uint32_t chaldoref_sample(
 uint32_t chaldoref_sample_bytes(
     const uint8_t *file, size_t file_len,
     uint32_t id, uint32_t n,
+    uint64_t *places, size_t places_len);
+
+/*
+ * Stepping through a track, from any of its samples to the last one. The film is judged once, by
+ * chaldoref_step_start; each step costs the same, wherever in the track it is:
+ *
+ *     uint64_t stepper[CHALDOREF_STEPPER_NUMBERS];
+ *     int64_t places[CHALDOREF_STEP_PLACES];
+ *     refusal = chaldoref_step_start(file, file_len, id, 1, stepper, CHALDOREF_STEPPER_NUMBERS);
+ *     while (refusal == 0) {
+ *         refusal = chaldoref_step(file, file_len, stepper, CHALDOREF_STEPPER_NUMBERS, places, CHALDOREF_STEP_PLACES);
+ *         if (refusal != 0 || places[0] == 0)
+ *             break;
+ *         ... places[1] to places[8] are the sample ...
+ *     }
+ *
+ * A position is CHALDOREF_STEPPER_NUMBERS numbers that the caller keeps, may copy and may step from
+ * as often as wanted; what each of them is may change with the version. It holds no pointer: it
+ * says where in the lent bytes the tables are. Step with the bytes that it was started with. With
+ * other bytes, or from numbers of any kind, a step is safe and reads only what is lent; what it
+ * answers then need not be a sample of the film, and after as many steps as the position has
+ * samples left, or fewer, it answers that there is none.
+ */
+
+/*
+ * The position before sample n of a track, numbered from 1. Refusals: the file's but 11; 14, 15, 16.
+ * stepper: CHALDOREF_STEPPER_NUMBERS numbers: the position; zeros with a refusal; with 16, for
+ *          fewer numbers, nothing is written.
+ */
+uint32_t chaldoref_step_start(
+    const uint8_t *file, size_t file_len,
+    uint32_t id, uint32_t n,
+    uint64_t *stepper, size_t stepper_len);
+
+/*
+ * The next sample. lent are the bytes that the position was started with: the whole file, or the
+ * moov alone. Refusal 16 only, for too few numbers or places, and then nothing is written.
+ * stepper: the position, which is moved past the sample; past the last one it stays as it is.
+ * places: 9: 1 and the sample's eight values in the order of chaldoref_sample; or nine zeros past
+ *         the last sample.
+ */
+uint32_t chaldoref_step(
+    const uint8_t *lent, size_t lent_len,
+    uint64_t *stepper, size_t stepper_len,
+    int64_t *places, size_t places_len);
+
+/*
+ * The next samples, as many as the room takes. Refusal 16 only, as for chaldoref_step; a room may
+ * have any length.
+ * stepper: the position, which is moved past them.
+ * room: for each sample CHALDOREF_SAMPLE_NUMBERS numbers, its values in the order of
+ *       chaldoref_sample; room_len / CHALDOREF_SAMPLE_NUMBERS samples are the most.
+ * places: 1: the number of samples; fewer than the room takes only at the track's end.
+ */
+uint32_t chaldoref_steps(
+    const uint8_t *lent, size_t lent_len,
+    uint64_t *stepper, size_t stepper_len,
+    int64_t *room, size_t room_len,
     uint64_t *places, size_t places_len);
 
 /*
@@ -336,6 +403,12 @@ uint32_t chaldoref_moov_sample(
     uint32_t id, uint32_t n,
     int64_t *places, size_t places_len);
 
+/* The steps are those of chaldoref_step and chaldoref_steps, with the moov as the bytes that are lent. */
+uint32_t chaldoref_moov_step_start(
+    const uint8_t *moov, size_t moov_len, uint64_t length,
+    uint32_t id, uint32_t n,
+    uint64_t *stepper, size_t stepper_len);
+
 uint32_t chaldoref_moov_sample_at(
     const uint8_t *moov, size_t moov_len, uint64_t length,
     uint32_t id, uint32_t t,
@@ -439,6 +512,29 @@ static inline const char *chaldoref_refusal_text(uint32_t number)
 }
 
 /*
+ * The same for a refusal of a moov alone, with the lengths that it was lent with: of refusal 1,
+ * which has three grounds there, it says which one it is.
+ */
+static inline const char *chaldoref_moov_refusal_text(uint32_t number, size_t moov_len, uint64_t length)
+{
+    switch (number) {
+    case CHALDOREF_FILE_TOO_LONG:
+        if (moov_len > 2147483647u)
+            return "the moov is longer than 2,147,483,647 bytes";
+        if (length > (uint64_t)INT64_MAX)
+            return "the length of the file is above 2^63 - 1";
+        return "the length of the file is below that of its moov";
+    case CHALDOREF_ATOM_SIZE:
+        return "an atom's size is wrong, passes its parent's end, or 1 to 7 bytes (under 16 for a 64-bit size) remain; "
+               "or the lent bytes aren't one moov atom";
+    case CHALDOREF_ATOM_COUNT:
+        return "an atom is absent or occurs too often; or both offset tables or neither is there";
+    default:
+        return chaldoref_refusal_text(number);
+    }
+}
+
+/*
  * A pointer to lend where the caller's own may be NULL because its length is 0, as that of
  * an empty buffer often is:
  *
@@ -448,7 +544,8 @@ static inline const char *chaldoref_refusal_text(uint32_t number)
  * length being 0. NULL with any other length stays an error of the caller.
  * There is one for bytes that are read (file, moov, slip), for room of 32-bit and of 64-bit
  * numbers and of signed ones, for out and for places; the signed room is that of
- * chaldoref_edits, the signed places are those of chaldoref_sample.
+ * chaldoref_edits and chaldoref_steps, the signed places are those of chaldoref_sample and
+ * chaldoref_step; a stepper is lent as places are.
  */
 static inline const uint8_t *chaldoref_lend_bytes(const uint8_t *bytes)
 {
@@ -638,6 +735,53 @@ static inline struct chaldoref_moov_sample_info chaldoref_moov_sample_of(
     sample.offset = (uint64_t)places[6];
     sample.size = (uint32_t)places[7];
     return sample;
+}
+
+/* A position in a track, to be kept by the caller. */
+struct chaldoref_stepper {
+    uint64_t numbers[CHALDOREF_STEPPER_NUMBERS];
+};
+
+/* The position before sample n of a track of a whole file. Refusals: those of chaldoref_step_start but 16. */
+static inline uint32_t chaldoref_stepper_at(
+    const uint8_t *file, size_t file_len, uint32_t id, uint32_t n, struct chaldoref_stepper *stepper)
+{
+    return chaldoref_step_start(file, file_len, id, n, stepper->numbers, CHALDOREF_STEPPER_NUMBERS);
+}
+
+/* The same of a moov alone. */
+static inline uint32_t chaldoref_moov_stepper_at(
+    const uint8_t *moov, size_t moov_len, uint64_t length, uint32_t id, uint32_t n, struct chaldoref_stepper *stepper)
+{
+    return chaldoref_moov_step_start(moov, moov_len, length, id, n, stepper->numbers, CHALDOREF_STEPPER_NUMBERS);
+}
+
+/*
+ * 1 and the next sample; 0, and a sample of zeros, past the last one. It serves both ways in:
+ *
+ *     while (chaldoref_stepper_next(file, file_len, &stepper, &sample))
+ *         ...
+ */
+static inline int chaldoref_stepper_next(
+    const uint8_t *lent, size_t lent_len, struct chaldoref_stepper *stepper, struct chaldoref_moov_sample_info *sample)
+{
+    int64_t places[CHALDOREF_STEP_PLACES];
+    chaldoref_step(lent, lent_len, stepper->numbers, CHALDOREF_STEPPER_NUMBERS, places, CHALDOREF_STEP_PLACES);
+    *sample = chaldoref_moov_sample_of(places + 1);
+    return places[0] == 1;
+}
+
+/*
+ * The next samples, as many as the room of room_len numbers takes: how many they are, 0 past the
+ * last one. Sample i of them is chaldoref_moov_sample_of(room + CHALDOREF_SAMPLE_NUMBERS * i).
+ */
+static inline size_t chaldoref_stepper_fill(
+    const uint8_t *lent, size_t lent_len, struct chaldoref_stepper *stepper, int64_t *room, size_t room_len)
+{
+    uint64_t count[CHALDOREF_STEPS_PLACES];
+    chaldoref_steps(lent, lent_len, stepper->numbers, CHALDOREF_STEPPER_NUMBERS, room, room_len, count,
+                    CHALDOREF_STEPS_PLACES);
+    return (size_t)count[0];
 }
 
 /* The sample at a media time. */

@@ -22,7 +22,7 @@ import enum
 import operator
 import os
 from dataclasses import dataclass
-from typing import Any, BinaryIO, Dict, Optional, Tuple, Union
+from typing import Any, BinaryIO, Dict, Iterator, Optional, Tuple, Union
 
 __all__ = [
     "FEATURES", "ByteRange", "Edit", "Header", "MalformedSlip", "Movie", "Peak", "ProfileRecord", "Refusal", "Refused",
@@ -47,6 +47,10 @@ _TRACK_NUMBERS, _PAIR_NUMBERS, _RECORD_NUMBERS, _EDIT_NUMBERS = 8, 2, 3, 3
 _MAX_TRACKS, _MAX_PAIRS, _MAX_RECORDS, _MAX_EDITS = 16, 1_048_576, 64, 256
 _SLIP_HEAD_BYTES, _SLIP_PAIR_BYTES, _SLIP_WIDE_PAIR_BYTES = 24, 10, 18
 _HEADER_BYTES, _TOP_LEVEL_PLACES = 16, 6
+_STEPPER_NUMBERS, _SAMPLE_NUMBERS = 29, 8
+
+#: As many samples are had from the library at once.
+_FETCHED = 64
 
 #: The most bytes that are lent of a film.
 _MAX_LENT = 2_147_483_647
@@ -292,7 +296,7 @@ class Movie:
     """A movie that the library has accepted. Times and totals of a track are in its own time scale.
 
     A movie is made of a whole file's bytes, or, by read, of its moov alone, whatever the file's length. Each question
-    judges the tables again, in time that grows with them.
+    judges the tables again, in time that grows with them; samples goes through a track in one judging.
     """
 
     def __init__(self, file: Bytes) -> None:
@@ -354,8 +358,17 @@ class Movie:
 
     def sample(self, track: int, n: int) -> Sample:
         """Sample n of a track, numbered from 1. Refusals 14, 15."""
-        decode, duration, composition, sync, *rest = self._ask("sample", 8, track, n, place=ctypes.c_int64)
-        return Sample(decode, duration, composition, sync == 1, *rest)
+        return _sample(self._ask("sample", 8, track, n, place=ctypes.c_int64))
+
+    def samples(self, track: int, start: Optional[int] = None) -> Iterator[Sample]:
+        """The samples of a track, in order, from sample start on, numbered from 1: what sample answers of each, in one
+        judging of the film for all of them. Without a start all of them, which are none where the track has none.
+        Refusals 14, and 15 where the track has no sample start; they are raised by this call and not by the first
+        next."""
+        if start is None and any(known.id == track and known.samples == 0 for known in self._tracks):
+            return iter(())
+        stepper = self._ask("step_start", _STEPPER_NUMBERS, track, 1 if start is None else start)
+        return _stepped(self._lent, stepper)
 
     def sample_bytes(self, track: int, n: int) -> bytes:
         """The bytes of sample n of a track, numbered from 1. Refusals 14, 15. A ValueError where the movie was made of
@@ -442,6 +455,25 @@ class Movie:
         return list(places)
 
 
+def _sample(numbers: Any) -> Sample:
+    """The sample of the numbers that the library answers."""
+    decode, duration, composition, sync, *rest = numbers
+    return Sample(decode, duration, composition, sync == 1, *rest)
+
+
+def _stepped(lent: bytes, start: Any) -> Iterator[Sample]:
+    """The samples from a position on. A generator has a position and a room of its own."""
+    stepper = (ctypes.c_uint64 * _STEPPER_NUMBERS)(*start)
+    room = _room(ctypes.c_int64, _SAMPLE_NUMBERS * _FETCHED)
+    count = (ctypes.c_uint64 * 1)(_FETCHED)
+    # Fewer than the room takes come only at the end.
+    while count[0] == _FETCHED:
+        answer = _function("steps")(lent, len(lent), stepper, len(stepper), room, len(room), count, 1)
+        if answer != 0:
+            raise Refused(answer)
+        yield from map(_sample, _rows(room, count[0], _SAMPLE_NUMBERS))
+
+
 def read_slip(slip: Bytes) -> Slip:
     """Reads a slip of form 1, which must take up all of the bytes. What is no slip is refused 17, as MalformedSlip."""
     return _read("read_slip", ctypes.c_uint32, _lent(slip))
@@ -492,7 +524,7 @@ def _read_at(film: BinaryIO, place: int, count: int) -> bytes:
 
 
 # How each function is called after its first two parameters, the bytes and their length, and before its last two, the
-# places and their number: l is the length of a file, n is a number, r is room or out and its length.
+# places and their number: l is the length of a file, n is a number, r is room, out or a stepper and its length.
 _PARAMETERS = {
     "track_list": "r",
     "sample": "nn",
@@ -509,10 +541,13 @@ _PARAMETERS = {
     "read_any_slip": "r",
     "write_slip": "nnnr",
     "top_level_step": "",
+    "step_start": "nn",
+    "step": "r",
+    "steps": "rr",
 }
 _MOOV = (
     "track_list", "sample", "sample_at", "media_time", "stretch", "profile", "feature", "peak", "movie", "edits",
-    "write_slip",
+    "write_slip", "step_start",
 )
 _PARAMETERS.update({"moov_" + name: "l" + _PARAMETERS[name] for name in _MOOV})
 

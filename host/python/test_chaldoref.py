@@ -97,6 +97,19 @@ class FilmW(Case):
         self.assertRefused(15, self.movie.sample, 1, 5)
         self.assertRefused(14, self.movie.sample, 2, 1)
 
+    def test_samples_stepped_through(self):
+        for movie in (self.movie, Movie.read("films/w.mov")):
+            each = [movie.sample(1, n) for n in range(1, 5)]
+            self.assertEqual(list(movie.samples(1)), each)
+            self.assertEqual([list(movie.samples(1, n)) for n in range(1, 5)], [each[n:] for n in range(4)])
+            # Two at once do not disturb each other.
+            one, other = movie.samples(1), movie.samples(1, 3)
+            self.assertEqual([next(one), next(other), next(one), next(other)], [each[0], each[2], each[1], each[3]])
+            self.assertEqual(next(other, None), None)
+        self.assertRefused(15, self.movie.samples, 1, 0)
+        self.assertRefused(15, self.movie.samples, 1, 5)
+        self.assertRefused(14, self.movie.samples, 2)
+
     def test_sample_bytes(self):
         self.assertEqual(self.movie.sample_bytes(1, 2), W[1100:1150])
         self.assertEqual(self.movie.sample_bytes(1, 3), b"")
@@ -345,14 +358,16 @@ class Header(unittest.TestCase):
     def test_sizes(self):
         for name in ("TRACK_NUMBERS", "PAIR_NUMBERS", "RECORD_NUMBERS", "EDIT_NUMBERS", "MAX_TRACKS", "MAX_PAIRS",
                      "MAX_RECORDS", "MAX_EDITS", "SLIP_HEAD_BYTES", "SLIP_PAIR_BYTES", "SLIP_WIDE_PAIR_BYTES",
-                     "HEADER_BYTES", "TOP_LEVEL_PLACES"):
+                     "HEADER_BYTES", "TOP_LEVEL_PLACES", "STEPPER_NUMBERS", "SAMPLE_NUMBERS"):
             self.assertIn(f"CHALDOREF_{name} = {getattr(chaldoref, '_' + name)}", HEADER)
 
     def test_functions(self):
-        declared = {name: parameters for name, parameters in re.findall(r"chaldoref_(\w+)\((.*?)\);", HEADER, re.S)}
+        declared = {name: parameters for name, parameters in re.findall(r"^uint32_t chaldoref_(\w+)\((.*?)\);", HEADER, re.M | re.S)}
         self.assertEqual(set(declared), set(chaldoref._PARAMETERS))
         for name, parameters in declared.items():
-            found = re.findall(r"uint32_t (?:id|n|t|a|b|code)\b|uint64_t length\b|\*(?:room|out)\b", parameters)
+            # The last pointer and length are the answer's own.
+            before = parameters[:parameters.rindex("*")]
+            found = re.findall(r"uint32_t (?:id|n|t|a|b|code)\b|uint64_t length\b|\*(?:room|out|stepper)\b", before)
             letters = ("r" if "*" in letter else "l" if "64" in letter else "n" for letter in found)
             self.assertEqual("".join(letters), chaldoref._PARAMETERS[name])
 

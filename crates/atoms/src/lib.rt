@@ -7,7 +7,7 @@ ghost use mathlib.Core.Path.{_≡_};
 ghost use Prim.Native.Nat.{_≤_};
 ghost use lib.ListN.{length};
 ghost use Rattle.atoms.specs.Kinds.{container};
-ghost use Rattle.atoms.specs.Atoms.{headerOf, bodyOf, sizeInside, sizeTop, sizeIn, filled, childIn, bodyIn, countIn};
+ghost use Rattle.atoms.specs.Atoms.{headerOf, bodyOf, sizeInside, sizeTop, sizeIn, childIn, bodyIn, countIn};
 ghost use Rattle.atoms.specs.Pieces.{fitting};
 
 // Whether an atom of that kind is a container in that parent.
@@ -94,21 +94,6 @@ pub fn size_in(s: &[u8], parent: u32) -> usize
     } else {
         size_inside(s)
     }
-}
-
-// Whether the atoms of the body of that parent fill it exactly.
-pub fn fills(body: &[u8], parent: u32) -> bool
-    ensures { λ r. ⌜ r ≡ filled parent (now (body .entry)) ⌝ }
-{
-    let mut t = body;
-    while t.len() > 0 {
-        let n = size_in(t, parent);
-        if n < 8 {
-            return false;
-        }
-        t = &t[n..];
-    }
-    true
 }
 
 // The atom at i, counted from 0, among those of that kind in the body of that parent, header included; empty where there

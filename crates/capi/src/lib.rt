@@ -1,5 +1,5 @@
-// The questions of document 01 for programs in C and Rust: numbers and slices alone. Each function answers the number of a refusal, or 0, and puts
-// the values that documents 01 and 02 name into lent places, in its order. Each is one call: a function that is exported must stand in this crate.
+// The questions of documents 01 and 02 for programs in C and Rust: numbers and slices alone. Each function answers the number of a refusal, or 0, and
+// puts the values into lent places, in the order of the documents. Each is one call: a function that is exported must stand in this crate.
 mod moov;
 
 use host_any_slips::hand_read_any_slip;
@@ -24,7 +24,7 @@ ghost use Rattle.pairs.specs.Pairs.{flat};
 ghost use Rattle.structure.specs.Source.{wholeFile};
 ghost use Rattle.track_list.specs.TrackList.{trackLines};
 ghost use Rattle.stretch.specs.Stretches.{stretchPairs};
-ghost use Rattle.stretch.specs.Slips.{slipOfStretch};
+ghost use Rattle.slip_writing.specs.Slips.{slipOfStretch};
 ghost use Rattle.profiles.specs.Profiles.{profileNumbers};
 ghost use Rattle.movie_times.specs.Entries.{editNumbers, editsAsked};
 ghost use Rattle.hand.specs.Places.{Answers, SignedAnswers, Fills};
@@ -61,8 +61,9 @@ pub extern "C" fn chaldoref_profile(
     hand_profile(file, Source::whole(), id, room, places)
 }
 
-// One step of the walk over a file's top-level atoms, with up to 16 bytes of the file at the place told. In six places the walk's state: the file's length,
-// where to read next, moovs met, the place and the size of the moov, and 1 where it is found. Before the first step all but the length are 0.
+// One step of the walk over a file's top-level atoms, with up to 16 bytes of the file at the place told. In six places, where the walk goes on: the file's
+// length, where to read next, moovs met, the place and the size of the last one, and 0; where the moov is found: 0, 0, 1, its place, its size, and 1.
+// Before the first step all but the length are 0.
 #[no_mangle]
 pub extern "C" fn chaldoref_top_level_step(header: &[u8], places: &mut [u64]) -> u32
     ensures { λ r. ⌜ Answers (ofStep (now (header .entry)) (now (places .entry))) (now (places .entry)) r (now (places .exit)) ⌝ }
@@ -97,9 +98,9 @@ pub extern "C" fn chaldoref_sample(file: &[u8], id: u32, n: u32, places: &mut [i
 // The bytes of sample n, in two places: where they begin in the file, and how many they are.
 #[no_mangle]
 pub extern "C" fn chaldoref_sample_bytes(file: &[u8], id: u32, n: u32, places: &mut [u64]) -> u32
-    ensures { λ r. ⌜ Answers (ofSampleBytes (now (file .entry)) wholeFile id n) (now (places .entry)) r (now (places .exit)) ⌝ }
+    ensures { λ r. ⌜ Answers (ofSampleBytes (now (file .entry)) id n) (now (places .entry)) r (now (places .exit)) ⌝ }
 {
-    hand_sample_bytes(file, Source::whole(), id, n, places)
+    hand_sample_bytes(file, id, n, places)
 }
 
 // The feature with that code of a track, in one place.

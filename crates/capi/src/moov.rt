@@ -16,7 +16,7 @@ ghost use Rattle.pairs.specs.Pairs.{flat};
 ghost use Rattle.track_list.specs.TrackList.{trackLines};
 ghost use Rattle.structure.specs.Source.{moovAlone};
 ghost use Rattle.stretch.specs.Stretches.{stretchPairs};
-ghost use Rattle.stretch.specs.Slips.{slipOfStretch};
+ghost use Rattle.slip_writing.specs.Slips.{slipOfStretch};
 ghost use Rattle.profiles.specs.Profiles.{profileNumbers};
 ghost use Rattle.movie_times.specs.Entries.{editNumbers, editsAsked};
 ghost use Rattle.hand.specs.Places.{Answers, SignedAnswers, Fills};

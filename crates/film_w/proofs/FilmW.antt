@@ -39,7 +39,7 @@ use Rattle.questions.specs.Asked.{askRefusal, trackAsked}
 use Rattle.time_questions.specs.Times.{atRefusal, atNumber, atEntry}
 use Rattle.questions.specs.Samples.{sampleOf, sampleRefusal}
 use Rattle.stretch.specs.Stretches.{firstIn, pastIn, pairsIn, bytesIn, stretchPairs, spanRefusal, stretchRefusal}
-use Rattle.stretch.specs.Slips.{slipHead, slipOfStretch, slipRefusal}
+use Rattle.slip_writing.specs.Slips.{slipHead, slipOfStretch, slipRefusal}
 use Rattle.film_w.specs.Bytes.{moov, bytes}
 use Rattle.film_w.specs.Plain.{plain}
 use Rattle.film_w.specs.Cases.{cases, AllHold}

@@ -13,15 +13,15 @@ use Rattle.movie.specs.Rooms.{roomAfter}
 use Rattle.time_questions.specs.Times.{atAnswer}
 use Rattle.questions.specs.Samples.{sampleAnswer}
 use Rattle.stretch.specs.Stretches.{stretchPairs, stretchRefusal, stretchAnswer}
-use Rattle.stretch.specs.Slips.{slipOfStretch, slipRefusal, slipAnswer}
+use Rattle.slip_writing.specs.Slips.{slipOfStretch, slipRefusal, slipAnswer}
 use Rattle.time_questions.specs.declared.NumberAnswer.{NumberAnswer}
 use Rattle.time_questions.specs.declared.NumberAnswer.the-variants as times
 use Rattle.questions.specs.declared.samples.SampleAnswer.{SampleAnswer}
 use Rattle.questions.specs.declared.samples.SampleAnswer.the-variants as samples
 use Rattle.stretch.specs.declared.StretchAnswer.{StretchAnswer}
 use Rattle.stretch.specs.declared.StretchAnswer.the-variants as stretches
-use Rattle.stretch.specs.declared.slips.SlipAnswer.{SlipAnswer}
-use Rattle.stretch.specs.declared.slips.SlipAnswer.the-variants as slips
+use Rattle.slip_writing.specs.declared.SlipAnswer.{SlipAnswer}
+use Rattle.slip_writing.specs.declared.SlipAnswer.the-variants as slips
 
 -- a question and its answer
 pub data Case : Type 0 where

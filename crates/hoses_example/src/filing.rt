@@ -5,8 +5,8 @@ use questions::samples::SampleAnswer;
 use questions::samples::sample_by_number;
 use slip::SlipRead;
 use slip::read_slip;
-use stretch::slips::SlipAnswer;
-use stretch::slips::write_slip;
+use slip_writing::SlipAnswer;
+use slip_writing::write_slip;
 use structure::source::Source;
 ghost use Prim.Native.Nat.{_≤_};
 

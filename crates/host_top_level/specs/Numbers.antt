@@ -13,7 +13,7 @@ unfoldable pub walkIn : List ℕ → Walk
 walkIn places =
     record { length = getD places 0 0; place = getD places 1 0; moovs = getD places 2 0; at = getD places 3 0; size = getD places 4 0 }
 
--- the state of a walk that goes on, and 0; the place and the size of the moov that is found after one moov, and 1
+-- the state of a walk that goes on, and 0; or of the moov that is found: 0 for the length and for where to read next, one moov, its place, its size, and 1
 unfoldable pub stepNumbers : Next → List ℕ
 stepNumbers (Read w) = 0 ∷ w .length ∷ w .place ∷ w .moovs ∷ w .at ∷ w .size ∷ 0 ∷ []
 stepNumbers (Found at size) = 0 ∷ 0 ∷ 0 ∷ 1 ∷ at ∷ size ∷ 1 ∷ []

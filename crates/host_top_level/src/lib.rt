@@ -27,8 +27,9 @@ fn walk_in(places: &[u64]) -> Walk
     }
 }
 
-// One step, with up to 16 bytes of the file at the walk's place. In six places: the walk's state (the file's length, where to read next, moovs met, the
-// place and the size of the moov), and 0 where the walk goes on, 1 where the moov is found. Before the first step all but the length are 0.
+// One step, with up to 16 bytes of the file at the walk's place. In six places, where the walk goes on: the file's length, where to read next, moovs met,
+// the place and the size of the last one, and 0; where the moov is found: 0, 0, 1, its place, its size, and 1. Before the first step all but the length
+// are 0.
 pub fn hand_step(header: &[u8], places: &mut [u64]) -> u32
     ensures { λ r. ⌜ Answers (ofStep (now (header .entry)) (now (places .entry))) (now (places .entry)) r (now (places .exit)) ⌝ }
 {

@@ -7,8 +7,8 @@ use lib.ListN.{length}
 use Rattle.structure.specs.declared.source.Source.{Source}
 use Rattle.movie.specs.Rooms.{refusedWith}
 use Rattle.movie.proofs.Answers.{gives}
-use Rattle.stretch.specs.Slips.{slipOfStretch, slipRefusal, slipAsked, slipNumbers}
-use Rattle.stretch.specs.declared.slips.SlipAnswer.the-variants as slips
+use Rattle.slip_writing.specs.Slips.{slipOfStretch, slipRefusal, slipAsked, slipNumbers}
+use Rattle.slip_writing.specs.declared.SlipAnswer.the-variants as slips
 use Rattle.hand.specs.Times.{media}
 use Rattle.hand.proofs.Answered.{judged}
 use Rattle.host_written_slips.specs.Numbers.{ofSlipWriting}

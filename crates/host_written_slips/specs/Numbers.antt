@@ -2,7 +2,7 @@
 use Prim.Native.Nat.{ℕ}
 use mathlib.Core.List.{List}
 use Rattle.structure.specs.declared.source.Source.{Source}
-use Rattle.stretch.specs.Slips.{slipAnswer, slipNumbers}
+use Rattle.slip_writing.specs.Slips.{slipAnswer, slipNumbers}
 use Rattle.hand.specs.Times.{media}
 
 -- "the slip's length in bytes"

@@ -2,11 +2,11 @@
 use edits::MediaTime;
 use hand::hand;
 use hand::or_short;
-use stretch::slips::SlipAnswer;
-use stretch::slips::write_slip_of;
+use slip_writing::SlipAnswer;
+use slip_writing::write_slip_of;
 use stretch::span_refusal;
 use structure::source::Source;
-ghost use Rattle.stretch.specs.Slips.{slipOfStretch};
+ghost use Rattle.slip_writing.specs.Slips.{slipOfStretch};
 ghost use Rattle.hand.specs.Places.{Fills};
 ghost use Rattle.hand.specs.Times.{media};
 ghost use Rattle.host_written_slips.specs.Numbers.{ofSlipWriting};

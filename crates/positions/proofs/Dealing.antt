@@ -1,5 +1,4 @@
--- The place in the chunks: what it is to begin the next chunk, to pass a sample, and to seek one. The first sample of a chunk has the chunk's offset, and the next
--- one begins where it ends.
+-- The place in the chunks: what it is to begin the next chunk, to pass a sample, and to seek one.
 -- Assumes nothing.
 use Prim.Native.Nat.{ℕ, suc, _+_, _-_, _≤_, _<_, _^_, min}
 use mathlib.Core.Path.{_≡_, refl, sym, ap, _∙_}
@@ -7,9 +6,9 @@ use mathlib.Core.List.{List, []}
 use native.Mathlib.Omega.{arith}
 use native.Mathlib.Decide.{ℕ-discrete, decLt}
 use borrow.Author.Tests.{eq-eqb, ne-eqb, lt-leb, le-leb}
-use lib.ListN.{length, getD, take, drop, length-drop}
-use Rattle.lists.specs.Lists.{sum, before, between, holder, Holds}
-use Rattle.lists.proofs.Places.{before-suc, before-le, before-all, holder-holds, holder-only, holds-below, between-split, between-one}
+use lib.ListN.{length, getD, length-drop}
+use Rattle.lists.specs.Lists.{sum, before, holder, Holds}
+use Rattle.lists.proofs.Places.{before-suc, before-all, holder-holds, holder-only, holds-below}
 use Rattle.words.specs.Words.{chunkOffsets}
 use Rattle.chunks.specs.Chunks.{perChunk, descriptionIds, offsetOf}
 use Rattle.chunks.specs.Computed.{locatedIn, locatedOffset}
@@ -18,31 +17,10 @@ use Rattle.chunks.specs.declared.ChunkCursor.{ChunkCursor}
 use Rattle.chunks.specs.declared.Located.{Located}
 use Rattle.chunks.specs.declared.Sought.{Sought}
 use Rattle.chunks.proofs.Cursors.{ready-same, ready-valid, past-valid, no-samples, stands-at}
+use Rattle.chunks.proofs.Dealt.{first-chunk, first-offset, next-offset}
 use Rattle.chunks.proofs.Finding.{Finds, finds, located-some, offset-located}
 use Rattle.positions.specs.Dealing.{DealtAt, begun, readiedDealt, pastDealt}
 use Rattle.positions.specs.declared.dealt.Dealt.{Dealt}
-
--- ---- samples and chunks, as lists
-
-between-none : (zs : List ℕ) (i : ℕ) → between zs i i ≡ 0
-between-none zs i = let e : i - i ≡ 0 = omega arith in ap (λ (k : ℕ). sum (take k (drop i zs))) e
-
--- the first sample of the chunk with index k, which has one
-module _ (ps : List ℕ) (k : ℕ) (h : 0 < getD ps k 0) where
-  first-chunk : holder ps (before ps k) ≡ k
-  first-chunk = sym (holder-only ps (before ps k) k (record { from = omega arith; to = omega arith }))
-
-  first-offset : (cs zs : List ℕ) → offsetOf ps cs zs (before ps k) ≡ getD cs k 0
-  unfolding offsetOf
-  first-offset cs zs = rw first-chunk (omega (arith, between-none zs (before ps k)))
-
--- a sample and the next one in the same chunk
-next-offset : (ps cs zs : List ℕ) (i : ℕ) → i < sum ps → holder ps (suc i) ≡ holder ps i → offsetOf ps cs zs (suc i) ≡ offsetOf ps cs zs i + getD zs i 0
-unfolding offsetOf
-next-offset ps cs zs i h e =
-    let b = before ps (holder ps i) in
-    let l = holder-holds ps i h .from in
-    rw e (omega (arith, between-split zs b i (suc i) l (omega arith), between-one zs i))
 
 -- ---- what the code makes
 

@@ -43,7 +43,7 @@ pub record Agrees (x : Bytes) (n : ℕ) : Type 0 where
   pub low : (i : ℕ) → i < n → offsetOf (perChunk (x .stsc) (u32At (x .offsets) 12)) (chunkOffsets (x .offsets)) (sizes (x .stsz)) i < 2 ^ 63
   pub syncs : syncsAgree (x .stss) n ≡ true
 
--- ---- as the code has it. This need not be believed: the laws of `proofs/Moving.antt` are what callers go by
+-- ---- as the code has it. This need not be believed: the laws of `proofs/Standing.antt` are what callers go by
 
 -- whether an entry is to be read before the sample is known
 abbrev pub needsEntries : ℕ → Moving → Bool

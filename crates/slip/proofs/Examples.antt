@@ -7,7 +7,7 @@ use Prim.Native.Nat.{ℕ}
 use Rattle.leb128.specs.Numbers.{groups, groupsIn, writes, value, onto, cut, same, written, values, unended, cutShort}
 use Rattle.slip_head.specs.Bytes.{anyWide, formOf, slipBytes}
 use Rattle.slip_head.specs.declared.Head.{Head}
-use Rattle.slip_scan.specs.Rules.{allowed}
+use Rattle.slip_numbers.specs.Rules.{allowed}
 use Rattle.slip.specs.Slip.{wanted, faultFrom, wideFault, restFault, slipFault, Outcome, accepted, malformed, outcomeOf, slipIn}
 
 abbrev worked : Head

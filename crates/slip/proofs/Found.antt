@@ -21,7 +21,8 @@ use Rattle.slip_head.specs.declared.Head.{Head}
 use Rattle.slip_head.proofs.Writes.{slip-form}
 use Rattle.slip_head.proofs.Forms.{below-narrow, narrow-below, widen, rules-at, all-below, but-count}
 use Rattle.slip.specs.Slip.{Fault, none, at, faultFrom, accepted, malformed, outcomeOf, slipIn, boundOf, IsSlip, slipReadNumbers, numbersFor, roomFor, Reads}
-use Rattle.slip_scan.specs.Steps.{valuesFrom, restIn, widened, wideIn, byForm, scanIn}
+use Rattle.number_values.specs.Values.{valuesFrom}
+use Rattle.slip_scan.specs.Steps.{restIn, widened, wideIn, byForm, scanIn}
 use Rattle.slip_scan.specs.declared.SlipScan.{SlipScan}
 use Rattle.slip_scan.specs.declared.SlipScan.the-variants.{Slip, Malformed}
 use Rattle.slip.specs.declared.SlipRead.{SlipRead}

@@ -15,11 +15,13 @@ use Rattle.leb128.specs.Reading.{limit, readAt}
 use Rattle.leb128.specs.declared.number.NumberRead.the-variants.{Good}
 use Rattle.slip_head.specs.Bytes.{afterForm, Rules}
 use Rattle.slip_head.specs.declared.Head.{Head}
-use Rattle.slip_scan.specs.Rules.{allowed}
-use Rattle.slip_scan.specs.Steps.{NumberRun, all, stopped, run, valuesFrom, afterPairs, afterHead, restIn}
+use Rattle.slip_numbers.specs.Rules.{allowed}
+use Rattle.number_values.specs.Values.{valuesFrom}
+use Rattle.slip_numbers.specs.Steps.{NumberRun, all, stopped, run}
+use Rattle.slip_scan.specs.Steps.{afterPairs, afterHead, restIn}
 use Rattle.slip_scan.specs.declared.SlipScan.{SlipScan}
 use Rattle.slip_scan.specs.declared.SlipScan.the-variants.{Slip, Malformed}
-use Rattle.slip_scan.proofs.Runs.{Allowed, Ran, run-ran, run-values, pairs-below}
+use Rattle.slip_numbers.proofs.Runs.{Allowed, Ran, run-ran, run-values, pairs-below}
 use Rattle.slip_scan.proofs.Rest.{head, headOf, five}
 
 -- numbers that are allowed by their place keep the rules of document 01

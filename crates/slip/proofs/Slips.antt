@@ -19,7 +19,7 @@ use Rattle.slip_head.specs.Bytes.{afterForm, anyWide, formFor, formOf, slipByte
 use Rattle.slip_head.specs.declared.Head.{Head}
 use Rattle.slip_head.proofs.Writes.{slip-form}
 use Rattle.slip_head.proofs.Forms.{below-narrow, narrow-below, widen, rules-at, all-below, but-count}
-use Rattle.slip_scan.specs.Rules.{allowed}
+use Rattle.slip_numbers.specs.Rules.{allowed}
 use Rattle.slip.specs.Slip.{wanted, Fault, none, at, faultFrom, wideFault, restFault, slipFault, Outcome, accepted, malformed, headOf, outcomeOf, slipIn, boundOf, IsSlip}
 
 -- numbers that a slip may have from the i-th on, and as many as are wanted

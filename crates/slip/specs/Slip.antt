@@ -8,7 +8,7 @@ use lib.ListN.{length, getD, drop}
 use Rattle.leb128.specs.Numbers.{value, cut, written, values, cutShort}
 use Rattle.slip_head.specs.declared.Head.{Head}
 use Rattle.slip_head.specs.Bytes.{anyWide, slipBytes, Rules}
-use Rattle.slip_scan.specs.Rules.{allowed}
+use Rattle.slip_numbers.specs.Rules.{allowed}
 use Rattle.slip.specs.declared.SlipRead.{SlipRead}
 use Rattle.slip.specs.declared.SlipRead.the-variants.{Accepted, Malformed, NoRoom}
 

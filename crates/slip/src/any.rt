@@ -1,7 +1,7 @@
 // Reading a slip of either form.
 use super::SlipRead;
+use number_values::fill_wide;
 use slip_scan::SlipScan;
-use slip_scan::fill_wide;
 use slip_scan::find_slip;
 ghost use mathlib.Core.Bool.{true};
 ghost use Rattle.slip.specs.Slip.{Reads};

@@ -1,8 +1,8 @@
 // Slips, document 01's word for a receipt: which bytes of film belong to a track's media times a to b. This crate knows nothing of movies.
 pub mod any;
 
+use number_values::fill_numbers;
 use slip_scan::SlipScan;
-use slip_scan::fill_numbers;
 use slip_scan::find_slip;
 ghost use mathlib.Core.Bool.{false};
 ghost use Rattle.slip.specs.Slip.{Reads};

@@ -15,13 +15,16 @@ use Rattle.leb128.specs.declared.number.NumberRead.the-variants.{Good, Broken, 
 use Rattle.leb128.proofs.Groups.{limit64}
 use Rattle.leb128.proofs.Readings.{read-wider, width}
 use Rattle.slip_head.specs.declared.Head.{Head}
-use Rattle.slip_scan.specs.Rules.{allowed}
-use Rattle.slip_scan.specs.Steps.{NumberRun, all, stopped, run, checkedOf, valuesFrom, afterPairs, afterHead, restIn, widened, wideIn, byForm, scanIn}
-use Rattle.slip_scan.specs.declared.Checked.{Checked}
-use Rattle.slip_scan.specs.declared.Checked.the-variants.{All, Stopped}
+use Rattle.number_values.specs.Values.{valuesFrom}
+use Rattle.number_values.proofs.Values.{length-values}
+use Rattle.slip_numbers.specs.Rules.{allowed}
+use Rattle.slip_numbers.specs.Steps.{NumberRun, all, stopped, run, checkedOf}
+use Rattle.slip_numbers.specs.declared.Checked.{Checked}
+use Rattle.slip_numbers.specs.declared.Checked.the-variants.{All, Stopped}
+use Rattle.slip_numbers.proofs.Runs.{Allowed, run-ran, run-values, checked-all, checked-stopped}
+use Rattle.slip_scan.specs.Steps.{afterPairs, afterHead, restIn, widened, wideIn, byForm, scanIn}
 use Rattle.slip_scan.specs.declared.SlipScan.{SlipScan}
 use Rattle.slip_scan.specs.declared.SlipScan.the-variants.{Slip, Malformed}
-use Rattle.slip_scan.proofs.Runs.{Allowed, run-ran, run-values, length-values, checked-all, checked-stopped}
 
 -- the five numbers that follow the form, before the pairs
 abbrev pub head : Head → List ℕ

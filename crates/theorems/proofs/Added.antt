@@ -7,10 +7,11 @@ use mathlib.Core.List.{List, [], _∷_, map, map-append}
 use native.Mathlib.Nat.{zero-add}
 use native.Mathlib.Omega.{arith}
 use native.Mathlib.Decide.{ℕ-discrete}
-use lib.ListN.{length, getD, take, drop}
+use lib.ListN.{length, getD}
 use Rattle.lists.specs.Lists.{sum, before, between, upTo, holder, part, parts}
 use Rattle.lists.proofs.Laws.{sum-append}
 use Rattle.lists.proofs.Places.{before-suc, before-all, holder-only, holder-mono, between-split, between-one, parts-sum}
+use Rattle.chunks.proofs.Dealt.{between-none}
 
 steps : (f g : ℕ → ℕ) (n : ℕ) → ((i : ℕ) → i < n → f i + g i ≡ g (suc i)) → sum (map f (upTo n)) + g 0 ≡ g n
 steps f g zero h = zero-add (g 0)
@@ -32,9 +33,6 @@ pub before-up : (xs : List ℕ) (k : ℕ) → sum (map (λ j. getD xs j 0) (upTo
 before-up xs k = omega (arith, steps (λ j. getD xs j 0) (before xs) k (λ j h. omega (arith, before-suc xs j)))
 
 -- ---- sizes
-
-pub between-none : (zs : List ℕ) (i : ℕ) → between zs i i ≡ 0
-between-none zs i = let e : i - i ≡ 0 = omega arith in ap (λ (k : ℕ). sum (take k (drop i zs))) e
 
 -- f takes the numbers of zs from index i on
 pub sizes-added : (zs : List ℕ) (f : ℕ → ℕ) (i n : ℕ) → ((j : ℕ) → j < n → f j ≡ getD zs (i + j) 0) → sum (map f (upTo n)) ≡ between zs i (i + n)

@@ -30,37 +30,37 @@ use Rattle.questions.specs.declared.samples.Sample.{Sample}
 use Rattle.questions.specs.declared.samples.SampleAnswer.the-variants.{Found, Refused}
 use Rattle.time_questions.specs.declared.NumberAnswer.the-variants as number
 use Rattle.stretch.specs.declared.StretchAnswer.the-variants as stretch
-use Rattle.theorems.proofs.Lists.{tables}
+use Rattle.theorems.proofs.Lists.{tablesAsked}
 
 -- the sample that was found has this index
 pub record Known (s : List ℕ) (id n : ℕ) (x : Sample) : Type 0 where
   pub index : ℕ
   pub number : n ≡ suc index
   pub low : index < samplesOf (trackAsked s id)
-  pub is : x ≡ sampleOf (tables s id) index
+  pub is : x ≡ sampleOf (tablesAsked s id) index
 
 -- the track is not refused, and the stretch lies within
 pub record Span (s : List ℕ) (source : Source) (id : ℕ) (a b : MediaTime) : Type 0 where
   pub ask : askRefusal s source id ≡ 0
   pub order : a .0 < b .0
-  pub within : b .0 ≤ sum (tables s id .durations)
+  pub within : b .0 ≤ sum (tablesAsked s id .durations)
 
 -- a stretch that is answered
 pub record Answered (s : List ℕ) (source : Source) (id : ℕ) (a b : MediaTime) (room : List ℕ) (k bytes : ℕ) : Type 0 where
   pub span : Span s source id a b
   pub refusal : stretchRefusal s source id a b room ≡ 0
   pub count : k ≡ length (stretchPairs s id a b)
-  pub total : bytes ≡ bytesIn (tables s id) a b
+  pub total : bytes ≡ bytesIn (tablesAsked s id) a b
 
 -- the entry that is answered, by the runs of stts
-pub entry-is : (s : List ℕ) (id : ℕ) (t : MediaTime) → atEntry s id t ≡ entryOf (runsOf (tableOf stts (trackAsked s id))) (holder (tables s id .durations) (t .0))
+pub entry-is : (s : List ℕ) (id : ℕ) (t : MediaTime) → atEntry s id t ≡ entryOf (runsOf (tableOf stts (trackAsked s id))) (holder (tablesAsked s id .durations) (t .0))
 unfolding atEntry
 entry-is s id t = refl
 
 module _ (s : List ℕ) (source : Source) (id : ℕ) (e : askRefusal s source id ≡ 0) where
   -- ---- samples
 
-  pub found-is : (n i : ℕ) → n ≡ suc i → i < samplesOf (trackAsked s id) → sampleAnswer s source id n ≡ Found (sampleOf (tables s id) i)
+  pub found-is : (n i : ℕ) → n ≡ suc i → i < samplesOf (trackAsked s id) → sampleAnswer s source id n ≡ Found (sampleOf (tablesAsked s id) i)
   unfolding sampleRefusal orElse
   found-is n i q h =
       let w : n - 1 ≡ i = omega arith in
@@ -83,44 +83,44 @@ module _ (s : List ℕ) (source : Source) (id : ℕ) (e : askRefusal s source id
 
   -- ---- times
 
-  pub at-is : (t : MediaTime) → t .0 < sum (tables s id .durations) → atAnswer s source id t ≡ number.Number (suc (holder (tables s id .durations) (t .0))) (atEntry s id t)
+  pub at-is : (t : MediaTime) → t .0 < sum (tablesAsked s id .durations) → atAnswer s source id t ≡ number.Number (suc (holder (tablesAsked s id .durations) (t .0))) (atEntry s id t)
   unfolding atRefusal atNumber orElse totalIn trackOf
-  at-is t h = rw (e, lt-ltb (t .0) (sum (tables s id .durations)) h)
+  at-is t h = rw (e, lt-ltb (t .0) (sum (tablesAsked s id .durations)) h)
 
-  pub at-outside : (t : MediaTime) → sum (tables s id .durations) ≤ t .0 → atAnswer s source id t ≡ number.Refused 15
+  pub at-outside : (t : MediaTime) → sum (tablesAsked s id .durations) ≤ t .0 → atAnswer s source id t ≡ number.Refused 15
   unfolding atRefusal orElse totalIn trackOf
-  at-outside t h = rw (e, le-ltb (t .0) (sum (tables s id .durations)) h)
+  at-outside t h = rw (e, le-ltb (t .0) (sum (tablesAsked s id .durations)) h)
 
-  pub at-known : (t : MediaTime) (n k : ℕ) → atAnswer s source id t ≡ number.Number n k → (t .0 < sum (tables s id .durations)) × (n ≡ suc (holder (tables s id .durations) (t .0)))
-  at-known t n k q = elim (decLt (t .0) (sum (tables s id .durations))) [
+  pub at-known : (t : MediaTime) (n k : ℕ) → atAnswer s source id t ≡ number.Number n k → (t .0 < sum (tablesAsked s id .durations)) × (n ≡ suc (holder (tablesAsked s id .durations) (t .0)))
+  at-known t n k q = elim (decLt (t .0) (sum (tablesAsked s id .durations))) [
     | yes l ↦ let r = at-is t l in (l, cc)
     | no l ↦ let r = at-outside t (omega arith) in let z : _≡_ {A = ℕ} 0 1 = cc in absurd (omega arith)
   ]
 
   -- ---- stretches
 
-  pub pairs-is : (a b : MediaTime) (room : List ℕ) → a .0 < b .0 → b .0 ≤ sum (tables s id .durations) → length (flat (stretchPairs s id a b)) ≤ length room
-      → stretchAnswer s source id a b room ≡ stretch.Pairs (length (stretchPairs s id a b)) (bytesIn (tables s id) a b)
+  pub pairs-is : (a b : MediaTime) (room : List ℕ) → a .0 < b .0 → b .0 ≤ sum (tablesAsked s id .durations) → length (flat (stretchPairs s id a b)) ≤ length room
+      → stretchAnswer s source id a b room ≡ stretch.Pairs (length (stretchPairs s id a b)) (bytesIn (tablesAsked s id) a b)
   unfolding stretchRefusal spanRefusal noRoom orElse totalIn trackOf
   pairs-is a b room o w r =
-      rw (e, lt-ltb (a .0) (b .0) o, le-leb (b .0) (sum (tables s id .durations)) w, le-ltb (length room) (length (flat (stretchPairs s id a b))) r)
+      rw (e, lt-ltb (a .0) (b .0) o, le-leb (b .0) (sum (tablesAsked s id .durations)) w, le-ltb (length room) (length (flat (stretchPairs s id a b))) r)
 
-  pub short-is : (a b : MediaTime) (room : List ℕ) → a .0 < b .0 → b .0 ≤ sum (tables s id .durations) → length room < length (flat (stretchPairs s id a b))
+  pub short-is : (a b : MediaTime) (room : List ℕ) → a .0 < b .0 → b .0 ≤ sum (tablesAsked s id .durations) → length room < length (flat (stretchPairs s id a b))
       → stretchAnswer s source id a b room ≡ stretch.Refused 16
   unfolding stretchRefusal spanRefusal noRoom orElse totalIn trackOf
   short-is a b room o w r =
-      rw (e, lt-ltb (a .0) (b .0) o, le-leb (b .0) (sum (tables s id .durations)) w, lt-ltb (length room) (length (flat (stretchPairs s id a b))) r)
+      rw (e, lt-ltb (a .0) (b .0) o, le-leb (b .0) (sum (tablesAsked s id .durations)) w, lt-ltb (length room) (length (flat (stretchPairs s id a b))) r)
 
-  outside : (a b : MediaTime) → ((a .0 < b .0) × (b .0 ≤ sum (tables s id .durations)) → ⊥) → (ltb (a .0) (b .0) && leb (b .0) (sum (tables s id .durations))) ≡ false
+  outside : (a b : MediaTime) → ((a .0 < b .0) × (b .0 ≤ sum (tablesAsked s id .durations)) → ⊥) → (ltb (a .0) (b .0) && leb (b .0) (sum (tablesAsked s id .durations))) ≡ false
   outside a b n = elim (decLt (a .0) (b .0)) [
-    | yes o ↦ elim (decLe (b .0) (sum (tables s id .durations))) [
+    | yes o ↦ elim (decLe (b .0) (sum (tablesAsked s id .durations))) [
       | yes w ↦ absurd (n (o, w))
-      | no w ↦ rw (lt-ltb (a .0) (b .0) o) (lt-leb (b .0) (sum (tables s id .durations)) (omega arith))
+      | no w ↦ rw (lt-ltb (a .0) (b .0) o) (lt-leb (b .0) (sum (tablesAsked s id .durations)) (omega arith))
     ]
     | no o ↦ rw (le-ltb (a .0) (b .0) (omega arith))
   ]
 
-  pub no-stretch : (a b : MediaTime) → ((a .0 < b .0) × (b .0 ≤ sum (tables s id .durations)) → ⊥) → (room : List ℕ) → stretchAnswer s source id a b room ≡ stretch.Refused 15
+  pub no-stretch : (a b : MediaTime) → ((a .0 < b .0) × (b .0 ≤ sum (tablesAsked s id .durations)) → ⊥) → (room : List ℕ) → stretchAnswer s source id a b room ≡ stretch.Refused 15
   unfolding stretchRefusal spanRefusal orElse totalIn trackOf
   no-stretch a b n room = rw (e, outside a b n)
 
@@ -138,7 +138,7 @@ unfolding stretchRefusal
 pairs-known s source id a b room k bytes e = go (eqb (stretchRefusal s source id a b room) 0) refl e
   where
     go : (t : Bool) → eqb (stretchRefusal s source id a b room) 0 ≡ t
-        → cond t (stretch.Pairs (length (stretchPairs s id a b)) (bytesIn (tables s id) a b)) (stretch.Refused (stretchRefusal s source id a b room)) ≡ stretch.Pairs k bytes
+        → cond t (stretch.Pairs (length (stretchPairs s id a b)) (bytesIn (tablesAsked s id) a b)) (stretch.Refused (stretchRefusal s source id a b room)) ≡ stretch.Pairs k bytes
         → Answered s source id a b room k bytes
     go true q w =
         let r = eqb-true _ _ q in

@@ -30,10 +30,11 @@ use Rattle.questions.specs.declared.samples.Sample.{Sample}
 use Rattle.questions.specs.declared.samples.SampleAnswer.the-variants.{Found}
 use Rattle.time_questions.specs.declared.NumberAnswer.the-variants as number
 use Rattle.theorems.specs.Entries.{mediaTotal}
-use Rattle.theorems.specs.Demand.{HasTime, partIn, sizeIn, howMany, added, NoZeroDuration, OfTrack, Demand3}
+use Rattle.theorems.specs.Demand.{HasTime, partIn, sizeAnswered, howMany, added, NoZeroDuration, OfTrack, Demand3}
 use Rattle.theorems.proofs.Added.{sizes-added, parts-added, cut-at}
-use Rattle.theorems.proofs.Dealt.{gets-of, gets-only, first-low, first-chunk, first-offset, next-offset}
-use Rattle.theorems.proofs.Lists.{tables, Listed, listed}
+use Rattle.chunks.proofs.Dealt.{first-chunk, first-offset, next-offset}
+use Rattle.theorems.proofs.Dealt.{gets-of, gets-only, first-low}
+use Rattle.theorems.proofs.Lists.{tablesAsked, Listed, listed}
 use Rattle.theorems.proofs.Entries.{total-is, count-is, entry-counts, size-at, offset-at, entry-holds}
 use Rattle.theorems.proofs.Tracks.{own-asked, own-itself}
 use Rattle.pairs.proofs.Filling.{flat-length}
@@ -42,40 +43,40 @@ use Rattle.theorems.proofs.Answers.{Known, found-is, none-is, past-is, 
 -- ---- what a sample's answer says of the lists
 
 module _ (s : List ℕ) (id n : ℕ) (x : Sample) (u : Known s id n x) where
-  decode-is : x .decode ≡ before (tables s id .durations) (u .index)
+  decode-is : x .decode ≡ before (tablesAsked s id .durations) (u .index)
   unfolding sampleOf
   decode-is = ap (λ (y : Sample). y .decode) (u .is)
 
-  duration-is : x .duration ≡ getD (tables s id .durations) (u .index) 0
+  duration-is : x .duration ≡ getD (tablesAsked s id .durations) (u .index) 0
   unfolding sampleOf
   duration-is = ap (λ (y : Sample). y .duration) (u .is)
 
-  chunk-is : x .chunk ≡ suc (holder (tables s id .perChunk) (u .index))
+  chunk-is : x .chunk ≡ suc (holder (tablesAsked s id .perChunk) (u .index))
   unfolding sampleOf
   chunk-is = ap (λ (y : Sample). y .chunk) (u .is)
 
-  size-is : x .size ≡ getD (tables s id .sizes) (u .index) 0
+  size-is : x .size ≡ getD (tablesAsked s id .sizes) (u .index) 0
   unfolding sampleOf
   size-is = ap (λ (y : Sample). y .size) (u .is)
 
-  offset-is : x .offset ≡ offsetOf (tables s id .perChunk) (tables s id .chunkOffsets) (tables s id .sizes) (u .index)
+  offset-is : x .offset ≡ offsetOf (tablesAsked s id .perChunk) (tablesAsked s id .chunkOffsets) (tablesAsked s id .sizes) (u .index)
   unfolding sampleOf
   offset-is = ap (λ (y : Sample). y .offset) (u .is)
 
   -- its media times are those that its duration holds
-  holds-known : (t : ℕ) → HasTime x t → Holds (tables s id .durations) t (u .index)
+  holds-known : (t : ℕ) → HasTime x t → Holds (tablesAsked s id .durations) t (u .index)
   holds-known t h = record { from = omega (arith, decode-is, h .from); to = omega (arith, decode-is, duration-is, h .to) }
 
 -- and the other way round
-has-of : (s : List ℕ) (id i t : ℕ) → Holds (tables s id .durations) t i → HasTime (sampleOf (tables s id) i) t
+has-of : (s : List ℕ) (id i t : ℕ) → Holds (tablesAsked s id .durations) t i → HasTime (sampleOf (tablesAsked s id) i) t
 unfolding sampleOf
 has-of s id i t h = record { from = h .from; to = h .to }
 
 -- the duration of an index is not zero where it stands at m and no answer there is of zero duration
-lasting : (s : List ℕ) (source : Source) (id m : ℕ) (e : askRefusal s source id ≡ 0) (i : ℕ) → i < samplesOf (trackAsked s id) → NoZeroDuration s source id m → before (tables s id .durations) i ≡ m
-    → 0 < getD (tables s id .durations) i 0
+lasting : (s : List ℕ) (source : Source) (id m : ℕ) (e : askRefusal s source id ≡ 0) (i : ℕ) → i < samplesOf (trackAsked s id) → NoZeroDuration s source id m → before (tablesAsked s id .durations) i ≡ m
+    → 0 < getD (tablesAsked s id .durations) i 0
 unfolding sampleOf
-lasting s source id m e i h all w = omega (arith, all (suc i) (sampleOf (tables s id) i) (found-is s source id e (suc i) i refl h) w)
+lasting s source id m e i h all w = omega (arith, all (suc i) (sampleOf (tablesAsked s id) i) (found-is s source id e (suc i) i refl h) w)
 
 -- ---- stretches
 
@@ -85,17 +86,17 @@ record Run (s : List ℕ) (id : ℕ) (a b : MediaTime) (first last : ℕ) : Type
   n : ℕ
   begin : first ≡ suc i
   count : howMany first last ≡ n
-  here : i ≡ holder (tables s id .durations) (a .0)
-  there : i + n ≡ suc (holder (tables s id .durations) (b .0 - 1))
-  low : before (tables s id .durations) i ≤ a .0
-  high : b .0 ≤ before (tables s id .durations) (i + n)
+  here : i ≡ holder (tablesAsked s id .durations) (a .0)
+  there : i + n ≡ suc (holder (tablesAsked s id .durations) (b .0 - 1))
+  low : before (tablesAsked s id .durations) i ≤ a .0
+  high : b .0 ≤ before (tablesAsked s id .durations) (i + n)
   few : i + n ≤ samplesOf (trackAsked s id)
 
 module _ (s : List ℕ) (source : Source) (id : ℕ) (e : askRefusal s source id ≡ 0) (l : Listed s id) where
-  run-of : (a b z : MediaTime) (first last i j : ℕ) → a .0 < b .0 → b .0 ≤ sum (tables s id .durations) → z .0 ≡ b .0 - 1
+  run-of : (a b z : MediaTime) (first last i j : ℕ) → a .0 < b .0 → b .0 ≤ sum (tablesAsked s id .durations) → z .0 ≡ b .0 - 1
       → atAnswer s source id a ≡ number.Number first i → atAnswer s source id z ≡ number.Number last j → Run s id a b first last
   run-of a b z first last i₁ j₁ o w d p q =
-      let ds = tables s id .durations in
+      let ds = tablesAsked s id .durations in
       let i = holder ds (a .0) in
       let j = holder ds (b .0 - 1) in
       let f = at-known s source id e a first i₁ p in
@@ -119,47 +120,47 @@ module _ (s : List ℕ) (source : Source) (id : ℕ) (e : askRefusal s source id
 
   module _ (a b : MediaTime) (first last : ℕ) (r : Run s id a b first last) where
     -- the answer of each
-    each : (j : ℕ) → j < r .n → sampleAnswer s source id (first + j) ≡ Found (sampleOf (tables s id) (r .i + j))
+    each : (j : ℕ) → j < r .n → sampleAnswer s source id (first + j) ≡ Found (sampleOf (tablesAsked s id) (r .i + j))
     each j h = found-is s source id e (first + j) (r .i + j) (omega (arith, r .begin)) (omega (arith, r .few))
 
-    sizes-fit : bytesIn (tables s id) a b ≡ added s source id sizeIn first last
+    sizes-fit : bytesIn (tablesAsked s id) a b ≡ added s source id sizeAnswered first last
     unfolding sampleOf bytesIn firstIn pastIn
     sizes-fit = rw (r .count, ← r .here, ← r .there)
-        (sym (sizes-added (tables s id .sizes) (λ j. sizeIn (sampleAnswer s source id (first + j))) (r .i) (r .n) (λ j h. ap sizeIn (each j h))))
+        (sym (sizes-added (tablesAsked s id .sizes) (λ j. sizeAnswered (sampleAnswer s source id (first + j))) (r .i) (r .n) (λ j h. ap sizeAnswered (each j h))))
 
 -- a stretch cut at the start of the sample with index i
 cut-fits : (s : List ℕ) (id : ℕ) (a m b : MediaTime) (i : ℕ)
-    → ((k : ℕ) → k < length (tables s id .durations) → before (tables s id .durations) k ≡ before (tables s id .durations) i → 0 < getD (tables s id .durations) k 0)
-    → i < length (tables s id .durations) → m .0 ≡ before (tables s id .durations) i → a .0 < m .0 → m .0 < b .0
-    → bytesIn (tables s id) a b ≡ bytesIn (tables s id) a m + bytesIn (tables s id) m b
+    → ((k : ℕ) → k < length (tablesAsked s id .durations) → before (tablesAsked s id .durations) k ≡ before (tablesAsked s id .durations) i → 0 < getD (tablesAsked s id .durations) k 0)
+    → i < length (tablesAsked s id .durations) → m .0 ≡ before (tablesAsked s id .durations) i → a .0 < m .0 → m .0 < b .0
+    → bytesIn (tablesAsked s id) a b ≡ bytesIn (tablesAsked s id) a m + bytesIn (tablesAsked s id) m b
 unfolding bytesIn firstIn pastIn
-cut-fits s id a m b i pos h d o w = rw d (cut-at (tables s id .durations) (tables s id .sizes) (a .0) (b .0) i pos h (omega arith) (omega arith))
+cut-fits s id a m b i pos h d o w = rw d (cut-at (tablesAsked s id .durations) (tablesAsked s id .sizes) (a .0) (b .0) i pos h (omega arith) (omega arith))
 
 -- one pair for each chunk from that of the first sample to that of the last
-pairs-fit : (s : List ℕ) (id : ℕ) → Listed s id → (a b : MediaTime) → b .0 - 1 < sum (tables s id .durations)
+pairs-fit : (s : List ℕ) (id : ℕ) → Listed s id → (a b : MediaTime) → b .0 - 1 < sum (tablesAsked s id .durations)
     → length (stretchPairs s id a b)
-    ≡ suc (suc (holder (tables s id .perChunk) (holder (tables s id .durations) (b .0 - 1)))) - suc (holder (tables s id .perChunk) (holder (tables s id .durations) (a .0)))
+    ≡ suc (suc (holder (tablesAsked s id .perChunk) (holder (tablesAsked s id .durations) (b .0 - 1)))) - suc (holder (tablesAsked s id .perChunk) (holder (tablesAsked s id .durations) (a .0)))
 unfolding stretchPairs pairsIn firstIn pastIn
 pairs-fit s id l a b h =
-    let ds = tables s id .durations in
-    let ps = tables s id .perChunk in
+    let ds = tablesAsked s id .durations in
+    let ps = tablesAsked s id .perChunk in
     let i = holder ds (a .0) in
     let j = holder ds (b .0 - 1) in
     let z : suc j - 1 - 0 ≡ j = omega arith in
     let y : i - 0 ≡ i = omega arith in
     let low = places.holds-below ds (b .0 - 1) j (places.holder-holds ds (b .0 - 1) h) .1 in
     let k = places.holds-below ps j (holder ps j) (places.holder-holds ps j (omega (arith, low, l .timed, l .dealt))) .1 in
-    omega (arith, rw (z, y) at (touched-length i (suc j) 0 ps (tables s id .chunkOffsets) (tables s id .sizes) (omega arith) (omega arith)), k)
+    omega (arith, rw (z, y) at (touched-length i (suc j) 0 ps (tablesAsked s id .chunkOffsets) (tablesAsked s id .sizes) (omega arith) (omega arith)), k)
 
 -- the parts of all samples
-all-parts : (s : List ℕ) (source : Source) (id : ℕ) → askRefusal s source id ≡ 0 → Listed s id → (a b : ℕ) → a < b → b ≤ sum (tables s id .durations)
+all-parts : (s : List ℕ) (source : Source) (id : ℕ) → askRefusal s source id ≡ 0 → Listed s id → (a b : ℕ) → a < b → b ≤ sum (tablesAsked s id .durations)
     → added s source id (partIn a b) 1 (samplesOf (trackAsked s id)) ≡ b - a
 unfolding sampleOf
 all-parts s source id e l a b o w =
     let n = samplesOf (trackAsked s id) in
     let c : suc n - 1 ≡ n = omega arith in
     rw c
-    (parts-added (tables s id .durations) (λ j. partIn a b (sampleAnswer s source id (1 + j))) a b n (omega arith) w (l .timed)
+    (parts-added (tablesAsked s id .durations) (λ j. partIn a b (sampleAnswer s source id (1 + j))) a b n (omega arith) w (l .timed)
     (λ j h. ap (partIn a b) (found-is s source id e (1 + j) j (omega arith) h)))
 
 -- ---- the claim
@@ -175,40 +176,40 @@ module _ (s t : List ℕ) (source : Source) (e : askRefusal s source (idOf t) �
   chunked : chunksOf (trackAsked s (idOf t)) ≡ chunksOf t
   chunked = ap chunksOf itself
 
-  durations-are : tables s (idOf t) .durations ≡ perSample (tableOf stts t)
+  durations-are : tablesAsked s (idOf t) .durations ≡ perSample (tableOf stts t)
   unfolding trackOf
   durations-are = ap (λ u. perSample (tableOf stts u)) itself
 
-  sizes-are : tables s (idOf t) .sizes ≡ sizes (tableOf stsz t)
+  sizes-are : tablesAsked s (idOf t) .sizes ≡ sizes (tableOf stsz t)
   unfolding trackOf
   sizes-are = ap (λ u. sizes (tableOf stsz u)) itself
 
-  offsets-are : tables s (idOf t) .chunkOffsets ≡ chunkOffsets (offsetTable t)
+  offsets-are : tablesAsked s (idOf t) .chunkOffsets ≡ chunkOffsets (offsetTable t)
   unfolding trackOf
   offsets-are = ap (λ u. chunkOffsets (offsetTable u)) itself
 
-  dealt-are : tables s (idOf t) .perChunk ≡ perChunk (tableOf stsc t) (chunksOf t)
+  dealt-are : tablesAsked s (idOf t) .perChunk ≡ perChunk (tableOf stsc t) (chunksOf t)
   unfolding trackOf
   dealt-are = ap (λ u. perChunk (tableOf stsc u) (chunksOf u)) itself
 
   agree : dealsAgree (tableOf stsc t) (chunksOf t) (descriptionsOf t) ≡ true
   agree = agreed-tables t (rw itself at (asked s source (idOf t) e .track .agree)) .deals
 
-  total : sum (tables s (idOf t) .durations) ≡ mediaTotal t
+  total : sum (tablesAsked s (idOf t) .durations) ≡ mediaTotal t
   total = ap sum durations-are ∙ total-is t shape
 
   pub of-track : OfTrack s t source
   of-track =
       let id = idOf t in
       let l = listed s source id e in
-      let ds = tables s id .durations in
-      let zs = tables s id .sizes in
-      let ps = tables s id .perChunk in
-      let cs = tables s id .chunkOffsets in
+      let ds = tablesAsked s id .durations in
+      let zs = tablesAsked s id .sizes in
+      let ps = tablesAsked s id .perChunk in
+      let cs = tablesAsked s id .chunkOffsets in
       record {
         asked = e;
         itself = itself;
-        found = λ n lo hi. (sampleOf (tables s id) (n - 1), found-is s source id e n (n - 1) (omega arith) (omega (arith, many)));
+        found = λ n lo hi. (sampleOf (tablesAsked s id) (n - 1), found-is s source id e n (n - 1) (omega arith) (omega (arith, many)));
         none = none-is s source id e;
         past = λ n h. past-is s source id e n (omega (arith, many));
         counted = sym (count-is t shape) ∙ ap length (sym durations-are) ∙ l .timed ∙ many;
@@ -237,7 +238,7 @@ module _ (s t : List ℕ) (source : Source) (e : askRefusal s source (idOf t) �
             let g : atEntry s id time ≡ suc (c .0) = entry-is s id time ∙ ap (λ u. entryOf (runsOf (tableOf stts u)) i) itself ∙ c .3 in (
               suc i,
               c .0,
-              sampleOf (tables s id) i,
+              sampleOf (tablesAsked s id) i,
               at-is s source id e time (omega (arith, total)) ∙ ap (number.Number (suc i)) g,
               c .1,
               f,
@@ -266,18 +267,18 @@ module _ (s t : List ℕ) (source : Source) (e : askRefusal s source (idOf t) �
         gets = λ c n g.
             let o : n ≡ suc (n - 1) = omega (arith, g .after) in
             let f = found-is s source id e n (n - 1) o (omega (arith, g .after, g .upto, places.before-le ps c, l .dealt)) in
-            let u = found-known s source id e n (sampleOf (tables s id) (n - 1)) f in
-            (sampleOf (tables s id) (n - 1), f, chunk-is s id n (sampleOf (tables s id) (n - 1)) u ∙ sym (gets-only ps (u .index) c n (u .number) g));
+            let u = found-known s source id e n (sampleOf (tablesAsked s id) (n - 1)) f in
+            (sampleOf (tablesAsked s id) (n - 1), f, chunk-is s id n (sampleOf (tablesAsked s id) (n - 1)) u ∙ sym (gets-only ps (u .index) c n (u .number) g));
         first-in = λ c lo hi.
             let k = l .some (c - 1) (omega (arith, l .chunks, chunked)) in
             let i = before ps (c - 1) in
             let f = found-is s source id e (suc i) i refl (omega (arith, first-low ps (c - 1) k, l .dealt)) in
-            let u = found-known s source id e (suc i) (sampleOf (tables s id) i) f in
+            let u = found-known s source id e (suc i) (sampleOf (tablesAsked s id) i) f in
             let v : u .index ≡ i = omega (arith, u .number) in (
-              sampleOf (tables s id) i,
+              sampleOf (tablesAsked s id) i,
               f,
-              chunk-is s id (suc i) (sampleOf (tables s id) i) u ∙ rw v (omega (arith, first-chunk ps (c - 1) k)),
-              offset-is s id (suc i) (sampleOf (tables s id) i) u ∙ rw v (first-offset ps (c - 1) k cs zs) ∙ ap (λ (y : List ℕ). getD y (c - 1) 0) offsets-are ∙ offset-at t shape c lo hi,
+              chunk-is s id (suc i) (sampleOf (tablesAsked s id) i) u ∙ rw v (omega (arith, first-chunk ps (c - 1) k)),
+              offset-is s id (suc i) (sampleOf (tablesAsked s id) i) u ∙ rw v (first-offset ps (c - 1) k cs zs) ∙ ap (λ (y : List ℕ). getD y (c - 1) 0) offsets-are ∙ offset-at t shape c lo hi,
             );
         next-in = λ n x y p q same.
             let u = found-known s source id e n x p in
@@ -290,12 +291,12 @@ module _ (s t : List ℕ) (source : Source) (e : askRefusal s source (idOf t) �
               size-is s id n x u,
               offset-is s id (suc n) y v,
               ap (offsetOf ps cs zs) w,
-              next-offset ps cs zs (u .index) (omega (arith, u .low, l .dealt)) g,
+              next-offset ps cs zs (u .index) (omega (arith, u .low, l .dealt)) (sym g),
             );
         parts = λ a b o w. ap (added s source id (partIn a b) 1) (sym many) ∙ all-parts s source id e l a b o (omega (arith, total));
         answered = λ a b o w. (
           length (stretchPairs s id a b),
-          bytesIn (tables s id) a b,
+          bytesIn (tablesAsked s id) a b,
           λ room h. pairs-is s source id e a b room o (omega (arith, total)) (omega (arith, flat-length (stretchPairs s id a b))),
           λ room h. short-is s source id e a b room o (omega (arith, total)) (omega (arith, flat-length (stretchPairs s id a b))),
         );

@@ -2,18 +2,18 @@
 -- Assumes nothing.
 use Prim.Native.Nat.{ℕ, zero, suc, _+_, _-_, _*_, _≤_, _<_}
 use mathlib.Core.Path.{_≡_, refl, sym, ap, _∙_}
-use mathlib.Core.Bool.{Bool, true, false}
+use mathlib.Core.Bool.{Bool, true, false, cond}
 use mathlib.Core.List.{List, [], _∷_, map}
 use native.Mathlib.Omega.{arith}
 use native.Mathlib.Decide.{ℕ-discrete, decLt}
 use lib.Dec.{lit<, lit≤, eqb}
 use lib.ListN.{length, getD, drop, replicate, length-map, length-drop}
 use lib.Seq.{getD-drop}
-use borrow.Author.Tests.{eq-eqb, ne-eqb}
-use Rattle.atoms.specs.Atoms.{kindOf}
-use Rattle.bigendian.specs.BigEndian.{beAt, u32At}
-use Rattle.bigendian.proofs.Laws.{beAt-take, beAt-drop}
-use Rattle.atoms.specs.Kinds.{stts, stsc, stsz, co64}
+use borrow.Author.Tests.{eq-eqb, ne-eqb, eqb-true, eqb-false}
+use Rattle.atoms.specs.Atoms.{kindOf, atoms, ofKind}
+use Rattle.bigendian.specs.BigEndian.{beAt, u32At, u64At}
+use Rattle.bigendian.proofs.Laws.{beAt-take, beAt-drop, beAt-past}
+use Rattle.atoms.specs.Kinds.{stbl, stts, stsc, stsz, stco, co64}
 use Rattle.lists.specs.Lists.{Run, sum, before, expand, holder, Holds}
 use Rattle.lists.specs.Entries.{rowsOf, entries}
 use Rattle.lists.proofs.Laws.{length-run, sum-run, getD-in, getD-past}
@@ -26,7 +26,7 @@ use Rattle.words.proofs.Turns.{offsets-of, width-above, numbers-at, words-at, s
 use Rattle.chunks.specs.Chunks.{Deal, dealOf, deals, firstOf, dealt, perChunk}
 use Rattle.chunks.specs.Computed.{dealing, dealsAgree}
 use Rattle.chunks.proofs.Clauses.{dealing-cons, agreed}
-use Rattle.structure.specs.Track.{tableOf, offsetTable, samplesOf, chunksOf}
+use Rattle.structure.specs.Track.{stblOf, tableOf, offsetTable, samplesOf, chunksOf}
 use Rattle.shape.proofs.Shaped.{Entered, Shaped}
 use Rattle.theorems.specs.Entries.{sttsEntries, sampleCount, sampleDuration, stscEntries, firstChunk, samplesPerChunk, chunkOffset, sampleSize, countedBy, mediaTotal}
 use Rattle.theorems.specs.Demand.{Counts, HoldsFor}
@@ -188,10 +188,46 @@ size-at t h n i q l =
     replicate-at (suc n) v zero h = refl
     replicate-at (suc n) v (suc i) h = replicate-at n v i (omega arith)
 
+-- the first atom of a kind has that kind
+first-kind : (k : ℕ) (l : List (List ℕ)) → 0 < length (getD (ofKind k l) 0 []) → kindOf (getD (ofKind k l) 0 []) ≡ k
+unfolding ofKind
+first-kind k [] h = absurd (omega arith)
+first-kind k (a ∷ l) h = go (eqb (kindOf a) k) refl h (first-kind k l)
+  where
+    go : (b : Bool) → eqb (kindOf a) k ≡ b → 0 < length (getD (cond b (a ∷ ofKind k l) (ofKind k l)) 0 [])
+        → (0 < length (getD (ofKind k l) 0 []) → kindOf (getD (ofKind k l) 0 []) ≡ k)
+        → kindOf (getD (cond b (a ∷ ofKind k l) (ofKind k l)) 0 []) ≡ k
+    go true e g rest = eqb-true (kindOf a) k e
+    go false e g rest = rest g
+
+table-kind : (k : ℕ) (t : List ℕ) → 0 < length (tableOf k t) → kindOf (tableOf k t) ≡ k
+unfolding tableOf
+table-kind k t h = first-kind k (atoms stbl (stblOf t)) h
+
+-- the number of a chunk's offset in a table, by the table's own type
+typedOffset : List ℕ → ℕ → ℕ
+typedOffset o c = beAt (offsetWidth o) o (16 + offsetWidth o * (c - 1))
+
+-- stco has its own type, and so has co64
+offset-stated : (t : List ℕ) (c : ℕ) → 1 ≤ c → c ≤ chunksOf t → typedOffset (offsetTable t) c ≡ chunkOffset t c
+unfolding typedOffset offsetTable offsetWidth
+offset-stated t c lo hi = go (eqb (length (tableOf stco t)) 0) refl hi
+  where
+    go : (b : Bool) → eqb (length (tableOf stco t)) 0 ≡ b → c ≤ u32At (cond b (tableOf co64 t) (tableOf stco t)) 12
+        → typedOffset (cond b (tableOf co64 t) (tableOf stco t)) c
+        ≡ cond b (u64At (tableOf co64 t) (16 + 8 * (c - 1))) (u32At (tableOf stco t) (16 + 4 * (c - 1)))
+    go true e k = elim (decLt 0 (length (tableOf co64 t))) [
+      | yes l ↦ rw (table-kind co64 t l)
+      | no l ↦ absurd (omega (arith, beAt-past 4 (tableOf co64 t) 12 (omega arith)))
+    ]
+    go false e k = rw (table-kind stco t (omega (arith, eqb-false (length (tableOf stco t)) 0 e)))
+
 pub offset-at : (t : List ℕ) → Shaped t → (c : ℕ) → 1 ≤ c → c ≤ chunksOf t → getD (chunkOffsets (offsetTable t)) (c - 1) 0 ≡ chunkOffset t c
-unfolding offsetWidth
+unfolding offsetWidth typedOffset
 offset-at t h c lo hi =
-    ap (λ (x : List ℕ). getD x (c - 1) 0) (offsets-of (offsetTable t) refl refl) ∙ go (offsetTable t) (eqb (kindOf (offsetTable t)) co64) (h .offsets-size) hi
+    ap (λ (x : List ℕ). getD x (c - 1) 0) (offsets-of (offsetTable t) refl refl)
+    ∙ go (offsetTable t) (eqb (kindOf (offsetTable t)) co64) (h .offsets-size) hi
+    ∙ offset-stated t c lo hi
   where
     go : (o : List ℕ) (long : Bool) → Entered (widthOf long) o → c ≤ u32At o 12
         → getD (numbersIn (widthOf long) (drop 16 o)) (c - 1) 0 ≡ beAt (widthOf long) o (16 + widthOf long * (c - 1))

@@ -23,8 +23,8 @@ use Rattle.questions.specs.Asked.{askRefusal, trackAsked}
 use Rattle.questions.proofs.Asking.{asked, sizes-count}
 
 -- the lists of the track that is asked, one number for each sample or chunk
-abbrev pub tables : List ℕ → ℕ → Track
-tables s id = trackOf (trackAsked s id)
+abbrev pub tablesAsked : List ℕ → ℕ → Track
+tablesAsked s id = trackOf (trackAsked s id)
 
 -- as many chunk offsets as the table counts
 offsets-count : (t : List ℕ) → Shaped t → length (chunkOffsets (offsetTable t)) ≡ chunksOf t
@@ -36,14 +36,14 @@ offsets-count t h = ap length (offsets-of (offsetTable t) refl refl) ∙ go (off
 
 pub record Listed (s : List ℕ) (id : ℕ) : Type 0 where
   -- N samples
-  pub sized : length (tables s id .sizes) ≡ samplesOf (trackAsked s id)
-  pub timed : length (tables s id .durations) ≡ samplesOf (trackAsked s id)
-  pub dealt : sum (tables s id .perChunk) ≡ samplesOf (trackAsked s id)
+  pub sized : length (tablesAsked s id .sizes) ≡ samplesOf (trackAsked s id)
+  pub timed : length (tablesAsked s id .durations) ≡ samplesOf (trackAsked s id)
+  pub dealt : sum (tablesAsked s id .perChunk) ≡ samplesOf (trackAsked s id)
   -- C chunks
-  pub chunks : length (tables s id .perChunk) ≡ chunksOf (trackAsked s id)
-  pub placed : length (tables s id .chunkOffsets) ≡ chunksOf (trackAsked s id)
+  pub chunks : length (tablesAsked s id .perChunk) ≡ chunksOf (trackAsked s id)
+  pub placed : length (tablesAsked s id .chunkOffsets) ≡ chunksOf (trackAsked s id)
   -- each with a sample
-  pub some : (c : ℕ) → c < length (tables s id .perChunk) → 0 < getD (tables s id .perChunk) c 0
+  pub some : (c : ℕ) → c < length (tablesAsked s id .perChunk) → 0 < getD (tablesAsked s id .perChunk) c 0
 
 pub listed : (s : List ℕ) (source : Source) (id : ℕ) → askRefusal s source id ≡ 0 → Listed s id
 unfolding trackOf

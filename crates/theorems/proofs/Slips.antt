@@ -34,14 +34,14 @@ use Rattle.movie.specs.Rooms.{filledRoom, roomAfter}
 use Rattle.movie.proofs.Strict.{strict-less}
 use Rattle.questions.specs.Asked.{askRefusal, trackAsked}
 use Rattle.stretch.specs.Stretches.{firstIn, pastIn, pairsIn, bytesIn, stretchPairs}
-use Rattle.stretch.specs.Slips.{slipHead, slipOfStretch, slipRefusal, slipAnswer, Slips}
+use Rattle.slip_writing.specs.Slips.{slipHead, slipOfStretch, slipRefusal, slipAnswer, Slips}
 use Rattle.stretch.specs.declared.StretchAnswer.the-variants as stretch
-use Rattle.stretch.specs.declared.slips.SlipAnswer.the-variants as slip
+use Rattle.slip_writing.specs.declared.SlipAnswer.the-variants as slip
 use Rattle.questions.proofs.Asking.{asked}
 use Rattle.theorems.specs.Slips.{Bytes, headOf, ReadsBack, OnlyWriting, BothReaders}
 use Rattle.theorems.proofs.Bytes.{scale-small, asked-id, id-small}
 use Rattle.pairs.proofs.Touched.{touched-few, some-touched, touched-fits, fits-below}
-use Rattle.theorems.proofs.Lists.{tables, listed}
+use Rattle.theorems.proofs.Lists.{tablesAsked, listed}
 use Rattle.pairs.proofs.Filling.{flat-length}
 use Rattle.theorems.proofs.Answers.{Span, pairs-is, span-known, pairs-known}
 use Rattle.theorems.proofs.Entries.{total-is}
@@ -70,22 +70,22 @@ not-zero n h = omega arith
 
 -- the samples of a stretch, by index
 span-samples : (s : List ℕ) (source : Source) (id : ℕ) (a b : MediaTime) → Span s source id a b
-    → (firstIn (tables s id) a < pastIn (tables s id) b) × (pastIn (tables s id) b ≤ samplesOf (trackAsked s id))
+    → (firstIn (tablesAsked s id) a < pastIn (tablesAsked s id) b) × (pastIn (tablesAsked s id) b ≤ samplesOf (trackAsked s id))
 unfolding firstIn pastIn
 span-samples s source id a b p =
-    let ds = tables s id .durations in
+    let ds = tablesAsked s id .durations in
     let h = holder-holds ds (b .0 - 1) (omega (arith, p .order, p .within)) in (
       omega (arith, holder-mono ds (a .0) (b .0 - 1) (omega (arith, p .order))),
       omega (arith, holds-below ds (b .0 - 1) (holder ds (b .0 - 1)) h .1, listed s source id (p .ask) .timed),
     )
 
 -- each chunk ends within the file
-chunks-end : (s : List ℕ) (source : Source) (id : ℕ) → askRefusal s source id ≡ 0 → endWithin (lengthOf source s) (tables s id .perChunk) (tables s id .chunkOffsets) (tables s id .sizes) ≡ true
+chunks-end : (s : List ℕ) (source : Source) (id : ℕ) → askRefusal s source id ≡ 0 → endWithin (lengthOf source s) (tablesAsked s id .perChunk) (tablesAsked s id .chunkOffsets) (tablesAsked s id .sizes) ≡ true
 unfolding trackOf chunkPastEnd
 chunks-end s source id e = not-false _ (asked s source id e .track .within)
 
 -- and each time of the stretch is a number of 32 bits
-total-small : (s : List ℕ) (source : Source) (id : ℕ) → askRefusal s source id ≡ 0 → sum (tables s id .durations) < 2 ^ 32
+total-small : (s : List ℕ) (source : Source) (id : ℕ) → askRefusal s source id ≡ 0 → sum (tablesAsked s id .durations) < 2 ^ 32
 unfolding trackOf totalIn
 total-small s source id e = omega (arith, asked s source id e .track .total-fits)
 
@@ -105,11 +105,11 @@ unfolding slipHead stretchPairs pairsIn trackOf
 slip-rules s source id a b bytes p any ok =
     let k = asked s source id (p .ask) in
     let l = listed s source id (p .ask) in
-    let ps = tables s id .perChunk in
-    let cs = tables s id .chunkOffsets in
-    let zs = tables s id .sizes in
-    let i = firstIn (tables s id) a in
-    let j = pastIn (tables s id) b in
+    let ps = tablesAsked s id .perChunk in
+    let cs = tablesAsked s id .chunkOffsets in
+    let zs = tablesAsked s id .sizes in
+    let i = firstIn (tablesAsked s id) a in
+    let j = pastIn (tablesAsked s id) b in
     let o = span-samples s source id a b p in
     let n = asked-id s id (k .has) in
     let y = total-small s source id (p .ask) in
@@ -150,7 +150,7 @@ written-reads-back s source id a b = record {
   answered = λ out after n slips.
       let p = wrote s source id a b out after n slips .span in (
         length (stretchPairs s id a b),
-        bytesIn (tables s id) a b,
+        bytesIn (tablesAsked s id) a b,
         λ room h. pairs-is s source id (asked-less s source id (p .ask)) a b room (p .order) (p .within) (omega (arith, flat-length (stretchPairs s id a b))),
       );
   same = λ bytes any ok out after n slips room put k total stretches places enough r read reads.
@@ -185,6 +185,8 @@ writing h any bs room after p =
 
 pub only-writing : (h : Head) → OnlyWriting h
 only-writing h = record {
+  has = λ any pairs rules room enough r after reads.
+      reads-back any (slipBytes h pairs) room r after reads h pairs (record { bytes = refl; rules = rules }) enough;
   written = writing h;
   same = λ one other bs cs room₁ room₂ after₁ after₂ p q e. writing h one bs room₁ after₁ p ∙ ap (slipBytes h) e ∙ sym (writing h other cs room₂ after₂ q);
 }

@@ -40,7 +40,7 @@ pub record HoldsFor (t : List ℕ) (k c : ℕ) : Type 0 where
   pub from : firstChunk t k ≤ c
   pub to : suc k < stscEntries t → c < firstChunk t (suc k)
 
--- "as many as its stsc entry says": ps has one number for each chunk of stco, that of the stsc entry which holds for it, and together they are N
+-- "as many as its stsc entry says": ps has one number for each chunk, that of the stsc entry which holds for it, and together they are N
 pub record Deals (t ps : List ℕ) : Type 0 where
   pub chunks : length ps ≡ chunksOf t
   pub each : (c : ℕ) → 1 ≤ c → c ≤ chunksOf t → (k : ℕ) × HoldsFor t k c × (getD ps (c - 1) 0 ≡ samplesPerChunk t k)
@@ -60,9 +60,9 @@ partIn a b (Found x) = part a b (x .decode) (x .duration)
 partIn a b (Refused r) = 0
 
 -- its bytes
-abbrev pub sizeIn : SampleAnswer → ℕ
-sizeIn (Found x) = x .size
-sizeIn (Refused r) = 0
+abbrev pub sizeAnswered : SampleAnswer → ℕ
+sizeAnswered (Found x) = x .size
+sizeAnswered (Refused r) = 0
 
 -- how many numbers there are from first to last, "all numbers between included"
 abbrev pub howMany : ℕ → ℕ → ℕ
@@ -137,7 +137,7 @@ pub record OfTrack (s t : List ℕ) (w : Source) : Type 0 where
   -- "The bytes of a stretch are its answered total: the sizes of all samples included, added", those "from the one at a to the one at b-1"
   pub bytes : (a b z : MediaTime) (room : List ℕ) (k total first last i j : ℕ) → stretchAnswer s w (idOf t) a b room ≡ stretch.Pairs k total
       → z .0 ≡ b .0 - 1 → atAnswer s w (idOf t) a ≡ number.Number first i → atAnswer s w (idOf t) z ≡ number.Number last j
-      → total ≡ added s w (idOf t) sizeIn first last
+      → total ≡ added s w (idOf t) sizeAnswered first last
   -- "a stretch cut at a sample's start gives bytes that add up": the cut m is the start of a sample, strictly inside, and each of the three has
   -- room. A sample of zero duration that stands at m would be in the whole and in neither part, so that there may be none there
   pub cut : (a m b : MediaTime) → NoZeroDuration s w (idOf t) (m .0) → (n : ℕ) (x : Sample)

@@ -3,12 +3,12 @@
 use Prim.Native.Nat.{ℕ, _+_, _-_, _*_}
 use mathlib.Core.List.{List, map}
 use mathlib.Core.Bool.{cond}
+use lib.ListN.{length}
 use lib.Dec.{eqb}
-use Rattle.bigendian.specs.BigEndian.{beAt, u32At}
-use Rattle.atoms.specs.Kinds.{stts, stsc, stsz}
+use Rattle.bigendian.specs.BigEndian.{u32At, u64At}
+use Rattle.atoms.specs.Kinds.{stts, stsc, stsz, stco, co64}
 use Rattle.lists.specs.Lists.{sum, upTo}
-use Rattle.words.specs.Words.{offsetWidth}
-use Rattle.structure.specs.Track.{tableOf, offsetTable}
+use Rattle.structure.specs.Track.{tableOf}
 
 -- stts: "n at 12; sample count, duration"
 abbrev pub sttsEntries : List ℕ → ℕ
@@ -30,9 +30,11 @@ firstChunk t k = u32At (tableOf stsc t) (16 + 12 * k)
 abbrev pub samplesPerChunk : List ℕ → ℕ → ℕ
 samplesPerChunk t k = u32At (tableOf stsc t) (20 + 12 * k)
 
--- stco, or co64 in its place: the offset of the chunk with the number c, in 4 bytes or in 8; it has C entries (`chunksOf`, "n at 12")
+-- the offset of the chunk with the number c: in stco ("16+4n"), or where there is none "from 'co64' (16+8n) in place of stco"
 abbrev pub chunkOffset : List ℕ → ℕ → ℕ
-chunkOffset t c = beAt (offsetWidth (offsetTable t)) (offsetTable t) (16 + offsetWidth (offsetTable t) * (c - 1))
+chunkOffset t c =
+    cond (eqb (length (tableOf stco t)) 0) (u64At (tableOf co64 t) (16 + 8 * (c - 1)))
+    (u32At (tableOf stco t) (16 + 4 * (c - 1)))
 
 -- stsz: "common size 12, n at 16; sizes only if the common size is 0": the size of the sample with the number n; there are N (`samplesOf`)
 abbrev pub sampleSize : List ℕ → ℕ → ℕ

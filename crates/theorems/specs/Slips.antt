@@ -3,12 +3,12 @@
 use Prim.Native.Nat.{ℕ, _*_, _≤_, _<_}
 use mathlib.Core.Path.{_≡_}
 use mathlib.Core.Bool.{Bool, true, false}
-use mathlib.Core.List.{List, []}
+use mathlib.Core.List.{List, [], _++_}
 use lib.ListN.{length, getD, take, drop}
 use Rattle.edits.specs.declared.MediaTime.{MediaTime}
-use Rattle.slip_head.specs.Bytes.{slipBytes}
+use Rattle.slip_head.specs.Bytes.{slipBytes, Rules}
 use Rattle.slip_head.specs.declared.Head.{Head}
-use Rattle.slip.specs.Slip.{Reads}
+use Rattle.slip.specs.Slip.{boundOf, Reads}
 use Rattle.slip.specs.declared.SlipRead.{SlipRead}
 use Rattle.slip.specs.declared.SlipRead.the-variants.{Accepted, Malformed}
 use Rattle.structure.specs.declared.source.Source.{Source}
@@ -16,9 +16,9 @@ use Rattle.structure.specs.Track.{scaleOf, durationOf}
 use Rattle.structure.specs.Movie.{moovOf, tracksOf}
 use Rattle.questions.specs.Asked.{trackAsked}
 use Rattle.stretch.specs.Stretches.{stretchAnswer, Stretches}
-use Rattle.stretch.specs.Slips.{Slips}
+use Rattle.slip_writing.specs.Slips.{Slips}
 use Rattle.stretch.specs.declared.StretchAnswer.the-variants as stretch
-use Rattle.stretch.specs.declared.slips.SlipAnswer.the-variants as slip
+use Rattle.slip_writing.specs.declared.SlipAnswer.the-variants as slip
 use Rattle.theorems.specs.Entries.{mediaTotal}
 
 -- each number of a list is a byte, as the type of a file says
@@ -48,6 +48,11 @@ pub record ReadsBack (s : List ℕ) (w : Source) (id : ℕ) (a b : MediaTime) : 
 
 -- "every set of numbers still has a single slip", whichever reader reads it
 pub record OnlyWriting (h : Head) : Type 0 where
+  -- numbers that keep the rules have one: their writing, read with room for the pairs, is accepted as exactly them, and the rest of the room is as it
+  -- was. The numbers are below 2^64, for the reader of form 1 below 2^32
+  pub has : (any : Bool) (pairs : List ℕ) → Rules (boundOf any) h pairs
+      → (room : List ℕ) → length pairs ≤ length room → (r : SlipRead) (after : List ℕ) → Reads any (slipBytes h pairs) room r after
+      → (r ≡ Accepted h) × (after ≡ pairs ++ drop (length pairs) room)
   -- bytes that are read and accepted are the writing of their numbers, which stand in the answer and in the room
   pub written : (any : Bool) (bs room after : List ℕ) → Reads any bs room (Accepted h) after → bs ≡ slipBytes h (take (2 * h .pairs) after)
   -- two strings of bytes, each read and accepted with the same numbers before the pairs and the same pairs in its room, are the same bytes

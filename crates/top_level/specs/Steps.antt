@@ -43,7 +43,7 @@ past z k w =
 unfoldable pub ended : Walk → Next
 ended w = cond (eqb (w .moovs) 1) (Found (w .at) (w .size)) (Refused 3)
 
--- with the bytes h at the walk's place. 1, of document 02: "a length above 2^63 - 1"; 2: "an atom's size is wrong, passes its parent's end, or 1 to 7 bytes
+-- with the bytes h at the walk's place. 1, of document 02: "a length above 2^63-1"; 2: "an atom's size is wrong, passes its parent's end, or 1 to 7 bytes
 -- (under 16 for a 64-bit size) remain"
 unfoldable pub stepped : List ℕ → Walk → Next
 stepped h w =

@@ -20,6 +20,8 @@ use Rattle.questions.specs.Samples.{sampleRefusal}
 use Rattle.time_questions.specs.Times.{atRefusal, atNumber, atEntry, mappedOf}
 use Rattle.profiles.specs.Profiles.{profileAsked, profileNumbers, profileRefusal}
 use Rattle.movie_times.specs.Entries.{editsAsked, editsRefusal}
+use Rattle.stretch.specs.Stretches.{stretchPairs, spanRefusal, stretchRefusal}
+use Rattle.slip_writing.specs.Slips.{slipHead, slipOfStretch, slipRefusal}
 use Rattle.ways.specs.Ways.{moovAtom, BothWays}
 use Rattle.ways.specs.Agree.{SameAnswers, WaysAgree}
 use Rattle.ways.proofs.Shapes.{moov-same, shape-same}
@@ -43,11 +45,11 @@ module _ (w v : Source) (e : v .strict ≡ w .strict) where
 -- ---- the answers, from the film's refusal and its moov
 
 module _ (s m : List ℕ) (w v : Source) (e : filmRefusal m v ≡ filmRefusal s w) (d : moovOf m ≡ moovOf s) where
-  pub ask-same : (id : ℕ) → askRefusal m v id ≡ askRefusal s w id
+  ask-same : (id : ℕ) → askRefusal m v id ≡ askRefusal s w id
   unfolding askRefusal
   ask-same id = rw (e, d)
 
-  pub track-same : (id : ℕ) → trackAsked m id ≡ trackAsked s id
+  track-same : (id : ℕ) → trackAsked m id ≡ trackAsked s id
   unfolding trackAsked
   track-same id = rw d
 
@@ -55,19 +57,36 @@ module _ (s m : List ℕ) (w v : Source) (e : filmRefusal m v ≡ filmRefusal s 
   unfolding editsAsked
   edits-same id = ap (λ t. trackOf t .edits) (track-same id)
 
+-- of a slip also from the refusal of the film that is read strictly
+module _ (s m : List ℕ) (w v : Source) (e : filmRefusal m v ≡ filmRefusal s w) (f : filmRefusal m (strictly v) ≡ filmRefusal s (strictly w)) (d : moovOf m ≡ moovOf s) where
+  ask : (id : ℕ) → askRefusal m v id ≡ askRefusal s w id
+  ask = ask-same s m w v e d
+
+  track : (id : ℕ) → trackAsked m id ≡ trackAsked s id
+  track = track-same s m w v e d
+
+  edits : (id : ℕ) → editsAsked m id ≡ editsAsked s id
+  edits = edits-same s m w v e d
+
+  strict : (id : ℕ) → askRefusal m (strictly v) id ≡ askRefusal s (strictly w) id
+  strict = ask-same s m (strictly w) (strictly v) f d
+
   same-answers : SameAnswers s w m v
   unfolding trackLines listRefusal sampleRefusal atRefusal atNumber atEntry mappedOf profileAsked profileNumbers profileRefusal editsRefusal
+      stretchPairs spanRefusal stretchRefusal slipHead slipOfStretch slipRefusal
   same-answers = record {
     refusal = e;
     tracks = λ room. (rw (e, d), rw (e, d));
-    sample = λ id n. rw (ask-same id, track-same id);
-    sample-at = λ id t. rw (ask-same id, track-same id);
-    media-time = λ id t. rw (ask-same id, track-same id, d);
-    feature = λ id code. rw (ask-same id, track-same id, d);
-    peak = λ id code. rw (ask-same id, track-same id);
+    sample = λ id n. rw (ask id, track id);
+    sample-at = λ id t. rw (ask id, track id);
+    media-time = λ id t. rw (ask id, track id, d);
+    feature = λ id code. rw (ask id, track id, d);
+    peak = λ id code. rw (ask id, track id);
     movie = rw (e, d);
-    edits = λ id room. (rw (ask-same id, edits-same id), rw (ask-same id, edits-same id));
-    profile = λ id room. (rw (e, ask-same id, track-same id, d), rw (e, ask-same id, track-same id, d));
+    edits = λ id room. (rw (ask id, edits id), rw (ask id, edits id));
+    profile = λ id room. (rw (e, ask id, track id, d), rw (e, ask id, track id, d));
+    stretch = λ id x y room. (rw (ask id, track id), rw (ask id, track id));
+    slip = λ id x y out. (rw (strict id, track id), rw (strict id, track id));
   }
 
 -- ---- a file and its moov
@@ -86,11 +105,13 @@ module _ (s : List ℕ) (b : BothWays s) (w v : Source) (wa : w .alone ≡ false
       film-is (moovAtom s) v
       ∙ rw (shape-same s b w v wa va vl, length-second, moov-same s b, tables-same w v e (length s) (moovOf s)) (sym (film-is s w ∙ rw length-first))
 
-  agree : SameAnswers s w (moovAtom s) v
-  agree = same-answers s (moovAtom s) w v film-same (moov-same s b)
+strict-same : (s : List ℕ) → BothWays s → filmRefusal (moovAtom s) (strictly (moovAlone (length s))) ≡ filmRefusal s (strictly wholeFile)
+strict-same s b = film-same s b (strictly wholeFile) (strictly (moovAlone (length s))) refl refl refl refl
 
-pub ways-agree : (s : List ℕ) → BothWays s → WaysAgree s
-ways-agree s b = record {
-  default = agree s b wholeFile (moovAlone (length s)) refl refl refl refl;
-  strict = agree s b (strictly wholeFile) (strictly (moovAlone (length s))) refl refl refl refl;
+pub ways-agree : (s : List ℕ) → WaysAgree s
+ways-agree s = record {
+  default = λ b.
+      same-answers s (moovAtom s) wholeFile (moovAlone (length s)) (film-same s b wholeFile (moovAlone (length s)) refl refl refl refl) (strict-same s b) (moov-same s b);
+  strict = λ b.
+      same-answers s (moovAtom s) (strictly wholeFile) (strictly (moovAlone (length s))) (strict-same s b) (strict-same s b) (moov-same s b);
 }

@@ -3,4 +3,3 @@ mod Trees
 mod Shapes
 pub mod Agree
 pub mod Walked
-pub mod Stretches

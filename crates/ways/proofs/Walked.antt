@@ -20,8 +20,8 @@ use Rattle.movie.specs.Refusals.{filmRefusal}
 use Rattle.top_level.specs.declared.Next.the-variants.{Found, Refused}
 use Rattle.top_level.specs.TopLevel.{walked, OneMoov}
 use Rattle.top_level.proofs.Walking.{only-two, only-three, only-found, finds}
-use Rattle.ways.specs.Ways.{noLongOffsets}
-use Rattle.ways.specs.Walked.{AsWhole, TakenAlone, AnsweredAlone}
+use Rattle.ways.specs.Ways.{BothWays}
+use Rattle.ways.specs.Walked.{AsWhole, TakenAlone, FoundNarrow, AnsweredAlone}
 use Rattle.ways.proofs.Agree.{ways-agree}
 
 -- the three rows of a file that is lent whole and is not too long
@@ -56,25 +56,23 @@ module _ (s : List ℕ) (w : Source) (a : w .alone ≡ false) (l : length s ≤ 
   unfolding filmRefusal
   three-too e = rw (rows-are s w a l, not-present s (only-three s e .1)) (either (everywhere filled 6 file s) _)
 
-  pub as-whole : AsWhole s w
-  as-whole = record { two = two-too; three = three-too }
+pub as-whole : (s : List ℕ) (w : Source) → AsWhole s w
+as-whole s w = record { two = two-too s w; three = three-too s w }
 
-pub taken-alone : (s : List ℕ) (at size : ℕ) → walked s ≡ Found at size → TakenAlone s at size
+pub taken-alone : (s : List ℕ) (at size : ℕ) → TakenAlone s at size
 unfolding oneMoov moovOf
-taken-alone s at size e =
-    let f = finds s in
-    let t = f .moov-there at size e in
-    let o = f .alone at size e in
-    record {
-      atom = t;
-      one = rw (eq-eqb _ _ (o .size), eq-eqb _ _ (o .kind));
-      movie = rw (o .itself, t);
-    }
+taken-alone s at size = record {
+  atom = finds s .moov-there at size;
+  one = λ e. let o = finds s .alone at size e in rw (eq-eqb _ _ (o .size), eq-eqb _ _ (o .kind));
+  movie = λ e. rw (finds s .alone at size e .itself, finds s .moov-there at size e);
+}
 
-pub answered-alone : (s : List ℕ) (at size : ℕ) → walked s ≡ Found at size → length s ≤ 2147483647 → everywhere noLongOffsets 5 moov (moovOf s) ≡ true
-    → AnsweredAlone s at size
-answered-alone s at size e l n =
-    let o = only-found s at size e in
-    let w = ways-agree s (record { short = l; top = o .0; one = o .1; narrow = n }) in
-    let t = finds s .moov-there at size e in
-    record { default = rw t (w .default); strict = rw t (w .strict) }
+-- such a file can be asked both ways
+both-ways : (s : List ℕ) (at size : ℕ) → FoundNarrow s at size → BothWays s
+both-ways s at size f = let o = only-found s at size (f .found) in record { short = f .short; top = o .0; one = o .1; narrow = f .narrow }
+
+pub answered-alone : (s : List ℕ) (at size : ℕ) → AnsweredAlone s at size
+answered-alone s at size = record {
+  default = λ f. rw (finds s .moov-there at size (f .found)) (ways-agree s .default (both-ways s at size f));
+  strict = λ f. rw (finds s .moov-there at size (f .found)) (ways-agree s .strict (both-ways s at size f));
+}

@@ -1,5 +1,5 @@
--- What it is that the two ways in agree: the film is refused with the same number, and every question gets the same answer and leaves the same in
--- lent room. Sample bytes "aren't offered" by the second way.
+-- How the two ways in agree: the film is refused with the same number, and every question gets the same answer and leaves the same in lent room.
+-- Sample bytes "aren't offered" by the second way.
 use Prim.Native.Nat.{ℕ}
 use mathlib.Core.Path.{_≡_}
 use mathlib.Core.List.{List}
@@ -18,6 +18,9 @@ use Rattle.feature_questions.specs.Feature.{featureAnswer, peakAnswer}
 use Rattle.profiles.specs.Profiles.{profileNumbers, profileRefusal, profileAnswer}
 use Rattle.movie_times.specs.Header.{movieAnswer}
 use Rattle.movie_times.specs.Entries.{editNumbers, editsAsked, editsRefusal, editsAnswer}
+use Rattle.pairs.specs.Pairs.{flat}
+use Rattle.stretch.specs.Stretches.{stretchPairs, stretchRefusal, stretchAnswer}
+use Rattle.slip_writing.specs.Slips.{slipOfStretch, slipRefusal, slipAnswer}
 use Rattle.ways.specs.Ways.{moovAtom, BothWays}
 
 -- the film of the bytes s and the source w, and that of the bytes m and the source v
@@ -35,8 +38,15 @@ pub record SameAnswers (s : List ℕ) (w : Source) (m : List ℕ) (v : Source) :
       × (roomAfter (editsRefusal m v id room) (editNumbers (editsAsked m id)) room ≡ roomAfter (editsRefusal s w id room) (editNumbers (editsAsked s id)) room)
   pub profile : (id : ℕ) (room : List ℕ) → (profileAnswer m v id room ≡ profileAnswer s w id room)
       × (roomAfter (profileRefusal m v id room) (profileNumbers m id) room ≡ roomAfter (profileRefusal s w id room) (profileNumbers s id) room)
+  pub stretch : (id : ℕ) (a b : MediaTime) (room : List ℕ) → (stretchAnswer m v id a b room ≡ stretchAnswer s w id a b room)
+      × (roomAfter (stretchRefusal m v id a b room) (flat (stretchPairs m id a b)) room
+      ≡ roomAfter (stretchRefusal s w id a b room) (flat (stretchPairs s id a b)) room)
+  -- the slip writer "asks the strict way", however the film is read
+  pub slip : (id : ℕ) (a b : MediaTime) (out : List ℕ) → (slipAnswer m v id a b out ≡ slipAnswer s w id a b out)
+      × (roomAfter (slipRefusal m v id a b out) (slipOfStretch m id a b) out
+      ≡ roomAfter (slipRefusal s w id a b out) (slipOfStretch s id a b) out)
 
--- a file that both ways can be asked of, by its moov alone with its length, by default and strictly; refused films too
+-- a file that both ways can be asked of gets the same by its moov alone, with its length, by default and strictly; refused films too
 pub record WaysAgree (s : List ℕ) : Type 0 where
-  pub default : SameAnswers s wholeFile (moovAtom s) (moovAlone (length s))
-  pub strict : SameAnswers s (strictly wholeFile) (moovAtom s) (strictly (moovAlone (length s)))
+  pub default : BothWays s → SameAnswers s wholeFile (moovAtom s) (moovAlone (length s))
+  pub strict : BothWays s → SameAnswers s (strictly wholeFile) (moovAtom s) (strictly (moovAlone (length s)))

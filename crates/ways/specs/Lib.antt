@@ -1,4 +1,3 @@
 pub mod Ways
 pub mod Agree
 pub mod Walked
-pub mod Stretches

@@ -1,5 +1,6 @@
 //! The answers of a movie. Those that may get more fields in later versions cannot be written out field by field
 //! elsewhere; they have a default or a constructor instead.
+use crate::ffi::{promised, SAMPLE_NUMBERS};
 use crate::units::{ByteRange, FourCC, MediaTime, MovieTime, TrackId};
 use std::ops::{Range, RangeInclusive};
 
@@ -66,6 +67,21 @@ pub struct Sample {
 }
 
 impl Sample {
+    /// The sample of the numbers that the library answers.
+    pub(crate) fn of(numbers: [i64; SAMPLE_NUMBERS]) -> Sample {
+        let [decode, duration, composition, sync, description, chunk, offset, size] = numbers;
+        Sample {
+            decode: MediaTime(promised(decode)),
+            duration: promised(duration),
+            composition,
+            sync: sync == 1,
+            description: promised(description),
+            chunk: promised(chunk),
+            offset: promised(offset),
+            size: promised(size),
+        }
+    }
+
     /// Where its bytes are in the file.
     #[must_use]
     pub fn range(&self) -> ByteRange {

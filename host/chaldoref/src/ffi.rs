@@ -220,6 +220,31 @@ pub fn edits(film: Film, id: u32, room: &mut [Edit]) -> Result<[u64; 1], Refusal
     })
 }
 
+/// As many numbers has a position in a track, and a sample in the room that steps fill.
+pub const STEPPER_NUMBERS: usize = 29;
+pub const SAMPLE_NUMBERS: usize = 8;
+
+/// The position before sample `n` of a track.
+pub fn step_start(film: Film, id: u32, n: u32) -> Result<[u64; STEPPER_NUMBERS], Refusal> {
+    ask(|stepper, len| of_film!(film, chaldoref_step_start, chaldoref_moov_step_start, id, n, stepper, len))
+}
+
+/// The next samples, as many as the room takes; answers how many, and moves the position past them. It is the same of both
+/// ways in: a position says where the tables are in what was lent.
+pub fn steps(
+    lent: &[u8],
+    stepper: &mut [u64; STEPPER_NUMBERS],
+    room: &mut [[i64; SAMPLE_NUMBERS]],
+) -> Result<[u64; 1], Refusal> {
+    let room = room.as_flattened_mut();
+    let (room, room_len) = (room.as_mut_ptr(), room.len());
+    let (stepper, stepper_len) = (stepper.as_mut_ptr(), stepper.len());
+    // SAFETY: slices' own pointers and lengths, as the module says.
+    ask(|places, len| unsafe {
+        raw::chaldoref_steps(lent.as_ptr(), lent.len(), stepper, stepper_len, room, room_len, places, len)
+    })
+}
+
 /// A step over the atoms at top level. The places are those of the step before, or the file's length and zeros.
 pub fn top_level(header: &[u8], mut places: [u64; 6]) -> Result<[u64; 6], Refusal> {
     // SAFETY: slices' own pointers and lengths, as the module says.

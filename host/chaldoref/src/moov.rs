@@ -45,8 +45,8 @@ impl Moov {
     /// # Errors
     ///
     /// [`ReadError::Refused`] where the film's top level is refused: [`Refusal::AtomSize`], [`Refusal::AtomCount`]
-    /// where there is no moov or more than one, [`Refusal::FileTooLong`] where the file, or the moov, is longer than may
-    /// be; [`ReadError::Io`] where it cannot be read, or there is no memory for the moov.
+    /// where there is no moov or more than one, [`Refusal::FileTooLong`] where the file is longer than [`MAX_LENGTH`](crate::MAX_LENGTH);
+    /// [`ReadError::MoovTooLong`] where the moov is longer than may be lent; [`ReadError::Io`] where it cannot be read, or there is no memory for the moov.
     pub fn read(film: impl Read + Seek) -> Result<Moov, ReadError> {
         Moov::read_seeing(film, |_, _| ())
     }
@@ -99,7 +99,7 @@ impl<R: Read + Seek> Window<R> {
     /// The moov, of which no more is read than may be lent.
     fn moov(mut self, place: u64, size: u64, length: u64) -> Result<Moov, ReadError> {
         if size > MAX_FILE_BYTES {
-            return Err(Refusal::FileTooLong.into());
+            return Err(ReadError::MoovTooLong { place, size });
         }
         let mut bytes = room(promised(size)).map_err(io::Error::from)?;
         self.film.seek(SeekFrom::Start(place))?;
@@ -136,8 +136,27 @@ impl<'a> From<&'a Moov> for Film<'a> {
 pub enum ReadError {
     /// The film's top level is refused.
     Refused(Refusal),
+    /// The moov is longer than [`MAX_FILE_BYTES`](crate::MAX_FILE_BYTES), and would be refused 1 if it were lent.
+    MoovTooLong {
+        /// The place of its first byte in the file.
+        place: u64,
+        /// Its size in bytes.
+        size: u64,
+    },
     /// It could not be read.
     Io(io::Error),
+}
+
+impl ReadError {
+    /// The refusal, if it is one.
+    #[must_use]
+    pub fn refusal(&self) -> Option<Refusal> {
+        match self {
+            ReadError::Refused(refusal) => Some(*refusal),
+            ReadError::MoovTooLong { .. } => Some(Refusal::FileTooLong),
+            ReadError::Io(_) => None,
+        }
+    }
 }
 
 impl From<Refusal> for ReadError {
@@ -155,7 +174,11 @@ impl From<io::Error> for ReadError {
 impl fmt::Display for ReadError {
     fn fmt(&self, f: &mut fmt::Formatter<'_>) -> fmt::Result {
         match self {
+            ReadError::Refused(Refusal::FileTooLong) => f.pad("the file is longer than 2^63 - 1 bytes"),
             ReadError::Refused(refusal) => refusal.fmt(f),
+            ReadError::MoovTooLong { place, size } => {
+                write!(f, "the moov at byte {place} has {size} bytes, and may have {MAX_FILE_BYTES}")
+            }
             ReadError::Io(error) => error.fmt(f),
         }
     }
@@ -165,6 +188,7 @@ impl Error for ReadError {
     fn source(&self) -> Option<&(dyn Error + 'static)> {
         match self {
             ReadError::Refused(refusal) => Some(refusal),
+            ReadError::MoovTooLong { .. } => None,
             ReadError::Io(error) => Some(error),
         }
     }

@@ -4,6 +4,7 @@ use crate::ffi::{self, broken, promised};
 use crate::film::Film;
 use crate::refusal::Refusal;
 use crate::room::room;
+use crate::samples::Samples;
 use crate::units::{ByteRange, FourCC, MediaTime, MovieTime, TrackId};
 use std::fmt;
 use std::ops::{Range, RangeInclusive};
@@ -131,17 +132,56 @@ impl<'a> Movie<'a> {
     ///
     /// [`Refusal::NoTrack`]; [`Refusal::Outside`] where the track has no sample `n`.
     pub fn sample(&self, id: TrackId, n: u32) -> Result<Sample, Refusal> {
-        let [decode, duration, composition, sync, description, chunk, offset, size] = ffi::sample(self.film, id.0, n)?;
-        Ok(Sample {
-            decode: MediaTime(promised(decode)),
-            duration: promised(duration),
-            composition,
-            sync: sync == 1,
-            description: promised(description),
-            chunk: promised(chunk),
-            offset: promised(offset),
-            size: promised(size),
-        })
+        ffi::sample(self.film, id.0, n).map(Sample::of)
+    }
+
+    /// The samples of a track, in order: what [`Movie::sample`] answers of each, in one judging of the film for all of them.
+    /// There are none where the track has none.
+    ///
+    /// ```
+    /// use chaldoref::{Movie, TrackId};
+    ///
+    /// # std::env::set_current_dir("../..")?;
+    /// let file = std::fs::read("films/w.mov")?;
+    /// let movie = Movie::open(&file)?;
+    /// let sizes: Vec<u32> = movie.samples(TrackId(1))?.map(|sample| sample.size).collect();
+    /// assert_eq!(sizes, [100, 50, 0, 70]);
+    /// # Ok::<(), Box<dyn std::error::Error>>(())
+    /// ```
+    ///
+    /// # Errors
+    ///
+    /// [`Refusal::NoTrack`].
+    pub fn samples(&self, id: TrackId) -> Result<Samples<'a>, Refusal> {
+        match self.track(id) {
+            Some(Track { samples: 0, .. }) => Ok(Samples::none()),
+            _ => self.samples_from(id, 1),
+        }
+    }
+
+    /// The samples of a track from sample `n` on, numbered from 1.
+    ///
+    /// ```
+    /// use chaldoref::{Movie, Refusal, TrackId};
+    ///
+    /// # std::env::set_current_dir("../..")?;
+    /// let file = std::fs::read("films/w.mov")?;
+    /// let movie = Movie::open(&file)?;
+    /// let mut samples = movie.samples_from(TrackId(1), 4)?;
+    /// assert_eq!((samples.len(), samples.next()), (1, Some(movie.sample(TrackId(1), 4)?)));
+    /// assert_eq!(samples.next(), None);
+    /// assert_eq!(movie.samples_from(TrackId(1), 5).err(), Some(Refusal::Outside));
+    /// # Ok::<(), Box<dyn std::error::Error>>(())
+    /// ```
+    ///
+    /// # Errors
+    ///
+    /// [`Refusal::NoTrack`]; [`Refusal::Outside`] where the track has no sample `n`.
+    pub fn samples_from(&self, id: TrackId, n: u32) -> Result<Samples<'a>, Refusal> {
+        let stepper = ffi::step_start(self.film, id.0, n)?;
+        let all = self.track(id).unwrap_or_else(|| broken()).samples;
+        // The library has accepted `n`: it is from 1 to all.
+        Ok(Samples::new(self.film.lent(), stepper, all - (n - 1)))
     }
 
     /// The bytes of sample `n` of a track, numbered from 1, as they stand in the file; `None` where the moov was lent

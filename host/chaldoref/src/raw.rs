@@ -250,4 +250,43 @@ extern "C" {
     ) -> u32;
 
     pub fn chaldoref_top_level_step(header: *const u8, header_len: usize, places: *mut u64, places_len: usize) -> u32;
+
+    pub fn chaldoref_step_start(
+        file: *const u8,
+        file_len: usize,
+        id: u32,
+        n: u32,
+        stepper: *mut u64,
+        stepper_len: usize,
+    ) -> u32;
+
+    pub fn chaldoref_moov_step_start(
+        moov: *const u8,
+        moov_len: usize,
+        length: u64,
+        id: u32,
+        n: u32,
+        stepper: *mut u64,
+        stepper_len: usize,
+    ) -> u32;
+
+    pub fn chaldoref_step(
+        lent: *const u8,
+        lent_len: usize,
+        stepper: *mut u64,
+        stepper_len: usize,
+        places: *mut i64,
+        places_len: usize,
+    ) -> u32;
+
+    pub fn chaldoref_steps(
+        lent: *const u8,
+        lent_len: usize,
+        stepper: *mut u64,
+        stepper_len: usize,
+        room: *mut i64,
+        room_len: usize,
+        places: *mut u64,
+        places_len: usize,
+    ) -> u32;
 }

@@ -1,4 +1,6 @@
 //! The refusals of documents 01 and 02.
+use crate::film::Film;
+use crate::movie::{MAX_FILE_BYTES, MAX_LENGTH};
 use std::error::Error;
 use std::fmt;
 
@@ -16,7 +18,8 @@ use std::fmt;
 #[non_exhaustive]
 #[derive(Clone, Copy, Debug, PartialEq, Eq, PartialOrd, Ord, Hash)]
 pub enum Refusal {
-    /// 1: the file is longer than 2,147,483,647 bytes.
+    /// 1: the file is longer than 2,147,483,647 bytes; where the moov is lent alone, that one is, or the length of the file is
+    /// above 2^63 - 1 or below the moov's.
     FileTooLong = 1,
     /// 2: an atom's size is wrong, passes its parent's end, or too few bytes for an atom remain.
     AtomSize = 2,
@@ -93,6 +96,30 @@ impl Refusal {
         Refusal::ALL.iter().copied().find(|refusal| refusal.number() == number)
     }
 
+    /// When the documents give this refusal to a film that is lent that way. [`Display`](fmt::Display) has the words for a whole
+    /// file; of a moov alone 1, 2 and 3 have further grounds, and which of those of 1 it is shows in the film's lengths.
+    ///
+    /// ```
+    /// use chaldoref::{Film, Movie};
+    ///
+    /// let film = Film::Moov { moov: &[0; 100], length: 99 };
+    /// let refusal = Movie::open(film).unwrap_err();
+    /// assert_eq!(refusal.words_for(film), "the length of the file is below that of its moov");
+    /// ```
+    #[must_use]
+    pub fn words_for(self, film: Film) -> &'static str {
+        match (self, film) {
+            (_, Film::Whole(_)) => self.words(),
+            (Refusal::FileTooLong, Film::Moov { moov, length }) => too_long(moov.len() as u64, length),
+            (Refusal::AtomSize, _) => {
+                "an atom's size is wrong, passes its parent's end, or 1 to 7 bytes (under 16 for a 64-bit size) remain; \
+                 or the lent bytes aren't one moov atom"
+            }
+            (Refusal::AtomCount, _) => "an atom is absent or occurs too often; or both offset tables or neither is there",
+            _ => self.words(),
+        }
+    }
+
     /// When the documents give this refusal, in their words.
     const fn words(self) -> &'static str {
         match self {
@@ -121,6 +148,17 @@ impl Refusal {
             Refusal::NotComputed => "the feature cannot be computed",
             Refusal::DataElsewhere => "a description names data elsewhere, or no such data reference",
         }
+    }
+}
+
+/// Which of its grounds refusal 1 of a moov alone has, by the lengths of the moov and of the file.
+fn too_long(moov: u64, length: u64) -> &'static str {
+    if moov > MAX_FILE_BYTES {
+        "the moov is longer than 2,147,483,647 bytes"
+    } else if length > MAX_LENGTH {
+        "the length of the file is above 2^63 - 1"
+    } else {
+        "the length of the file is below that of its moov"
     }
 }
 

@@ -23,6 +23,11 @@ static void print_words(void)
     for (number = 0; number <= CHALDOREF_DATA_ELSEWHERE + 1; number++)
         printf("refusal %" PRIu32 ": %s\n", number, chaldoref_refusal_text(number));
     printf("refusal %" PRIu32 ": %s\n", UINT32_MAX, chaldoref_refusal_text(UINT32_MAX));
+    for (number = 0; number <= CHALDOREF_DATA_ELSEWHERE + 1; number++)
+        printf("of a moov %" PRIu32 ": %s\n", number, chaldoref_moov_refusal_text(number, 8, 7));
+    printf("of a moov 1: %s\n", chaldoref_moov_refusal_text(1, 8, UINT64_C(1) << 63));
+    if (SIZE_MAX > 2147483647u)
+        printf("of a moov 1: %s\n", chaldoref_moov_refusal_text(1, (size_t)2147483647u + 1, 7));
     printf("version %s: %d.%d.%d\n", chaldoref_version(), CHALDOREF_VERSION_MAJOR, CHALDOREF_VERSION_MINOR,
            CHALDOREF_VERSION_PATCH);
 }
@@ -55,6 +60,37 @@ static void print_sample(const struct film *film, uint32_t n)
            ", bytes %" PRIu32 " %" PRIu32 "\n",
            refusal, s.decode, s.duration, s.composition, s.sync, s.description, s.chunk, s.offset, s.size,
            bytes.offset, bytes.length);
+}
+
+static void print_step(int shown, struct chaldoref_moov_sample_info s)
+{
+    printf("step %d %" PRIu32 " %" PRIu32 " %" PRId64 " %d %" PRIu32 " %" PRIu32 " %" PRIu64 " %" PRIu32 "\n", shown,
+           s.decode, s.duration, s.composition, s.sync, s.description, s.chunk, s.offset, s.size);
+}
+
+/* From sample n one by one, past the end too; the same samples two at once, by the moov alone, which is the film's first atom. */
+static void print_steps(const struct film *film, uint32_t n)
+{
+    struct chaldoref_stepper stepper, copy;
+    struct chaldoref_moov_sample_info sample;
+    int64_t room[2 * CHALDOREF_SAMPLE_NUMBERS];
+    size_t moov = (size_t)film->bytes[2] << 8 | film->bytes[3], count, i;
+    int shown;
+    uint32_t refused = chaldoref_stepper_at(film->bytes, film->len, ONE, 0, &stepper);
+    uint32_t started = chaldoref_stepper_at(film->bytes, film->len, ONE, n, &stepper);
+    printf("start %" PRIu32 " %" PRIu32 "\n", refused, started);
+    do {
+        shown = chaldoref_stepper_next(film->bytes, film->len, &stepper, &sample);
+        print_step(shown, sample);
+    } while (shown);
+    chaldoref_moov_stepper_at(film->bytes, moov, film->len, ONE, n, &stepper);
+    copy = stepper;
+    while ((count = chaldoref_stepper_fill(film->bytes, moov, &stepper, room, sizeof room / sizeof *room)) > 0)
+        for (i = 0; i < count; i++)
+            print_step(2, chaldoref_moov_sample_of(room + CHALDOREF_SAMPLE_NUMBERS * i));
+    /* A copy of a position stands where it stood. */
+    chaldoref_stepper_next(film->bytes, moov, &copy, &sample);
+    print_step(3, sample);
 }
 
 static void print_media_time(const struct film *film, uint32_t t)
@@ -148,8 +184,9 @@ static void print_nothing_lent(const struct film *film)
     uint32_t no_out = chaldoref_write_slip(film->bytes, film->len, ONE, 0, 1, chaldoref_lend_out(NULL), 0, places, 1);
     uint32_t no_places = chaldoref_sample_at(film->bytes, film->len, ONE, 0, chaldoref_lend_places(NULL), 0);
     uint32_t no_signed = chaldoref_sample(film->bytes, film->len, ONE, 1, chaldoref_lend_signed_places(NULL), 0);
-    printf("nothing lent %" PRIu32 " %" PRIu32 " %" PRIu32 " %" PRIu32 " %" PRIu32 " %" PRIu32 "\n", no_file, no_slip,
-           no_room, no_out, no_places, no_signed);
+    uint32_t no_stepper = chaldoref_step_start(film->bytes, film->len, ONE, 1, chaldoref_lend_places(NULL), 0);
+    printf("nothing lent %" PRIu32 " %" PRIu32 " %" PRIu32 " %" PRIu32 " %" PRIu32 " %" PRIu32 " %" PRIu32 "\n", no_file,
+           no_slip, no_room, no_out, no_places, no_signed, no_stepper);
 }
 
 /* What is not NULL is lent as it is. */
@@ -170,6 +207,8 @@ static void print_all(struct film *film)
     print_sample(film, 1);
     print_sample(film, 4);
     print_sample(film, 5);
+    print_steps(film, 1);
+    print_steps(film, 4);
     print_media_time(film, 0);
     print_media_time(film, 60);
     print_sample_at(film, 71);

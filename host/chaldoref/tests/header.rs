@@ -1,7 +1,7 @@
 //! What the header has besides the proved functions: `header.c`, in C and in C++, prints what the crate has.
 mod compiled;
 
-use chaldoref::{Feature, MediaTime, Movie, MovieTime, Refusal, Shown, Slip, TrackId};
+use chaldoref::{Feature, Film, MediaTime, Movie, MovieTime, Refusal, Sample, Shown, Slip, TrackId};
 use reference::film::{self, w_movie, w_track};
 use std::fmt::Write as _;
 use std::path::Path;
@@ -29,6 +29,14 @@ fn words() -> String {
     for number in [20, u32::MAX] {
         writeln!(lines, "refusal {number}: no refusal has this number").unwrap();
     }
+    let short = Film::Moov { moov: &[0; 8], length: 7 };
+    lines += "of a moov 0: answered\n";
+    for refusal in Refusal::ALL {
+        writeln!(lines, "of a moov {}: {}", refusal.number(), refusal.words_for(short)).unwrap();
+    }
+    lines += "of a moov 20: no refusal has this number\n";
+    lines += "of a moov 1: the length of the file is above 2^63 - 1\n";
+    lines += "of a moov 1: the moov is longer than 2,147,483,647 bytes\n";
     let version = env!("CARGO_PKG_VERSION");
     lines + &format!("version {version}: {version}\n")
 }
@@ -59,6 +67,19 @@ fn sample(movie: &Movie, n: u32) -> String {
             s.size
         ),
     }
+}
+
+fn step(shown: u32, s: Sample) -> String {
+    let sync = u32::from(s.sync);
+    let Sample { decode, duration, composition, description, chunk, offset, size, .. } = s;
+    format!("step {shown} {decode} {duration} {composition} {sync} {description} {chunk} {offset} {size}\n")
+}
+
+/// The samples from one on, done, the same again, and the first of them.
+fn steps(movie: &Movie, n: u32) -> String {
+    let samples: Vec<Sample> = movie.samples_from(ONE, n).unwrap().collect();
+    let all = |shown| samples.iter().map(|sample| step(shown, *sample)).collect::<String>();
+    format!("start 15 0\n{}{}{}{}", all(1), step(0, Sample::default()), all(2), step(3, samples[0]))
 }
 
 fn media_time(movie: &Movie, t: u32) -> String {
@@ -100,11 +121,11 @@ fn records_and_peak(movie: &Movie) -> String {
 /// What the program has to print about the film.
 fn expected(film: &[u8]) -> String {
     let movie = Movie::open(film).unwrap();
-    let samples: String = [1, 4, 5].map(|n| sample(&movie, n)).concat();
+    let samples = [1, 4, 5].map(|n| sample(&movie, n)).concat() + &[1, 4].map(|n| steps(&movie, n)).concat();
     let times = [0, 60].map(|t| media_time(&movie, t)).concat() + &[71, 72].map(|t| sample_at(&movie, t)).concat();
     let [stretch, slips] = stretch_and_slips(&movie);
     // A file and a slip of no bytes are refused as such; then come room, bytes and places that are too few.
-    let lent = "nothing lent 3 17 16 16 16 16\nlent 1 1 1 1 1\n";
+    let lent = "nothing lent 3 17 16 16 16 16 16\nlent 1 1 1 1 1\n";
     [words(), tracks(&movie), samples, times, stretch, records_and_peak(&movie), slips, lent.to_string()].concat()
 }
 

@@ -4,7 +4,7 @@ use crate::failure::Failure;
 use crate::help;
 use crate::input;
 use crate::suggest;
-use crate::syntax::{Command, Opt, BYTES, COMMANDS, HELPERS, JSON};
+use crate::syntax::{Command, Opt, BYTES, COMMANDS, CSV, HELPERS, JSON};
 use crate::time::{Span, Time};
 use chaldoref::{FourCC, MediaTime, MovieTime, TrackId};
 use std::ffi::{OsStr, OsString};
@@ -26,6 +26,7 @@ pub struct Request {
 pub enum Ask {
     Tracks,
     Sample { track: TrackId, n: u32, bytes: bool },
+    Samples { track: TrackId, from: Option<u32>, to: Option<u32>, csv: bool },
     At { track: TrackId, time: Time },
     Map { track: TrackId, time: MovieTime },
     Edits { track: TrackId },
@@ -157,6 +158,9 @@ impl Words {
         let json = self.has(&JSON);
         if json && (self.has(&BYTES) || self.out.is_some()) {
             return Err(self.wrong("--json goes with neither --bytes nor -o".into()));
+        }
+        if json && self.has(&CSV) {
+            return Err(self.wrong("--json does not go with --csv".into()));
         }
         let ask = (self.command.ask)(&self)?;
         Ok(Request { files: self.files, ask, json })

@@ -4,6 +4,7 @@ mod edits;
 mod features;
 mod questions;
 mod ranges;
+mod samples;
 mod slips;
 
 use crate::args::{Ask, Request};
@@ -84,8 +85,9 @@ fn answer(request: &Request, name: &OsStr, out: &mut dyn Write) -> Result<(), Fa
     let filed = || film.filed();
     match &request.ask {
         Ask::Tracks => questions::tracks(&film, &movie()?, to),
-        Ask::Sample { track, n, bytes: false } => questions::sample(&movie()?, *track, *n, to),
+        Ask::Sample { track, n, bytes: false } => samples::sample(&movie()?, *track, *n, to),
         Ask::Sample { track, n, bytes: true } => questions::sample_bytes(&film, &movie()?, *track, *n, to),
+        Ask::Samples { track, from, to: last, csv } => samples::samples(&movie()?, *track, *from, *last, *csv, to),
         Ask::At { track, time } => questions::at(&movie()?, *track, time, to),
         Ask::Map { track, time } => questions::map(&movie()?, *track, *time, to),
         Ask::Edits { track } => edits::edits(&movie()?, *track, to),

@@ -48,7 +48,7 @@ impl From<io::Error> for Failure {
 impl Failure {
     /// Refuses a film, for the reason given if it is known.
     pub fn of_film(refusal: Refusal, why: Option<String>) -> Failure {
-        Failure::Film(refusal, why, of_ffmpeg(refusal))
+        Failure::Film(refusal, why, of_refusal(refusal))
     }
 
     /// Whoever reads standard output has seen enough, which is no failure.
@@ -106,9 +106,13 @@ fn not_proved(why: &Option<String>) -> String {
     why.as_ref().map_or(String::new(), |words| format!("chaldoref: not proved: {words}\n"))
 }
 
-/// The hint for the refusals that films from ffmpeg meet.
-fn of_ffmpeg(refusal: Refusal) -> String {
+/// The hint for the refusals that films from ffmpeg meet, and for the one whose words are those of a file that is lent whole.
+fn of_refusal(refusal: Refusal) -> String {
     match refusal {
+        Refusal::FileTooLong => hint(
+            "a film in a file may have any length; its moov, and a film from standard input, may have 2,147,483,647 \
+             bytes",
+        ),
         Refusal::LeafVersion => hint(
             "atoms are read in version 0 alone; ffmpeg writes a ctts of version 1 with -movflags negative_cts_offsets",
         ),

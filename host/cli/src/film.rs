@@ -28,7 +28,7 @@ const MOOF: FourCC = FourCC::from_bytes(*b"moof");
 
 pub struct Film {
     /// Its moov, or why its top level is refused.
-    moov: Result<Moov, Refusal>,
+    moov: Result<Moov, ReadError>,
     has_moof: bool,
     kept: Kept,
 }
@@ -56,7 +56,7 @@ impl Film {
     /// The film of these bytes, which are all of it, or one more than are accepted.
     fn of(bytes: Vec<u8>) -> io::Result<Film> {
         let (moov, has_moof) = if bytes.len() as u64 == MOST_BYTES {
-            (Err(Refusal::FileTooLong), false)
+            (Err(ReadError::Refused(Refusal::FileTooLong)), false)
         } else {
             moov_of(Cursor::new(&bytes))?
         };
@@ -67,7 +67,7 @@ impl Film {
     pub fn movie(&self) -> Result<Movie<'_>, Failure> {
         match &self.moov {
             Ok(moov) => Movie::open(moov).map_err(|refusal| self.refused(refusal)),
-            Err(refusal) => Err(self.refused(*refusal)),
+            Err(error) => Err(self.unread(error)),
         }
     }
 
@@ -75,7 +75,7 @@ impl Film {
     pub fn filed(&self) -> Result<Movie<'_>, Failure> {
         match &self.moov {
             Ok(moov) => Movie::open(moov).map_err(|refusal| self.refused(strict_refusal(moov).unwrap_or(refusal))),
-            Err(refusal) => Err(self.refused(*refusal)),
+            Err(error) => Err(self.unread(error)),
         }
     }
 
@@ -110,6 +110,14 @@ impl Film {
         copied
     }
 
+    /// Refuses the film for its top level.
+    fn unread(&self, error: &ReadError) -> Failure {
+        match error {
+            ReadError::MoovTooLong { .. } => Failure::of_film(Refusal::FileTooLong, Some(error.to_string())),
+            error => self.refused(error.refusal().unwrap_or(Refusal::FileTooLong)),
+        }
+    }
+
     /// Refuses the film. Of a film with several moovs one may be wrong inside, which is judged first: that is told of the whole.
     fn refused(&self, refusal: Refusal) -> Failure {
         let whole = if self.moov.is_err() { self.whole() } else { None };
@@ -133,13 +141,11 @@ impl Film {
 }
 
 /// The moov of a film, or why its top level is refused; and whether a moof stands there.
-fn moov_of(film: impl Read + Seek) -> io::Result<(Result<Moov, Refusal>, bool)> {
+fn moov_of(film: impl Read + Seek) -> io::Result<(Result<Moov, ReadError>, bool)> {
     let mut has_moof = false;
     match Moov::read_seeing(film, |kind, _| has_moof |= kind == MOOF) {
-        Ok(moov) => Ok((Ok(moov), has_moof)),
-        Err(ReadError::Refused(refusal)) => Ok((Err(refusal), has_moof)),
         Err(ReadError::Io(error)) => Err(error),
-        Err(error) => Err(io::Error::other(error)),
+        read => Ok((read, has_moof)),
     }
 }
 
@@ -478,6 +484,21 @@ mod tests {
         }
         // Other tests run beside this one.
         assert!(most_memory() < before + 300_000, "{} kB", most_memory());
+    }
+
+    /// It says that it is the moov, since a film in a file may have any length.
+    #[test]
+    fn a_moov_that_is_too_long() {
+        let place = 100;
+        let stored = Stored::new("long-moov", &with_size(Size::Says(place), atom("mdat", &[])).bytes());
+        let file = File::options().write(true).open(&stored.0).unwrap();
+        file.write_all_at(&with_size(Size::WideSays(1 << 31), atom("moov", &[])).bytes(), place.into()).unwrap();
+        file.set_len(u64::from(place) + (1 << 31)).unwrap();
+        let message = failed(stored.film().movie().unwrap_err());
+        assert!(message.starts_with("chaldoref: x: refused 1: "), "{message}");
+        let why = "chaldoref: not proved: the moov at byte 100 has 2147483648 bytes, and may have 2147483647\n";
+        assert!(message.contains(why) && message.contains("may have any length"), "{message}");
+        assert_eq!(failed(stored.film().filed().unwrap_err()), message);
     }
 
     #[test]

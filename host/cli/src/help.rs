@@ -11,15 +11,17 @@ or hex after 0x, and below 2^32. CODE is four characters, or hex after 0x.
 MEDIA-TIME, A and B are units of the track's own time scale, or seconds as
 12.5s, or hours, minutes and seconds as 00:01:02.250, rounded down to units, or
 end, where the track ends. Without A and B the whole track is taken. MOVIE-TIME
-is in units of the movie's time scale only.
+is in units of the movie's time scale only. N, FROM and TO are numbers of
+samples, from 1; without FROM a track is listed from 1, without TO to its end.
 ";
 
 const REST: &str = "\
---json prints one JSON document for each FILE. chaldoref COMMAND --help tells
-the options of a command; the page chaldoref(1) tells all. chaldoref completion
-bash prints the completion for bash. Exit status: 0 answered; 1 refused, for the
-reason on standard error, or something that check found is not good; 2 bad
-usage, unreadable file or no memory. Of several files the greatest counts.
+--json prints one JSON document for each FILE, and samples one for each sample.
+chaldoref COMMAND --help tells the options of a command; the page chaldoref(1)
+tells all. chaldoref completion bash prints the completion for bash. Exit
+status: 0 answered; 1 refused, for the reason on standard error, or something
+that check found is not good; 2 bad usage, unreadable file or no memory. Of
+several files the greatest counts.
 ";
 
 impl Command {

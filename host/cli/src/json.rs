@@ -58,7 +58,11 @@ impl fmt::Display for Value {
         match self {
             Value::Null => f.write_str("null"),
             Value::Bool(value) => value.fmt(f),
-            Value::Number(value) => value.fmt(f),
+            // Almost all are short ones, which are written faster.
+            Value::Number(value) => match i64::try_from(*value) {
+                Ok(short) => short.fmt(f),
+                Err(_) => value.fmt(f),
+            },
             Value::Seconds(value) => value.fmt(f),
             Value::Text(text) => quoted(text, f),
             Value::Hex(bytes) => hex(bytes, f),
@@ -69,13 +73,17 @@ impl fmt::Display for Value {
 /// A string with its marks; what JSON asks to be escaped is.
 fn quoted(text: &str, f: &mut fmt::Formatter<'_>) -> fmt::Result {
     f.write_str("\"")?;
-    for c in text.chars() {
+    // What needs no escape is written as one piece.
+    let mut plain = 0;
+    for (place, c) in text.char_indices().filter(|(_, c)| matches!(c, '"' | '\\' | '\0'..='\x1f')) {
+        f.write_str(&text[plain..place])?;
+        plain = place + 1;
         match c {
             '"' | '\\' => write!(f, "\\{c}")?,
-            '\0'..='\x1f' => write!(f, "\\u{:04x}", u32::from(c))?,
-            _ => write!(f, "{c}")?,
+            _ => write!(f, "\\u{:04x}", u32::from(c))?,
         }
     }
+    f.write_str(&text[plain..])?;
     f.write_str("\"")
 }
 
@@ -126,12 +134,20 @@ impl Object<'_> {
     pub fn time(&mut self, key: &str, units: impl Into<i128>, scale: impl Into<u64>) -> io::Result<&mut Self> {
         let units = units.into();
         let seconds = Value::Seconds(units as f64 / scale.into() as f64);
-        self.put(key, Value::Number(units))?.put(&seconds_key(key), seconds)
+        self.put(key, Value::Number(units))?.put_seconds(key, seconds)
     }
 
     /// A time that is not there.
     pub fn no_time(&mut self, key: &str) -> io::Result<&mut Self> {
-        self.put(key, Value::Null)?.put(&seconds_key(key), Value::Null)
+        self.put(key, Value::Null)?.put_seconds(key, Value::Null)
+    }
+
+    /// The seconds of a time, under its key and `_seconds`.
+    fn put_seconds(&mut self, key: &str, seconds: Value) -> io::Result<&mut Self> {
+        self.out.write_all(b",\"")?;
+        self.out.write_all(key.as_bytes())?;
+        write!(self.out, "_seconds\":{seconds}")?;
+        Ok(self)
     }
 
     /// A field that is an object, or null where there is none.
@@ -175,14 +191,11 @@ impl Object<'_> {
     }
 
     fn key(&mut self, key: &str) -> io::Result<()> {
-        let comma = if self.empty { "" } else { "," };
+        self.out.write_all(if self.empty { b"\"" } else { b",\"" })?;
         self.empty = false;
-        write!(self.out, "{comma}\"{key}\":")
+        self.out.write_all(key.as_bytes())?;
+        self.out.write_all(b"\":")
     }
-}
-
-fn seconds_key(key: &str) -> String {
-    format!("{key}_seconds")
 }
 
 #[cfg(test)]

@@ -32,6 +32,9 @@ use std::ffi::{OsStr, OsString};
 use std::io::{self, BufWriter, Write};
 use std::process::ExitCode;
 
+/// As many bytes are written at once.
+const WRITTEN: usize = 1 << 16;
+
 fn main() -> ExitCode {
     let words: Vec<OsString> = std::env::args_os().skip(1).collect();
     let json = args::has_json(&words);
@@ -60,7 +63,7 @@ fn documented(done: Result<(), Failure>, file: Option<&OsStr>, json: bool) -> Re
 
 /// Runs something that writes to standard output, and sees to it that all of it is written, also before a failure.
 fn print(write: impl FnOnce(&mut dyn Write) -> Result<(), Failure>) -> Result<(), Failure> {
-    let mut out = BufWriter::new(output::standard()?);
+    let mut out = BufWriter::with_capacity(WRITTEN, output::standard()?);
     let done = write(&mut out);
     worse(done, out.flush().map_err(Failure::from))
 }

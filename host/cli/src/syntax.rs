@@ -9,7 +9,8 @@ pub struct Opt {
     pub about: &'static str,
 }
 
-/// A command. Operands in brackets may be left out, all of one pair together, and one with dots may be given several times.
+/// A command. Operands in brackets may be left out, all of one pair together or, each with a bracket of its own, the last ones; one with dots may be
+/// given several times.
 pub struct Command {
     pub name: &'static str,
     pub operands: &'static [&'static str],
@@ -19,6 +20,9 @@ pub struct Command {
 }
 
 pub const JSON: Opt = Opt { flag: "--json", value: None, about: "print one JSON document" };
+pub const JSON_LINES: Opt =
+    Opt { flag: "--json", value: None, about: "print a JSON document for each sample, a line each" };
+pub const CSV: Opt = Opt { flag: "--csv", value: None, about: "print lines of comma-separated numbers" };
 pub const BYTES: Opt = Opt { flag: "--bytes", value: None, about: "write the film's own bytes instead" };
 pub const HEX: Opt = Opt { flag: "--hex", value: None, about: "read hex text, whatever it begins with" };
 pub const OUT: Opt = Opt { flag: "-o", value: Some("OUT"), about: "write raw bytes to OUT; - is standard output" };
@@ -26,7 +30,7 @@ pub const OUT: Opt = Opt { flag: "-o", value: Some("OUT"), about: "write raw byt
 /// What stands in the place of a command and asks no film.
 pub const HELPERS: [&str; 2] = ["completion", "help"];
 
-pub static COMMANDS: [Command; 11] = [
+pub static COMMANDS: [Command; 12] = [
     Command {
         name: "tracks",
         operands: &["FILE..."],
@@ -40,6 +44,16 @@ pub static COMMANDS: [Command; 11] = [
         options: &[&BYTES, &JSON],
         about: "sample N of a track, numbered from 1",
         ask: |words| Ok(Ask::Sample { track: words.track(1)?, n: words.number(2)?, bytes: words.has(&BYTES) }),
+    },
+    Command {
+        name: "samples",
+        operands: &["FILE", "TRACK", "[FROM", "[TO]]"],
+        options: &[&JSON_LINES, &CSV],
+        about: "the samples of a track, in order, from sample FROM to sample TO",
+        ask: |words| {
+            let (from, to) = (words.if_given(2, Words::number)?, words.if_given(3, Words::number)?);
+            Ok(Ask::Samples { track: words.track(1)?, from, to, csv: words.has(&CSV) })
+        },
     },
     Command {
         name: "at",

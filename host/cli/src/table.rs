@@ -1,4 +1,5 @@
 //! Tables for people: headings, and columns that are as wide as their widest cell.
+use std::fmt::{Display, Write as _};
 use std::io::{self, Write};
 
 #[derive(Clone, Copy)]
@@ -35,6 +36,40 @@ pub fn write<T, const N: usize>(
     items.iter().try_for_each(|item| line(out, columns, widths, row(item)))
 }
 
+/// A table whose rows are written as they come. How wide the cells of each column can be is known beforehand.
+pub struct Streamed<'w, const N: usize> {
+    out: &'w mut dyn Write,
+    columns: [Column; N],
+    widths: [usize; N],
+    /// The line that is being made.
+    text: String,
+}
+
+impl<'w, const N: usize> Streamed<'w, N> {
+    /// Writes the headings. A cell that is wider than was said moves the rest of its row.
+    pub fn new(out: &'w mut dyn Write, columns: [Column; N], widest: [usize; N]) -> io::Result<Streamed<'w, N>> {
+        let mut widths = widest;
+        for (width, column) in widths.iter_mut().zip(&columns) {
+            *width = (*width).max(column.heading.chars().count());
+        }
+        line(out, columns, widths, columns.map(|column| column.heading.to_string()))?;
+        Ok(Streamed { out, columns, widths, text: String::new() })
+    }
+
+    pub fn row(&mut self, cells: [&dyn Display; N]) -> io::Result<()> {
+        self.text.clear();
+        for ((column, width), cell) in self.columns.iter().zip(self.widths).zip(cells) {
+            let put = if column.right {
+                write!(self.text, "{cell:>width$}  ")
+            } else {
+                write!(self.text, "{cell:<width$}  ")
+            };
+            put.map_err(io::Error::other)?;
+        }
+        writeln!(self.out, "{}", self.text.trim_end())
+    }
+}
+
 fn line<const N: usize>(
     out: &mut dyn Write,
     columns: [Column; N],
@@ -60,5 +95,14 @@ mod tests {
         let row = |n: &u32| [n.to_string(), format!("<{n}>"), String::new()];
         write(&mut out, [number("n"), text("word"), text("rest")], &[7, 1000], row).unwrap();
         assert_eq!(String::from_utf8(out).unwrap(), "   n  word    rest\n   7  <7>\n1000  <1000>\n");
+    }
+
+    #[test]
+    fn rows_are_written_as_they_come() {
+        let mut out = Vec::new();
+        let mut table = Streamed::new(&mut out, [number("n"), text("word"), text("rest")], [3, 2, 0]).unwrap();
+        table.row([&7, &"<7>", &""]).unwrap();
+        table.row([&-1000, &"<1000>", &"x"]).unwrap();
+        assert_eq!(String::from_utf8(out).unwrap(), "  n  word  rest\n  7  <7>\n-1000  <1000>  x\n");
     }
 }

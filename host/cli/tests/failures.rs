@@ -180,8 +180,8 @@ fn bad_usage(line: &str, wrong: &str, usage: &str) {
 #[test]
 fn usage() {
     let all = "COMMAND FILE ...\n       chaldoref --help\n\
-               commands: tracks, sample, at, map, edits, stretch, slip, read-slip, check,\n\
-               features, profile, completion, help";
+               commands: tracks, sample, samples, at, map, edits, stretch, slip, read-slip,\n\
+               check, features, profile, completion, help";
     bad_usage("", "no command is named", all);
     for line in ["track films/w.mov", "help track"] {
         bad_usage(line, "there is no command 'track'; did you mean tracks?", all);
@@ -199,6 +199,10 @@ fn usage() {
     bad_usage("profile a 1 b", "'b' is one argument too many", "profile FILE [TRACK] [--json]");
     bad_usage("tracks a --bytes", "tracks has no option '--bytes'", "tracks FILE... [--json]");
     bad_usage("sample a 1", "N is missing", "sample FILE TRACK N [--bytes] [--json]");
+    let samples = "samples FILE TRACK [FROM [TO]] [--json] [--csv]";
+    bad_usage("samples a", "TRACK is missing", samples);
+    bad_usage("samples a 1 2 3 4", "'4' is one argument too many", samples);
+    bad_usage("samples a 1 2 -3", "TO is a number from 0 to 4294967295, and not '-3'", samples);
     bad_usage("slip a 1 0 1 -o", "-o needs OUT", "slip FILE TRACK [A B] [-o OUT] [--json]");
     bad_usage("check", "FILE is missing", "check FILE SLIP... [--json]");
     bad_usage("check a", "SLIP is missing", "check FILE SLIP... [--json]");
@@ -225,6 +229,7 @@ fn what_fails_is_a_document_too() {
     let both = "\"error\":\"--json goes with neither --bytes nor -o\"";
     fails("sample a 1 1 --json --bytes", both);
     fails("slip a 1 0 1 --json -o b", both);
+    fails("samples a 1 --csv --json", "\"error\":\"--json does not go with --csv\"");
     let none = "\"error\":\"No such file or directory (os error 2)\"";
     fails("tracks none.mov --json", &format!("\"file\":\"none.mov\",{none}"));
     fails("check none.mov none.slip --json", &format!("\"file\":\"none.mov\",{none}"));

@@ -9,8 +9,20 @@ use std::fs::File;
 use std::os::unix::ffi::OsStringExt;
 use std::process::{Command, Stdio};
 
-const COMMANDS: [&str; 11] =
-    ["tracks", "sample", "at", "map", "edits", "stretch", "slip", "read-slip", "check", "features", "profile"];
+const COMMANDS: [&str; 12] = [
+    "tracks",
+    "sample",
+    "samples",
+    "at",
+    "map",
+    "edits",
+    "stretch",
+    "slip",
+    "read-slip",
+    "check",
+    "features",
+    "profile",
+];
 
 #[test]
 fn version() {
@@ -64,7 +76,7 @@ fn offered(words: &[&str]) -> Vec<String> {
 fn completion() {
     let others = ["completion", "help", "--help", "--version"];
     assert_eq!(offered(&["chaldoref", ""]), [&COMMANDS[..], &others].concat());
-    assert_eq!(offered(&["chaldoref", "s"]), ["sample", "stretch", "slip"]);
+    assert_eq!(offered(&["chaldoref", "s"]), ["sample", "samples", "stretch", "slip"]);
     assert_eq!(offered(&["chaldoref", "help", ""]), COMMANDS);
     assert_eq!(offered(&["chaldoref", "completion", "b"]), ["bash"]);
     assert_eq!(offered(&["chaldoref", "slip", "-"]), ["-o", "--json", "--help"]);
@@ -100,7 +112,8 @@ fn one_help_in_full() {
          MEDIA-TIME, A and B are units of the track's own time scale, or seconds as\n\
          12.5s, or hours, minutes and seconds as 00:01:02.250, rounded down to units, or\n\
          end, where the track ends. Without A and B the whole track is taken. MOVIE-TIME\n\
-         is in units of the movie's time scale only.\n",
+         is in units of the movie's time scale only. N, FROM and TO are numbers of\n\
+         samples, from 1; without FROM a track is listed from 1, without TO to its end.\n",
     );
 }
 

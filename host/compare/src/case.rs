@@ -70,7 +70,7 @@ pub fn expected(question: Question, answer: &Answered, lengths: Lengths) -> (u32
 /// A question that the library does not answer as it should.
 #[derive(Debug)]
 pub struct Difference {
-    pub question: Question,
+    pub question: String,
     pub way: Way,
     pub lengths: Lengths,
     pub library: String,
@@ -81,7 +81,7 @@ pub struct Difference {
 impl std::fmt::Display for Difference {
     fn fmt(&self, f: &mut std::fmt::Formatter) -> std::fmt::Result {
         let Difference { question, way, lengths: Lengths { room, places, .. }, library, reference, fault } = self;
-        writeln!(f, "question: {question:?}, way {way:?}, with room {room} and {places} places")?;
+        writeln!(f, "question: {question}, way {way:?}, with room {room} and {places} places")?;
         writeln!(f, "library: {library}\nreference: {reference}")?;
         write!(f, "{fault}")
     }
@@ -98,6 +98,7 @@ fn lending(question: Question, way: Way, lengths: Lengths) -> Lending {
         Question::WriteSlip { .. } => (0, lengths.room),
         Question::TrackList
         | Question::Stretch { .. }
+        | Question::Edits { .. }
         | Question::Profile { .. }
         | Question::ReadSlip
         | Question::ReadAnySlip => (lengths.room, 0),
@@ -159,5 +160,5 @@ pub fn compare(
     let numbers = if question.is_wide(way) { shown(lent.wide.elements()) } else { shown(lent.numbers.elements()) };
     let library = said(found, lent.places.elements(), numbers, lent.bytes.elements());
     let reference = said(number, &written.places, shown(&written.numbers), &written.bytes);
-    Err(Box::new(Difference { question, way, lengths, library, reference, fault }))
+    Err(Box::new(Difference { question: format!("{question:?}"), way, lengths, library, reference, fault }))
 }

@@ -160,6 +160,8 @@ pub fn questions(random: &mut Random, film: &Result<Movie, u32>) -> Vec<Question
         Question::SampleAt { id: id(random, track), t: media_time(random, track) },
         Question::MediaTime { id: id(random, track), t: movie_time(random, track, scale) },
         Question::Stretch { id: id(random, track), a: x.0, b: x.1 },
+        Question::Movie,
+        Question::Edits { id: id(random, track) },
         Question::Profile { id: random.one(&[0, profile_id, profile_id]) },
         Question::Feature { id: id(random, track), code: code(random, track) },
         Question::Peak { id: id(random, track), code: code(random, track) },

@@ -42,13 +42,16 @@ fn is_of_slip(kind: &str) -> bool {
 fn can_meet(number: usize, kind: &str) -> bool {
     let kind = kind.strip_prefix("moov_").unwrap_or(kind);
     let reads = ["read_slip", "read_any_slip"].contains(&kind);
+    if ["step", "steps"].contains(&kind) {
+        return [0, 16].contains(&number);
+    }
     match number {
         0 | 16 => true,
         17 => reads,
         _ if reads => false,
         11 => kind == "write_slip",
-        14 => kind != "track_list",
-        15 => !["track_list", "profile", "feature", "peak"].contains(&kind),
+        14 => !["track_list", "movie"].contains(&kind),
+        15 => !["track_list", "movie", "edits", "profile", "feature", "peak"].contains(&kind),
         18 => ["feature", "peak"].contains(&kind),
         _ => true,
     }

@@ -4,6 +4,7 @@ use crate::choose::{peaks, questions};
 use crate::counts::Counts;
 use crate::faults;
 use crate::question::{any_slip_answer, slip_answer, Answered, Film, Question, Way};
+use crate::steps::{self, Kept};
 use reference::maker::Random;
 use reference::movie::MoovAlone;
 
@@ -11,6 +12,8 @@ use reference::movie::MoovAlone;
 #[derive(Default)]
 pub struct Comparison {
     pub counts: Counts,
+    /// Positions in the films before.
+    pub kept: Vec<Kept>,
 }
 
 /// What is asked about: a film or a slip as it is lent.
@@ -47,7 +50,14 @@ impl Bytes<'_> {
 /// A difference that is not in the answer itself.
 fn other(question: Question, way: Way, lengths: Lengths, fault: &str) -> Box<Difference> {
     let (library, reference) = (String::new(), String::new());
-    Box::new(Difference { question, way, lengths, library, reference, fault: fault.to_string() })
+    Box::new(Difference {
+        question: format!("{question:?}"),
+        way,
+        lengths,
+        library,
+        reference,
+        fault: fault.to_string(),
+    })
 }
 
 /// A film as it is lent, and as the reference reads it.
@@ -128,7 +138,8 @@ impl Comparison {
         }
     }
 
-    /// Puts so many rounds of every question about a film, and once the questions about the highest rates of each track.
+    /// Puts so many rounds of every question about a film, and once the questions about the highest rates of each track; then its tracks are stepped
+    /// through.
     pub fn film(&mut self, random: &mut Random, bytes: &Bytes, way: Way, rounds: usize) -> Result<(), Box<Difference>> {
         let asked = Asked::of(bytes, way);
         let film = &asked.film;
@@ -143,6 +154,10 @@ impl Comparison {
         }
         for question in peaks(&film.movie) {
             self.question(random, &asked, question)?;
+        }
+        self.steps(random, bytes.lent(), way, film)?;
+        if !bytes.are_unchanged() {
+            return Err(steps::difference(way, "stepping", "the film was written to"));
         }
         Ok(())
     }

@@ -45,6 +45,13 @@ impl<T: Element> Lent<T> {
         T::of(mixed(pattern.wrapping_add(u64::try_from(place).unwrap())))
     }
 
+    /// Lends those elements, with the pattern around them.
+    pub fn holding(elements: &[T], pattern: u64) -> Lent<T> {
+        let mut lent = Lent::new(elements.len(), pattern);
+        lent.all[GUARD..GUARD + elements.len()].copy_from_slice(elements);
+        lent
+    }
+
     pub fn len(&self) -> usize {
         self.length
     }

@@ -36,6 +36,8 @@ fn ask_whole(file: &[u8], question: Question, lending: &mut Lending) -> u32 {
             Question::SampleAt { id, t } => chaldoref_sample_at(f, len, id, t, places, places_len),
             Question::MediaTime { id, t } => chaldoref_media_time(f, len, id, t, places, places_len),
             Question::Stretch { id, a, b } => chaldoref_stretch(f, len, id, a, b, room, room_len, places, places_len),
+            Question::Movie => chaldoref_movie(f, len, places, places_len),
+            Question::Edits { id } => chaldoref_edits(f, len, id, wide.cast(), wide_len, places, places_len),
             Question::Profile { id } => chaldoref_profile(f, len, id, room, room_len, places, places_len),
             Question::Feature { id, code } => chaldoref_feature(f, len, id, code, places, places_len),
             Question::Peak { id, code } => chaldoref_peak(f, len, id, code, places, places_len),
@@ -64,6 +66,10 @@ fn ask_moov(moov: &[u8], length: u64, question: Question, lending: &mut Lending)
             Question::Stretch { id, a, b } => {
                 chaldoref_moov_stretch(m, len, length, id, a, b, wide, wide_len, places, places_len)
             }
+            Question::Movie => chaldoref_moov_movie(m, len, length, places, places_len),
+            Question::Edits { id } => {
+                chaldoref_moov_edits(m, len, length, id, wide.cast(), wide_len, places, places_len)
+            }
             Question::Profile { id } => chaldoref_moov_profile(m, len, length, id, room, room_len, places, places_len),
             Question::Feature { id, code } => chaldoref_moov_feature(m, len, length, id, code, places, places_len),
             Question::Peak { id, code } => chaldoref_moov_peak(m, len, length, id, code, places, places_len),
@@ -74,5 +80,37 @@ fn ask_moov(moov: &[u8], length: u64, question: Question, lending: &mut Lending)
                 unreachable!("not offered of a moov alone")
             }
         }
+    }
+}
+
+/// The position before a sample of a track.
+pub fn step_start(lent: &[u8], way: Way, id: u32, n: u32, stepper: &mut Lent<u64>) -> u32 {
+    let (f, len) = (lent.as_ptr(), lent.len());
+    let (stepper, stepper_len) = (stepper.pointer(), stepper.len());
+    // SAFETY: as for a whole file.
+    unsafe {
+        match way {
+            Way::Whole => chaldoref_step_start(f, len, id, n, stepper, stepper_len),
+            Way::Moov(length) => chaldoref_moov_step_start(f, len, length, id, n, stepper, stepper_len),
+        }
+    }
+}
+
+/// The next sample.
+pub fn step(lent: &[u8], stepper: &mut Lent<u64>, places: &mut Lent<u64>) -> u32 {
+    let (stepper, stepper_len) = (stepper.pointer(), stepper.len());
+    let (places, places_len) = (places.pointer(), places.len());
+    // SAFETY: as for a whole file.
+    unsafe { chaldoref_step(lent.as_ptr(), lent.len(), stepper, stepper_len, places.cast(), places_len) }
+}
+
+/// The next samples.
+pub fn steps(lent: &[u8], stepper: &mut Lent<u64>, room: &mut Lent<u64>, places: &mut Lent<u64>) -> u32 {
+    let (stepper, stepper_len) = (stepper.pointer(), stepper.len());
+    let (room, room_len) = (room.pointer(), room.len());
+    let (places, places_len) = (places.pointer(), places.len());
+    // SAFETY: as for a whole file.
+    unsafe {
+        chaldoref_steps(lent.as_ptr(), lent.len(), stepper, stepper_len, room.cast(), room_len, places, places_len)
     }
 }

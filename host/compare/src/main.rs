@@ -13,6 +13,7 @@ mod mapped;
 mod options;
 mod question;
 mod run;
+mod steps;
 
 use std::process::ExitCode;
 

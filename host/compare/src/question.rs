@@ -13,6 +13,8 @@ pub enum Question {
     SampleAt { id: u32, t: u32 },
     MediaTime { id: u32, t: u32 },
     Stretch { id: u32, a: u32, b: u32 },
+    Movie,
+    Edits { id: u32 },
     Profile { id: u32 },
     Feature { id: u32, code: u32 },
     Peak { id: u32, code: u32 },
@@ -29,7 +31,7 @@ pub enum Way {
 }
 
 /// How the functions are called, in the order of `Question::place`, and how many places each fills.
-const FUNCTIONS: [(&str, usize); 12] = [
+const FUNCTIONS: [(&str, usize); 14] = [
     ("track_list", 1),
     ("sample", 8),
     ("sample_bytes", 2),
@@ -42,10 +44,12 @@ const FUNCTIONS: [(&str, usize); 12] = [
     ("read_slip", 6),
     ("write_slip", 1),
     ("read_any_slip", 6),
+    ("movie", 2),
+    ("edits", 1),
 ];
 
-/// Every function of include/chaldoref.h, in the order of `Question::kind`: those of a whole file and of slips, then those of a moov alone.
-pub const KINDS: [&str; 2 * FUNCTIONS.len() - 3] = [
+/// Every function of include/chaldoref.h but the step at top level: those of a whole file and of slips, then those of a moov alone, then the steps.
+pub const KINDS: [&str; 2 * FUNCTIONS.len() - 3 + 4] = [
     "track_list",
     "sample",
     "sample_bytes",
@@ -58,6 +62,8 @@ pub const KINDS: [&str; 2 * FUNCTIONS.len() - 3] = [
     "read_slip",
     "write_slip",
     "read_any_slip",
+    "movie",
+    "edits",
     "moov_track_list",
     "moov_sample",
     "moov_sample_at",
@@ -67,7 +73,18 @@ pub const KINDS: [&str; 2 * FUNCTIONS.len() - 3] = [
     "moov_feature",
     "moov_peak",
     "moov_write_slip",
+    "moov_movie",
+    "moov_edits",
+    "step_start",
+    "moov_step_start",
+    "step",
+    "steps",
 ];
+
+/// The place of a function among `KINDS`.
+pub fn kind_of(name: &str) -> usize {
+    KINDS.iter().position(|kind| *kind == name).expect("the function has a name")
+}
 
 /// A film as the reference reads it.
 pub struct Film {
@@ -132,14 +149,15 @@ impl Question {
             Question::ReadSlip => 9,
             Question::WriteSlip { .. } => 10,
             Question::ReadAnySlip => 11,
+            Question::Movie => 12,
+            Question::Edits { .. } => 13,
         }
     }
 
     /// The place of the function that is called, among `KINDS`.
     pub fn kind(&self, way: Way) -> usize {
         let name = FUNCTIONS[self.place()].0;
-        let called = if way == Way::Whole { name.to_string() } else { format!("moov_{name}") };
-        KINDS.iter().position(|kind| *kind == called).expect("the way offers the question")
+        kind_of(&if way == Way::Whole { name.to_string() } else { format!("moov_{name}") })
     }
 
     pub fn places(&self) -> usize {
@@ -150,7 +168,7 @@ impl Question {
     pub fn is_wide(&self, way: Way) -> bool {
         match self {
             Question::Stretch { .. } => way != Way::Whole,
-            Question::ReadAnySlip => true,
+            Question::ReadAnySlip | Question::Edits { .. } => true,
             _ => false,
         }
     }
@@ -187,6 +205,11 @@ impl Question {
                 answer.places.push(stretch.bytes);
                 answer
             }
+            Question::Movie => only(&[movie.scale, movie.duration]),
+            Question::Edits { id } => {
+                let edits = movie.edit_list(id)?;
+                listed(edits.iter().map(|edit| [edit.duration, bits(edit.media_time), edit.rate]))
+            }
             Question::Profile { id } => {
                 let records = movie.stored_profile(id)?;
                 listed(records.into_iter().map(|record| [record.part_id, record.code, record.value]))
@@ -216,12 +239,17 @@ fn listed<const WIDTH: usize>(rows: impl Iterator<Item = [u64; WIDTH]>) -> Answe
     Answer { numbers: numbers.clone(), ..only(&[long(numbers.len() / WIDTH)]) }
 }
 
+/// A signed number as its bits.
+fn bits(signed: i64) -> u64 {
+    u64::from_ne_bytes(signed.to_ne_bytes())
+}
+
 /// A sample's numbers in the order of include/chaldoref.h, the composition time as its bits.
-fn sample_places(sample: &Sample) -> [u64; 8] {
+pub fn sample_places(sample: &Sample) -> [u64; 8] {
     [
         sample.decode_time,
         sample.duration,
-        u64::from_ne_bytes(sample.composition_time.to_ne_bytes()),
+        bits(sample.composition_time),
         u64::from(sample.is_sync),
         sample.description_id,
         sample.chunk,

@@ -5,6 +5,7 @@ use crate::counts::Counts;
 use crate::films::{Bytes, Comparison};
 use crate::options::Options;
 use crate::question::Way;
+use chaldoref::{Moov, MAX_FILE_BYTES};
 use reference::maker::{self, alone, limits, slips, Random};
 use reference::movie::MoovAlone;
 use reference::slip::MOST_PAIRS;
@@ -112,8 +113,22 @@ impl Run {
         Ok(())
     }
 
+    /// A film that is too long to be lent whole is asked by its moov alone.
     fn file(&mut self, name: &str) -> Result<(), String> {
-        let film = std::fs::read(name).map_err(|error| format!("{name}: {error}"))?;
+        let read = |error: &dyn std::fmt::Display| format!("{name}: {error}");
+        let file = std::fs::File::open(name).map_err(|error| read(&error))?;
+        if file.metadata().map_err(|error| read(&error))?.len() > MAX_FILE_BYTES {
+            let Moov { bytes, length, .. } = Moov::read(file).map_err(|error| read(&error))?;
+            let film = MoovAlone { moov: &bytes[..], length };
+            eprintln!("the moov of {name}: {}", reference::movie::refusal(&film));
+            return self.moov(
+                &mut Random::new(self.seed ^ OTHERS_SEED),
+                &format!("the moov of {name}"),
+                film,
+                FILE_ROUNDS,
+            );
+        }
+        let film = std::fs::read(name).map_err(|error| read(&error))?;
         eprintln!("{name}: {}", reference::movie::refusal(&film));
         let mut random = Random::new(self.seed ^ OTHERS_SEED);
         self.both_ways(&mut random, name, &film, FILE_ROUNDS)

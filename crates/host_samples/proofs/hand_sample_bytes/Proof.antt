@@ -1,10 +1,14 @@
 -- `host_samples::hand_sample_bytes` meets its contract, case by case of the answer.
 -- Assumes nothing.
 use borrow.Author.Needs.{needs}
-use Rattle.hand.proofs.Answered.{handed, of-case}
+use Rattle.hand.proofs.Answered.{handed}
 use Rattle.host_samples.specs.Numbers.{bytesNumbers}
+use Rattle.host_samples.proofs.Part.{of-whole}
 use Rattle.host_samples.proofs.hand_sample_bytes.Statement.{statement}
 use Rattle.host_samples.proofs.hand_sample_bytes.Tie as tie
+
+whole-requires : tie.Need-whole-requires
+whole-requires c κs = search needs
 
 sample-by-number-requires : tie.Need-sample-by-number-requires
 sample-by-number-requires c κs = search needs
@@ -37,7 +41,7 @@ returns : tie.Need-returns
 unfolding bytesNumbers
 returns c =
     handed _ _ _ _ _ _
-    (of-case bytesNumbers (c .before .before .before .before .before .before .before .before .before .sample-by-number .ensures .answer) (c .before .before .before .before .before .before .before .s .given .1))
+    (of-whole _ _ _ _ _ _ (c .before .before .before .before .before .before .before .before .before .before .whole .ensures) (c .before .before .before .before .before .before .before .before .before .sample-by-number .ensures .answer) (c .before .before .before .before .before .before .before .s .given .1))
     (c .before .before .hand .ensures)
 
 same-length-2 : tie.Need-same-length-2
@@ -47,13 +51,14 @@ returns-2 : tie.Need-returns-2
 unfolding bytesNumbers
 returns-2 c =
     handed _ _ _ _ _ _
-    (of-case bytesNumbers (c .before .before .before .before .before .before .before .before .sample-by-number .ensures .answer) (c .before .before .before .before .before .before .r .given .1))
+    (of-whole _ _ _ _ _ _ (c .before .before .before .before .before .before .before .before .before .whole .ensures) (c .before .before .before .before .before .before .before .before .sample-by-number .ensures .answer) (c .before .before .before .before .before .before .r .given .1))
     (c .before .before .hand2 .ensures)
 
 pub hand-sample-bytes-spec : {M : Type 1} → statement M
 hand-sample-bytes-spec =
     tie.close
     (tie.spec
+    whole-requires
     sample-by-number-requires
     enum-known-s
     cast-t12

@@ -3,7 +3,7 @@
 use borrow.Author.Needs.{needs}
 use mathlib.Core.Path.{refl}
 use Rattle.hand.proofs.Answered.{too-few, fills, of-case}
-use Rattle.stretch.specs.Slips.{slipRefusal, slipNumbers}
+use Rattle.slip_writing.specs.Slips.{slipRefusal, slipNumbers}
 use Rattle.host_written_slips.proofs.Judged.{slip-judged}
 use Rattle.host_written_slips.proofs.hand_written_slip.Statement.{statement}
 use Rattle.host_written_slips.proofs.hand_written_slip.Tie as tie

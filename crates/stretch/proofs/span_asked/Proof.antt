@@ -3,7 +3,7 @@
 use borrow.Author.Needs.{needs}
 use mathlib.Core.Path.{sym, ap, _∙_}
 use borrow.Author.Tests.{eq-eqb, ne-eqb}
-use Rattle.stretch.specs.Spans.{spanIn, spanAsked}
+use Rattle.stretch.specs.Spans.{spanAsked}
 use Rattle.stretch.proofs.Spanning.{usable}
 use Rattle.stretch.proofs.span_asked.Statement.{statement}
 use Rattle.stretch.proofs.span_asked.Tie as tie

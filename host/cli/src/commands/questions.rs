@@ -46,40 +46,6 @@ fn track_fields(o: &mut Object, t: &Track) -> io::Result<()> {
     o.time("stored", t.stored.0, t.scale).map(drop)
 }
 
-pub fn sample(movie: &Movie, track: TrackId, n: u32, to: Answer) -> Result<(), Failure> {
-    let s = movie.sample(track, n)?;
-    let scale = scale(movie, track)?;
-    if to.json {
-        return to.document(|o| {
-            o.put("track", track.0)?.put("sample", n)?;
-            o.time("decode", s.decode.0, scale)?.time("duration", s.duration, scale)?;
-            o.time("composition", s.composition, scale)?;
-            o.put("sync", s.sync)?.put("description", s.description)?;
-            o.put("chunk", s.chunk)?.put("offset", s.offset)?.put("size", s.size).map(drop)
-        });
-    }
-    let columns = [
-        number("sample"),
-        number("decode"),
-        CLOCK,
-        number("duration"),
-        number("composition"),
-        text("sync"),
-        number("description"),
-        number("chunk"),
-        number("offset"),
-        number("size"),
-    ];
-    let start = clock(s.decode, scale);
-    let sync = if s.sync { "yes" } else { "no" };
-    let [n, decode, duration] = [n, s.decode.0, s.duration].map(|n| n.to_string());
-    let [description, chunk, size] = [s.description, s.chunk, s.size].map(|n| n.to_string());
-    let offset = s.offset.to_string();
-    let composition = s.composition.to_string();
-    let row = [n, decode, start, duration, composition, sync.into(), description, chunk, offset, size];
-    Ok(table::write(to.out, columns, &[row], |row| row.clone())?)
-}
-
 pub fn sample_bytes(film: &Film, movie: &Movie, track: TrackId, n: u32, to: Answer) -> Result<(), Failure> {
     film.copy(&[movie.sample_range(track, n)?], to.out)
 }

@@ -6,7 +6,7 @@
 use super::features::{computed, peak_of};
 use super::lent::Film;
 use super::refusals::{in_media_scale, read, read_strictly};
-use super::tables::{Movie, Record, Sample, Track};
+use super::tables::{Edit, Movie, Record, Sample, Track};
 use crate::slip::{slip_writing, Head};
 use std::fmt::Debug;
 
@@ -60,6 +60,11 @@ impl Movie {
             list.push([tables.id, tables.subtype, tables.scale, track.total, long(n), long(c), long(edits), stored]);
         }
         list
+    }
+
+    /// Duration, media time and rate of each entry of a track's edit list, in order; none without a list.
+    pub fn edit_list(&self, id: u32) -> Result<Vec<Edit>, u32> {
+        Ok(self.track(id)?.tables.edits.clone().unwrap_or_default())
     }
 
     /// "the sample number is not in 1 to N"

@@ -92,6 +92,8 @@ pub struct TrackTables {
 #[derive(Clone, Debug)]
 pub struct MovieTables {
     pub scale: u64,
+    /// As mvhd stores it.
+    pub duration: u64,
     pub profile: Option<Vec<Record>>,
     pub tracks: Vec<TrackTables>,
 }
@@ -110,6 +112,8 @@ pub struct Track {
 #[derive(Clone, Debug, PartialEq)]
 pub struct Movie {
     pub scale: u64,
+    /// As mvhd stores it.
+    pub duration: u64,
     pub profile: Option<Vec<Record>>,
     pub tracks: Vec<Track>,
 }
@@ -267,6 +271,7 @@ fn track_tables(track: &TrackLeaves) -> TrackTables {
 pub fn movie_tables(movie: &MovieLeaves) -> MovieTables {
     MovieTables {
         scale: movie.mvhd.number(20),
+        duration: movie.mvhd.number(24),
         profile: profile(&movie.prfl),
         tracks: movie.tracks.iter().map(track_tables).collect(),
     }
@@ -364,5 +369,5 @@ pub fn written_out(movie: MovieTables) -> Movie {
         let total = samples.iter().map(|sample| sample.duration).sum();
         tracks.push(Track { samples, chunks: chunks(&tables), total, tables });
     }
-    Movie { scale: movie.scale, profile: movie.profile, tracks }
+    Movie { scale: movie.scale, duration: movie.duration, profile: movie.profile, tracks }
 }

@@ -59,6 +59,12 @@ fn files() -> Vec<(&'static str, u32, Vec<u8>)> {
     ]
 }
 
+/// W with the edits of document 02's example: "W with the edits (60,-1),(60,24)".
+fn w_edited() -> Vec<u8> {
+    let edited = Track { edits: Some(vec![(60, -1, 65536), (60, 24, 65536)]), ..w_track() };
+    Movie { tracks: vec![edited], ..w_movie() }.file_of(4096).bytes()
+}
+
 fn main() {
     let arguments: Vec<String> = std::env::args().collect();
     let [_, program, shown] = &arguments[..] else {
@@ -78,4 +84,5 @@ fn main() {
     std::fs::write(format!("{program}/stdout"), lines).unwrap();
     std::fs::write(format!("{shown}/w.mov"), film).unwrap();
     std::fs::write(format!("{shown}/two-hoses.mov"), two_hoses().bytes()).unwrap();
+    std::fs::write(format!("{shown}/w-edits.mov"), w_edited()).unwrap();
 }

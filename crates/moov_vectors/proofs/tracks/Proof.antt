@@ -1,0 +1,59 @@
+-- `moov_vectors::tracks` is safe and ends: its measure is how much of the list is left.
+-- Assumes nothing.
+use lib.ListN.{length}
+use borrow.Author.Needs.{needs}
+use Rattle.moov_vectors.proofs.tracks.Statement.{statement}
+use Rattle.moov_vectors.proofs.tracks.Tie as tie
+
+abbrev Inv-loop : tie.InvT-loop
+Inv-loop moov file list t₀ t = Unit {0}
+
+abbrev μ-loop : tie.MeasureT-loop
+μ-loop moov file list t₀ t = length t
+
+loop-holds : tie.Need-loop-holds Inv-loop μ-loop
+loop-holds c = search needs
+
+shared-slice-read-if1 : tie.Need-shared-slice-read-if1 Inv-loop μ-loop
+shared-slice-read-if1 c = search needs
+
+shared-slice-read-track : tie.Need-shared-slice-read-track Inv-loop μ-loop
+shared-slice-read-track c = search needs
+
+track-requires : tie.Need-track-requires Inv-loop μ-loop
+track-requires c κs = search needs
+
+sub-t : tie.Need-sub-t Inv-loop μ-loop
+sub-t c = search needs
+
+part-t-start : tie.Need-part-t-start Inv-loop μ-loop
+part-t-start c = search needs
+
+part-t-end : tie.Need-part-t-end Inv-loop μ-loop
+part-t-end c = search needs
+
+loop-less : tie.Need-loop-less Inv-loop μ-loop
+loop-less c = search needs
+
+loop-again : tie.Need-loop-again Inv-loop μ-loop
+loop-again c = search needs
+
+returns : tie.Need-returns Inv-loop μ-loop
+returns c = search needs
+
+pub tracks-spec : {M : Type 1} → statement M
+tracks-spec =
+    tie.close
+    (tie.spec
+    Inv-loop
+    μ-loop
+    loop-holds
+    shared-slice-read-if1
+    shared-slice-read-track
+    track-requires
+    sub-t
+    part-t-start
+    part-t-end
+    loop-less
+    loop-again
+    returns)

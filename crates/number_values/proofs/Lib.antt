@@ -1,0 +1,2 @@
+pub mod Values
+mod Lengths
