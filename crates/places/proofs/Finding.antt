@@ -69,6 +69,11 @@ first-same x wanted kind next e = rw e (go (eqb (x .len) 0))
 
 -- ---- three kinds
 
+-- inside an atom a size is read in one way
+pub inside-any : (p : ℕ) (t : List ℕ) → (p ≡ 0 → ⊥) → sizeIn kinds.trak t ≡ sizeIn p t
+unfolding sizeIn
+inside-any p t h = rw (ne-eqb p 0 h)
+
 pub same-three : (f : Three) (a b c kind : ℕ) (next : Part) → (eqb kind a || (eqb kind b || eqb kind c)) ≡ false → f ≡ withOne f a b c kind next
 same-three f a b c kind next e i =
     let r = or-right (eqb kind a) _ e in

@@ -66,8 +66,10 @@ fn with_one(f: Three, a: u32, b: u32, c: u32, kind: u32, next: Part) -> Three
     }
 }
 
-// The first atoms of the kinds a, b and c in the body of that parent, in one walk over its atoms.
+// The first atoms of the kinds a, b and c in the body of that parent, in one walk over its atoms. Inside an atom a size is read in one way, whatever
+// the parent: with a constant one the compiler leaves out the way of the top level.
 fn find_three(lent: &[u8], p: Part, parent: u32, a: u32, b: u32, c: u32) -> Three
+    requires { ⌜ (parent ≡ 0 → ⊥) ⌝ }
     ensures { λ r. ⌜ FindsThree (now (lent .entry)) parent a b c (partIn (now (lent .entry)) p) r ⌝ }
 {
     let body = part_of(lent, p);
@@ -80,7 +82,7 @@ fn find_three(lent: &[u8], p: Part, parent: u32, a: u32, b: u32, c: u32) -> Thre
         c: none,
     };
     loop {
-        let n = size_in(t, parent);
+        let n = size_in(t, kinds::TRAK);
         if n < 8 {
             return found;
         }

@@ -1,13 +1,11 @@
 // A sample by its number, and its bytes.
 use super::ask_refusal;
 use super::track_asked;
-use atoms::kinds;
 use bigendian::u32_at;
 use chunks::locate;
+use places::trak::parts_of;
 use runs::timing_of;
 use structure::source::Source;
-use structure::trak::offset_table;
-use structure::trak::table;
 use words::is_sync;
 use words::size_of;
 ghost use mathlib.Core.Path.{_≡_};
@@ -126,15 +124,16 @@ pub fn sample_by_number(lent: &[u8], source: Source, id: u32, n: u32) -> SampleA
         return SampleAnswer::Refused(refused);
     }
     let trak = track_asked(lent, id);
-    let stsz = table(trak, kinds::STSZ);
-    let offsets = offset_table(trak);
+    let p = parts_of(trak);
+    let stsz = places::part_of(trak, p.stsz);
+    let offsets = places::part_of(trak, p.offsets);
     sample_of(
-        table(trak, kinds::STTS),
-        table(trak, kinds::CTTS),
-        table(trak, kinds::STSC),
+        places::part_of(trak, p.stts),
+        places::part_of(trak, p.ctts),
+        places::part_of(trak, p.stsc),
         stsz,
         offsets,
-        table(trak, kinds::STSS),
+        places::part_of(trak, p.stss),
         u32_at(stsz, 16),
         u32_at(offsets, 12),
         n,

@@ -9,7 +9,7 @@ use lib.ListN.{length, length-drop}
 use Rattle.bigendian.proofs.Parts.{rest}
 use Rattle.places.specs.Places.{partIn}
 use Rattle.places.proofs.Parts.{At, part-at, at-front, at-next}
-use Rattle.places.proofs.Finding.{FindingThree, three-start, three-end, three-next}
+use Rattle.places.proofs.Finding.{FindingThree, three-start, three-end, three-next, inside-any}
 use Rattle.places.proofs.trak.find_three.Statement.{statement}
 use Rattle.places.proofs.trak.find_three.Tie as tie
 
@@ -31,7 +31,7 @@ size-in-requires c κs = tt
 returns : tie.Need-returns Inv-loop μ-loop
 returns c =
     let l = c .before .before in
-    rw (sym (l .before .part-of .ensures)) (three-end _ _ _ _ _ _ _ _ _ (c .before .size-in .ensures .0) (l .loop .inv .1) (c .if1 .taken))
+    rw (sym (l .before .part-of .ensures)) (three-end _ _ _ _ _ _ _ _ _ (c .before .size-in .ensures .0 ∙ inside-any _ _ (l .before .before .before .pre)) (l .loop .inv .1) (c .if1 .taken))
 
 u32-at-requires : tie.Need-u32-at-requires Inv-loop μ-loop
 u32-at-requires c κs = tt
@@ -73,7 +73,7 @@ loop-again c =
     rw (rest n t) (
       at-next _ t (l .at) n (l .inv .0) h,
       rw (w .with-one .ensures, w .before .u32-at .ensures)
-          (three-next _ _ _ _ _ _ t (l .found) n (z .size-in .ensures .0) (l .inv .1) (c .before .before .before .if1 .left) _ refl (at-front _ t (l .at) n (l .inv .0) h)),
+          (three-next _ _ _ _ _ _ t (l .found) n (z .size-in .ensures .0 ∙ inside-any _ t (z .before .before .before .before .pre)) (l .inv .1) (c .before .before .before .if1 .left) _ refl (at-front _ t (l .at) n (l .inv .0) h)),
     )
 
 pub find-three-spec : {M : Type 1} → statement M

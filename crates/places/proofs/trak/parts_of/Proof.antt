@@ -1,23 +1,24 @@
 -- `places::trak::parts_of` meets its contract: what the walks find is what the definitions name.
 -- Assumes nothing.
+use native.Mathlib.Omega.{arith}
 use Rattle.places.proofs.Finding.{are-parts}
 use Rattle.places.proofs.trak.parts_of.Statement.{statement}
 use Rattle.places.proofs.trak.parts_of.Tie as tie
 
 find-three-requires : tie.Need-find-three-requires
-find-three-requires c κs = tt
+find-three-requires c κs = λ e. omega arith
 
 body-part-requires : tie.Need-body-part-requires
 body-part-requires c κs = tt
 
 find-three-requires-2 : tie.Need-find-three-requires-2
-find-three-requires-2 c κs = tt
+find-three-requires-2 c κs = λ e. omega arith
 
 body-part-requires-2 : tie.Need-body-part-requires-2
 body-part-requires-2 c κs = tt
 
 find-three-requires-3 : tie.Need-find-three-requires-3
-find-three-requires-3 c κs = tt
+find-three-requires-3 c κs = λ e. omega arith
 
 body-part-requires-3 : tie.Need-body-part-requires-3
 body-part-requires-3 c κs = tt
