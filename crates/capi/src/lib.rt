@@ -2,6 +2,7 @@
 // puts the values into lent places, in the order of the documents. Each is one call: a function that is exported must stand in this crate.
 mod handles;
 mod moov;
+mod steps;
 
 use host_any_slips::hand_read_any_slip;
 use host_features::hand_feature;
