@@ -9,18 +9,20 @@ use native.Mathlib.Decide.{ℕ-discrete}
 use borrow.Author.Tests.{eq-eqb, ne-eqb}
 use lib.Dec.{eqb}
 use lib.ListN.{length, take, drop}
-use lib.Seq.{take-length}
 use Rattle.lists.proofs.Booleans.{or-left, or-right}
 use Rattle.bigendian.specs.BigEndian.{u32At}
 use Rattle.atoms.specs.Kinds as kinds
-use Rattle.atoms.specs.Atoms.{bodyOf, sizeIn, childIn}
+use Rattle.atoms.specs.Atoms.{bodyOf, sizeIn, atoms, childIn}
 use Rattle.atoms.proofs.Laws.{child-none, child-here, child-next}
-use Rattle.structure.specs.Track.{mdiaOf, minfOf, stblOf, tableOf, offsetTable, elstOf, drefOf}
+use Rattle.structure.specs.Track.{mdiaOf, minfOf, stblOf, tableOf, offsetTable, elstOf, drefOf, profileOf}
+use Rattle.structure.specs.Profile.{firstBefore, ofVersion0, profileIn}
+use Rattle.structure.proofs.Places.{profile-none, profile-head, profile-here, profile-next}
 use Rattle.places.specs.Places.{partIn, AreTables, AreParts}
-use Rattle.places.specs.Finding.{firstPart, nothing, noTables, NoTable, withAtom, offsetsIn, Finds, withOne, FindsThree}
+use Rattle.places.specs.Finding.{firstPart, nothing, noTables, NoTable, withAtom, offsetsIn, Finds, withOne, FindsThree, NoHead, firstProfile, withHead, FindsHeads}
 use Rattle.places.specs.declared.Part.{Part}
 use Rattle.places.specs.declared.tables.Found.{Found}
 use Rattle.places.specs.declared.trak.Three.{Three}
+use Rattle.places.specs.declared.trak.Heads.{Heads}
 
 pub not-left : true ≡ false → ⊥
 not-left e = let z : _≡_ {A = ℕ} 0 1 = ap (λ b. cond b 0 1) e in omega arith
@@ -101,6 +103,107 @@ module _ (s : List ℕ) (p a b c : ℕ) (body t : List ℕ) (f : Three) (n : ℕ
   three-next h next l g =
       let v = seeks-next s p body t n e h next l g in
       record { a-seeks = v a (f .a) (w .a-seeks); b-seeks = v b (f .b) (w .b-seeks); c-seeks = v c (f .c) (w .c-seeks) }
+
+-- ---- a trak
+
+pub same-heads : (f : Heads) (kind : ℕ) (next : Part) → NoHead kind → f ≡ withHead f kind next
+same-heads f kind next n i =
+    record {
+      tkhd = first-same (f .tkhd) kinds.tkhd kind next (n .tkhd) i;
+      mdia = first-same (f .mdia) kinds.mdia kind next (n .mdia) i;
+      edts = first-same (f .edts) kinds.edts kind next (n .edts) i;
+      prfl = profile-same (eqb (f .tkhd .len) 0) (first-same (f .prfl) kinds.prfl kind next (n .prfl)) i;
+    }
+  where
+    profile-same : (b : Bool) → f .prfl ≡ firstPart (f .prfl) kinds.prfl kind next → f .prfl ≡ cond b (firstPart (f .prfl) kinds.prfl kind next) (f .prfl)
+    profile-same true e = e
+    profile-same false e = refl
+
+-- the profile, before the rest t of the trak: found, passed by, or still to be found in t
+pub record SeeksProfile (s t : List ℕ) (x y : Part) : Type 0 where
+  pub ahead : x .len ≡ 0 → y .len ≡ 0 → firstBefore kinds.tkhd (atoms kinds.trak t) ≡ firstBefore kinds.tkhd (atoms kinds.trak s)
+  pub found : (y .len ≡ 0 → ⊥) → partIn s y ≡ firstBefore kinds.tkhd (atoms kinds.trak s)
+  pub none : (x .len ≡ 0 → ⊥) → y .len ≡ 0 → firstBefore kinds.tkhd (atoms kinds.trak s) ≡ []
+
+pub record FindingHeads (s t : List ℕ) (f : Heads) : Type 0 where
+  pub tkhd : Seeks s kinds.trak s t kinds.tkhd (f .tkhd)
+  pub mdia : Seeks s kinds.trak s t kinds.mdia (f .mdia)
+  pub edts : Seeks s kinds.trak s t kinds.edts (f .edts)
+  pub prfl : SeeksProfile s t (f .tkhd) (f .prfl)
+
+pub heads-start : (s : List ℕ) → FindingHeads s s (record { tkhd = nothing; mdia = nothing; edts = nothing; prfl = nothing })
+heads-start s =
+    let n = seeks-none s kinds.trak s in
+    record {
+      tkhd = n kinds.tkhd;
+      mdia = n kinds.mdia;
+      edts = n kinds.edts;
+      prfl = record { ahead = λ a b. refl; found = λ a. absurd (a refl); none = λ a b. absurd (a refl) };
+    }
+
+module _ (s t : List ℕ) (n : ℕ) (e : n ≡ sizeIn kinds.trak t) where
+  profile-end : n < 8 → (x y : Part) → SeeksProfile s t x y → partIn s y ≡ firstBefore kinds.tkhd (atoms kinds.trak s)
+  unfolding partIn
+  profile-end h x y q = elim (ℕ-discrete (y .len) 0) [
+    | yes z ↦ elim (ℕ-discrete (x .len) 0) [
+      | yes v ↦ rw z (sym (profile-none kinds.trak kinds.tkhd t n e h) ∙ q .ahead v z)
+      | no v ↦ rw z (sym (q .none v z))
+    ]
+    | no z ↦ q .found z
+  ]
+
+  profile-step : 8 ≤ n → (next : Part) → next .len ≡ n → partIn s next ≡ take n t → (x y : Part) → SeeksProfile s t x y
+      → SeeksProfile s (drop n t) (firstPart x kinds.tkhd (u32At t 4) next) (firstProfile x y (u32At t 4) next)
+  profile-step h next l g x y q = elim (ℕ-discrete (x .len) 0) [
+    | no v ↦ rw (ne-eqb (x .len) 0 v) (record { ahead = λ a b. absurd (v a); found = q .found; none = q .none })
+    | yes v ↦ elim (ℕ-discrete (y .len) 0) [
+      | no z ↦
+          rw (eq-eqb (x .len) 0 v, ne-eqb (y .len) 0 z) (record { ahead = λ a b. absurd (z b); found = q .found; none = λ a b. absurd (z b) })
+      | yes z ↦ elim (ℕ-discrete (u32At t 4) kinds.tkhd) [
+        | yes k ↦
+            rw (eq-eqb (x .len) 0 v, eq-eqb (y .len) 0 z, eq-eqb (u32At t 4) kinds.tkhd k, ne-eqb (u32At t 4) kinds.prfl (λ a. omega (arith, k, a))) (record {
+              ahead = λ a b. absurd (omega arith);
+              found = λ a. absurd (a z);
+              none = λ a b. sym (q .ahead v z) ∙ profile-head kinds.trak kinds.tkhd t n e h k;
+            })
+        | no k ↦ elim (ℕ-discrete (u32At t 4) kinds.prfl) [
+          | yes j ↦
+              rw (eq-eqb (x .len) 0 v, eq-eqb (y .len) 0 z, ne-eqb (u32At t 4) kinds.tkhd k, eq-eqb (u32At t 4) kinds.prfl j) (record {
+                ahead = λ a b. absurd (omega arith);
+                found = λ a. g ∙ sym (profile-here kinds.trak kinds.tkhd t n e h k j) ∙ q .ahead v z;
+                none = λ a b. absurd (a v);
+              })
+          | no j ↦
+              rw (eq-eqb (x .len) 0 v, eq-eqb (y .len) 0 z, ne-eqb (u32At t 4) kinds.tkhd k, ne-eqb (u32At t 4) kinds.prfl j) (record {
+                ahead = λ a b. sym (profile-next kinds.trak kinds.tkhd t n e h k j) ∙ q .ahead v z;
+                found = λ a. absurd (a z);
+                none = λ a b. absurd (a v);
+              })
+        ]
+      ]
+    ]
+  ]
+
+  pub heads-end : n < 8 → (f : Heads) → FindingHeads s t f → FindsHeads s f
+  heads-end h f w =
+      let v = seeks-end s kinds.trak s t n e h in
+      record {
+        tkhd = v kinds.tkhd (f .tkhd) (w .tkhd);
+        mdia = v kinds.mdia (f .mdia) (w .mdia);
+        edts = v kinds.edts (f .edts) (w .edts);
+        prfl = profile-end h (f .tkhd) (f .prfl) (w .prfl);
+      }
+
+  pub heads-next : 8 ≤ n → (f : Heads) → FindingHeads s t f → (next : Part) → next .len ≡ n → partIn s next ≡ take n t
+      → FindingHeads s (drop n t) (withHead f (u32At t 4) next)
+  heads-next h f w next l g =
+      let v = seeks-next s kinds.trak s t n e h next l g in
+      record {
+        tkhd = v kinds.tkhd (f .tkhd) (w .tkhd);
+        mdia = v kinds.mdia (f .mdia) (w .mdia);
+        edts = v kinds.edts (f .edts) (w .edts);
+        prfl = profile-step h next l g (f .tkhd) (f .prfl) (w .prfl);
+      }
 
 -- ---- the tables of an stbl
 
@@ -199,20 +302,17 @@ module _ (s t body : List ℕ) (f : Found) (p : Part) (e : body ≡ stblOf t) (q
     stss = q .stss ∙ table-is kinds.stss;
   }
 
-whole-part : (t : List ℕ) → partIn t (record { at = 0; len = length t }) ≡ t
-unfolding partIn
-whole-part t = take-length t
-
 -- from what the walks over the containers find
-module _ (t : List ℕ) (x y z : Three) (f : Found) (in-mdia in-minf in-stbl in-edts in-dinf elst dref offsets : Part)
-    (found-trak : FindsThree t kinds.trak kinds.tkhd kinds.mdia kinds.edts (partIn t (record { at = 0; len = length t })) x)
-    (mdia : partIn t in-mdia ≡ bodyOf (partIn t (x .b)))
+module _ (t : List ℕ) (x : Heads) (y z : Three) (f : Found) (in-mdia in-minf in-stbl in-edts in-dinf profile elst dref offsets : Part)
+    (found-trak : FindsHeads t x)
+    (version : partIn t profile ≡ ofVersion0 (partIn t (x .prfl)))
+    (mdia : partIn t in-mdia ≡ bodyOf (partIn t (x .mdia)))
     (found-mdia : FindsThree t kinds.mdia kinds.mdhd kinds.hdlr kinds.minf (partIn t in-mdia) y)
     (minf : partIn t in-minf ≡ bodyOf (partIn t (y .c)))
     (found-minf : FindsThree t kinds.minf kinds.stbl kinds.dinf kinds.dinf (partIn t in-minf) z)
     (stbl : partIn t in-stbl ≡ bodyOf (partIn t (z .a)))
     (found-stbl : Finds t (partIn t in-stbl) f)
-    (edts : partIn t in-edts ≡ bodyOf (partIn t (x .c)))
+    (edts : partIn t in-edts ≡ bodyOf (partIn t (x .edts)))
     (found-elst : partIn t elst ≡ childIn kinds.edts kinds.elst 0 (partIn t in-edts))
     (dinf : partIn t in-dinf ≡ bodyOf (partIn t (z .b)))
     (found-dref : partIn t dref ≡ childIn kinds.dinf kinds.dref 0 (partIn t in-dinf))
@@ -220,7 +320,7 @@ module _ (t : List ℕ) (x y z : Three) (f : Found) (in-mdia in-minf in-stbl in-
   where
     is-mdia : partIn t in-mdia ≡ mdiaOf t
     unfolding mdiaOf
-    is-mdia = mdia ∙ ap bodyOf (found-trak .b-first ∙ ap (childIn kinds.trak kinds.mdia 0) (whole-part t))
+    is-mdia = mdia ∙ ap bodyOf (found-trak .mdia)
 
     is-minf : partIn t in-minf ≡ minfOf t
     unfolding minfOf
@@ -231,7 +331,8 @@ module _ (t : List ℕ) (x y z : Three) (f : Found) (in-mdia in-minf in-stbl in-
     is-stbl = stbl ∙ ap bodyOf (found-minf .a-first ∙ ap (childIn kinds.minf kinds.stbl 0) is-minf)
 
     pub are-parts : AreParts t (record {
-      tkhd = x .a;
+      tkhd = x .tkhd;
+      profile = profile;
       mdhd = y .a;
       hdlr = y .b;
       elst = elst;
@@ -244,16 +345,17 @@ module _ (t : List ℕ) (x y z : Three) (f : Found) (in-mdia in-minf in-stbl in-
       offsets = offsets;
       stss = f .stss;
     })
-    unfolding elstOf drefOf
+    unfolding elstOf drefOf profileOf profileIn
     are-parts =
         let w = table-is t t (partIn t in-stbl) f offsets is-stbl found-stbl chosen in
         record {
-          tkhd = found-trak .a-first ∙ ap (childIn kinds.trak kinds.tkhd 0) (whole-part t);
+          tkhd = found-trak .tkhd;
+          profile = version ∙ ap ofVersion0 (found-trak .prfl);
           mdhd = found-mdia .a-first ∙ ap (childIn kinds.mdia kinds.mdhd 0) is-mdia;
           hdlr = found-mdia .b-first ∙ ap (childIn kinds.mdia kinds.hdlr 0) is-mdia;
           elst =
               found-elst
-              ∙ ap (λ (l : List ℕ). childIn kinds.edts kinds.elst 0 l) (edts ∙ ap bodyOf (found-trak .c-first ∙ ap (childIn kinds.trak kinds.edts 0) (whole-part t)));
+              ∙ ap (λ (l : List ℕ). childIn kinds.edts kinds.elst 0 l) (edts ∙ ap bodyOf (found-trak .edts));
           dref =
               found-dref
               ∙ ap (λ (l : List ℕ). childIn kinds.dinf kinds.dref 0 l) (dinf ∙ ap bodyOf (found-minf .b-first ∙ ap (childIn kinds.minf kinds.dinf 0) is-minf));

@@ -6,7 +6,7 @@ use mathlib.Core.List.{List, [], _∷_}
 use native.Mathlib.Omega.{arith}
 use native.Mathlib.Decide.{ℕ-discrete, decLe}
 use lib.ListN.{length, take, drop, length-take, length-drop, drop-of-length-le}
-use lib.Seq.{drop-drop}
+use lib.Seq.{drop-drop, take-length}
 use Rattle.lists.proofs.Cuts.{drop-take}
 use Rattle.atoms.specs.Atoms.{headerOf, bodyOf}
 use Rattle.places.specs.Places.{partIn}
@@ -34,6 +34,9 @@ part-at s p = record {
   here = take-min (p .len) (drop (p .at) s);
   ends = λ h. omega (arith, length-take (p .len) (drop (p .at) s), length-drop (p .at) s);
 }
+
+pub at-whole : (s : List ℕ) → At s s 0
+at-whole s = record { here = take-length s; ends = λ h. omega arith }
 
 -- the first n bytes of what stands there
 pub at-front : (s t : List ℕ) (at n : ℕ) → At s t at → n ≤ length t → take n (drop at s) ≡ take n t

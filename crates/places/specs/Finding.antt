@@ -6,11 +6,13 @@ use mathlib.Core.List.{List}
 use lib.ListN.{length}
 use lib.Dec.{eqb}
 use Rattle.atoms.specs.Kinds as kinds
-use Rattle.atoms.specs.Atoms.{childIn}
+use Rattle.atoms.specs.Atoms.{atoms, childIn}
+use Rattle.structure.specs.Profile.{firstBefore}
 use Rattle.places.specs.Places.{partIn}
 use Rattle.places.specs.declared.Part.{Part}
 use Rattle.places.specs.declared.tables.Found.{Found}
 use Rattle.places.specs.declared.trak.Three.{Three}
+use Rattle.places.specs.declared.trak.Heads.{Heads}
 
 -- the first part of a kind: the one found, or the next one if it is of that kind
 abbrev pub firstPart : Part → ℕ → ℕ → Part → Part
@@ -76,3 +78,31 @@ pub record FindsThree (s : List ℕ) (p a b c : ℕ) (body : List ℕ) (f : Thre
   pub a-first : partIn s (f .a) ≡ childIn p a 0 body
   pub b-first : partIn s (f .b) ≡ childIn p b 0 body
   pub c-first : partIn s (f .c) ≡ childIn p c 0 body
+
+-- a trak
+
+pub record NoHead (kind : ℕ) : Type 0 where
+  pub tkhd : eqb kind kinds.tkhd ≡ false
+  pub mdia : eqb kind kinds.mdia ≡ false
+  pub edts : eqb kind kinds.edts ≡ false
+  pub prfl : eqb kind kinds.prfl ≡ false
+
+-- no more once there is a tkhd
+abbrev pub firstProfile : Part → Part → ℕ → Part → Part
+firstProfile tkhd found kind next = cond (eqb (tkhd .len) 0) (firstPart found kinds.prfl kind next) found
+
+abbrev pub withHead : Heads → ℕ → Part → Heads
+withHead f kind next =
+    record {
+      tkhd = firstPart (f .tkhd) kinds.tkhd kind next;
+      mdia = firstPart (f .mdia) kinds.mdia kind next;
+      edts = firstPart (f .edts) kinds.edts kind next;
+      prfl = firstProfile (f .tkhd) (f .prfl) kind next;
+    }
+
+-- each part is the first atom of its kind in the trak with the body t, and the profile the first before its tkhd
+pub record FindsHeads (t : List ℕ) (f : Heads) : Type 0 where
+  pub tkhd : partIn t (f .tkhd) ≡ childIn kinds.trak kinds.tkhd 0 t
+  pub mdia : partIn t (f .mdia) ≡ childIn kinds.trak kinds.mdia 0 t
+  pub edts : partIn t (f .edts) ≡ childIn kinds.trak kinds.edts 0 t
+  pub prfl : partIn t (f .prfl) ≡ firstBefore kinds.tkhd (atoms kinds.trak t)

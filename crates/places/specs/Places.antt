@@ -5,7 +5,7 @@ use mathlib.Core.List.{List}
 use lib.ListN.{take, drop}
 use Rattle.atoms.specs.Kinds as kinds
 use Rattle.atoms.specs.Atoms.{childIn}
-use Rattle.structure.specs.Track.{mdiaOf, tableOf, offsetTable, elstOf, drefOf}
+use Rattle.structure.specs.Track.{mdiaOf, tableOf, offsetTable, elstOf, drefOf, profileOf}
 use Rattle.places.specs.declared.Part.{Part}
 use Rattle.places.specs.declared.tables.Tables.{Tables}
 use Rattle.places.specs.declared.trak.Parts.{Parts}
@@ -26,6 +26,7 @@ pub record AreTables (s t : List ℕ) (p : Tables) : Type 0 where
 -- the parts are those of the trak with the body t, as places in t
 pub record AreParts (t : List ℕ) (p : Parts) : Type 0 where
   pub tkhd : partIn t (p .tkhd) ≡ childIn kinds.trak kinds.tkhd 0 t
+  pub profile : partIn t (p .profile) ≡ profileOf t
   pub mdhd : partIn t (p .mdhd) ≡ childIn kinds.mdia kinds.mdhd 0 (mdiaOf t)
   pub hdlr : partIn t (p .hdlr) ≡ childIn kinds.mdia kinds.hdlr 0 (mdiaOf t)
   pub elst : partIn t (p .elst) ≡ elstOf t

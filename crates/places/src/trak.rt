@@ -8,16 +8,19 @@ use super::tables::chosen;
 use super::tables::find_tables;
 use atoms::kinds;
 use atoms::size_in;
+use bigendian::byte_at;
 use bigendian::u32_at;
 ghost use mathlib.Core.Path.{_≡_};
-ghost use mathlib.Core.Bool.{_||_};
+ghost use mathlib.Core.Bool.{false, _||_};
 ghost use lib.Dec.{eqb};
+ghost use Rattle.structure.specs.Profile.{ofVersion0};
 ghost use Rattle.places.specs.Places.{partIn, AreParts};
-ghost use Rattle.places.specs.Finding.{nothing, withOne, FindsThree};
+ghost use Rattle.places.specs.Finding.{withOne, FindsThree, NoHead, firstProfile, withHead, FindsHeads};
 
 // Each with its header, and empty where it is absent, as places in the body of the trak. The offsets are those of stco, and where there is none those of co64.
 pub struct Parts {
     pub tkhd: Part,
+    pub profile: Part,
     pub mdhd: Part,
     pub hdlr: Part,
     pub elst: Part,
@@ -92,25 +95,95 @@ fn find_three(lent: &[u8], p: Part, parent: u32, a: u32, b: u32, c: u32) -> Thre
     }
 }
 
+// What the walk over a trak has found: the first atoms of three kinds, and the first prfl before the tkhd.
+pub(crate) struct Heads {
+    pub tkhd: Part,
+    pub mdia: Part,
+    pub edts: Part,
+    pub prfl: Part,
+}
+
+// Whether the walk looks for atoms of that kind. It passes over all others at once.
+fn is_head(kind: u32) -> bool
+    ensures { λ r. ⌜ (r ≡ false → NoHead kind) ⌝ }
+{
+    match kind {
+        kinds::TKHD | kinds::MDIA | kinds::EDTS | kinds::PRFL => true,
+        _ => false,
+    }
+}
+
+// The first prfl before the tkhd.
+fn first_profile(tkhd: Part, found: Part, kind: u32, next: Part) -> Part
+    ensures { λ r. ⌜ r ≡ firstProfile tkhd found kind next ⌝ }
+{
+    if tkhd.len != 0 {
+        return found;
+    }
+    first_part(found, kinds::PRFL, kind, next)
+}
+
+fn with_head(f: Heads, kind: u32, next: Part) -> Heads
+    ensures { λ r. ⌜ r ≡ withHead f kind next ⌝ }
+{
+    if !is_head(kind) {
+        return f;
+    }
+    let tkhd = f.tkhd;
+    let mdia = f.mdia;
+    let edts = f.edts;
+    let prfl = f.prfl;
+    Heads {
+        tkhd: first_part(tkhd, kinds::TKHD, kind, next),
+        mdia: first_part(mdia, kinds::MDIA, kind, next),
+        edts: first_part(edts, kinds::EDTS, kind, next),
+        prfl: first_profile(tkhd, prfl, kind, next),
+    }
+}
+
+// The same of the whole trak, in one walk over its atoms.
+fn find_heads(trak: &[u8]) -> Heads
+    ensures { λ r. ⌜ FindsHeads (now (trak .entry)) r ⌝ }
+{
+    let mut t = trak;
+    let mut at: usize = 0;
+    let none = Part { at: 0, len: 0 };
+    let mut found = Heads {
+        tkhd: none,
+        mdia: none,
+        edts: none,
+        prfl: none,
+    };
+    loop {
+        let n = size_in(t, kinds::TRAK);
+        if n < 8 {
+            return found;
+        }
+        found = with_head(found, u32_at(t, 4), Part { at, len: n });
+        at += n;
+        t = &t[n..];
+    }
+}
+
+// A profile of version 0; of another version there is none.
+fn of_version_0(trak: &[u8], prfl: Part) -> Part
+    ensures { λ r. ⌜ partIn (now (trak .entry)) r ≡ ofVersion0 (partIn (now (trak .entry)) prfl) ⌝ }
+{
+    if byte_at(part_of(trak, prfl), 8) == 0 {
+        return prfl;
+    }
+    Part { at: 0, len: 0 }
+}
+
 // The parts of the trak with that body.
 pub fn parts_of(trak: &[u8]) -> Parts
     ensures { λ r. ⌜ AreParts (now (trak .entry)) r ⌝ }
 {
-    let whole = Part {
-        at: 0,
-        len: trak.len(),
-    };
-    let in_trak = find_three(
-        trak,
-        whole,
-        kinds::TRAK,
-        kinds::TKHD,
-        kinds::MDIA,
-        kinds::EDTS,
-    );
-    let tkhd = in_trak.a;
-    let mdia = in_trak.b;
-    let edts = in_trak.c;
+    let heads = find_heads(trak);
+    let tkhd = heads.tkhd;
+    let mdia = heads.mdia;
+    let edts = heads.edts;
+    let prfl = heads.prfl;
     let in_mdia = find_three(
         trak,
         body_part(trak, mdia),
@@ -143,6 +216,7 @@ pub fn parts_of(trak: &[u8]) -> Parts
     let stss = found.stss;
     Parts {
         tkhd,
+        profile: of_version_0(trak, prfl),
         mdhd,
         hdlr,
         elst: child_part(trak, body_part(trak, edts), kinds::EDTS, kinds::ELST, 0),

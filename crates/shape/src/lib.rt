@@ -7,13 +7,13 @@ use leaf_checks::is_profile_sized;
 use leaf_checks::is_wrong_track_size;
 use limits::is_over_limits;
 use limits::is_too_many;
+use places::part_of;
 use places::trak::parts_of;
 use presence::both;
 use structure::earlier_of;
 use structure::either;
 use structure::moov::moov_body;
 use structure::source::Source;
-use structure::trak::track_profile;
 use tree::check_tree;
 ghost use mathlib.Core.Path.{_≡_};
 ghost use Rattle.structure.specs.Rows.{ofWhole};
@@ -88,7 +88,7 @@ fn track_refusal(trak: &[u8], wide: bool) -> u32
     ensures { λ r. ⌜ r ≡ ofTrack (movieRows wide) (now (trak .entry)) ⌝ }
 {
     let parts = parts_of(trak);
-    let profile = track_profile(trak);
+    let profile = part_of(trak, parts.profile);
     if is_wrong_track_size(trak, parts, profile) {
         return 5;
     }

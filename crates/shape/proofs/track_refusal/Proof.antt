@@ -1,5 +1,6 @@
 -- `shape::track_refusal` meets its contract: the tests that led to a return say which rows do not hold.
 -- Assumes nothing.
+use mathlib.Core.Path.{_∙_}
 use Rattle.structure.specs.Rows.{first}
 use Rattle.shape.specs.MovieRows.{movieRows}
 use Rattle.shape.proofs.track_refusal.Statement.{statement}
@@ -8,18 +9,21 @@ use Rattle.shape.proofs.track_refusal.Tie as tie
 parts-of-requires : tie.Need-parts-of-requires
 parts-of-requires c κs = tt
 
-track-profile-requires : tie.Need-track-profile-requires
-track-profile-requires c κs = tt
+part-of-requires : tie.Need-part-of-requires
+part-of-requires c κs = tt
 
 is-wrong-track-size-requires : tie.Need-is-wrong-track-size-requires
-is-wrong-track-size-requires c κs = (c .before .parts-of .ensures, c .track-profile .ensures)
+is-wrong-track-size-requires c κs = let h = c .before .parts-of .ensures in (h, c .part-of .ensures ∙ h .profile)
 
 returns : tie.Need-returns
 unfolding movieRows first
 returns c = simp (← c .before .is-wrong-track-size .ensures, c .if1 .taken)
 
 is-over-limits-requires : tie.Need-is-over-limits-requires
-is-over-limits-requires c κs = let p = c .before .before in (p .before .parts-of .ensures, p .track-profile .ensures)
+is-over-limits-requires c κs =
+    let p = c .before .before in
+    let h = p .before .parts-of .ensures in
+    (h, p .part-of .ensures ∙ h .profile)
 
 returns-2 : tie.Need-returns-2
 unfolding movieRows first
@@ -36,4 +40,4 @@ returns-3 c =
 pub track-refusal-spec : {M : Type 1} → statement M
 track-refusal-spec =
     tie.close
-    (tie.spec parts-of-requires track-profile-requires is-wrong-track-size-requires returns is-over-limits-requires returns-2 returns-3)
+    (tie.spec parts-of-requires part-of-requires is-wrong-track-size-requires returns is-over-limits-requires returns-2 returns-3)
