@@ -56,6 +56,37 @@ pub groups-count : (n : ℕ) → (0 < length (groups n)) × (length (groups n) �
 unfolding groups
 groups-count n = (groups-some 9 n, groups-few 9 n)
 
+-- a number of few groups has as many as its size says
+length-turn : (k n : ℕ) → 128 ≤ n → length (groupsIn (suc k) n) ≡ suc (length (groupsIn k (n / 128)))
+length-turn k n h = ap length (groups-more k n h)
+
+length-last : (k n : ℕ) → n < 128 → length (groupsIn k n) ≡ 1
+length-last k n h = ap length (groups-one k n h)
+
+pub length-one : (n : ℕ) → n < 128 → 1 ≡ length (groups n)
+unfolding groups
+length-one n h = omega (arith, length-last 9 n h)
+
+pub length-two : (n : ℕ) → 128 ≤ n → n < 16384 → 2 ≡ length (groups n)
+unfolding groups
+length-two n l h = omega (arith, length-turn 8 n l, length-last 8 (n / 128) (omega arith))
+
+pub length-three : (n : ℕ) → 16384 ≤ n → n < 2097152 → 3 ≡ length (groups n)
+unfolding groups
+length-three n l h =
+    omega (arith, length-turn 8 n (omega arith), length-turn 7 (n / 128) (omega arith), length-last 7 (n / 128 / 128) (omega arith))
+
+pub length-four : (n : ℕ) → 2097152 ≤ n → n < 268435456 → 4 ≡ length (groups n)
+unfolding groups
+length-four n l h =
+    omega (
+      arith,
+      length-turn 8 n (omega arith),
+      length-turn 7 (n / 128) (omega arith),
+      length-turn 6 (n / 128 / 128) (omega arith),
+      length-last 6 (n / 128 / 128 / 128) (omega arith),
+    )
+
 -- one turn of a loop that writes a number: a group with the top bit, and what is left
 pub groups-turn : (k n : ℕ) → n < limit k 128 → 128 ≤ n → (j : ℕ) × (n / 128 < limit j 128) × (groupsIn k n ≡ (128 + n % 128) ∷ groupsIn j (n / 128))
 unfolding limit

@@ -3,4 +3,3 @@ pub mod Groups
 pub mod Readings
 pub mod Pieces
 pub mod Puts
-pub mod Quick

@@ -3,7 +3,7 @@
 use mathlib.Core.Bool.{Bool, cond}
 use mathlib.Core.List.{List, [], _∷_}
 use Prim.Native.Nat.{ℕ, zero, suc, _+_, _-_, _*_}
-use lib.Dec.{ltb, leb, eqb}
+use lib.Dec.{ltb, eqb}
 use lib.ListN.{length, drop}
 use Rattle.leb128.specs.declared.number.NumberRead.{NumberRead}
 use Rattle.leb128.specs.declared.number.NumberRead.the-variants.{Good, Broken, Short}
@@ -46,13 +46,3 @@ moreOf wide = cond wide 9 4
 
 abbrev pub topOf : Bool → ℕ
 topOf wide = cond wide 2 16
-
--- eight times a good number and how many bytes it has; 0 for any other
-unfoldable pub packed : ℕ → NumberRead → ℕ
-packed at (Good n next) = 8 * n + (next - at)
-packed at (Broken p) = 0
-packed at (Short p) = 0
-
--- the same of a number of at most four groups, where four bytes are there
-unfoldable pub quickOf : List ℕ → ℕ → ℕ
-quickOf bs at = cond (leb (at + 4) (length bs)) (packed at (readAt 3 128 bs at)) 0

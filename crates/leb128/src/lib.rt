@@ -4,7 +4,6 @@ pub mod write;
 
 pub use number::NumberRead;
 pub use number::number_at;
-pub use number::quick_at;
 pub use write::number_len;
 pub use write::put_number;
 pub use write::store_number;

@@ -2,8 +2,7 @@
 ghost use mathlib.Core.Path.{_≡_};
 ghost use Prim.Native.Nat.{_+_, _*_, _≤_, _<_, _^_};
 ghost use lib.Dec.{eqb};
-ghost use lib.ListN.{length, getD};
-ghost use Rattle.leb128.specs.Reading.{limit, moreOf, topOf, readAt, quickOf};
+ghost use Rattle.leb128.specs.Reading.{limit, moreOf, topOf, readAt};
 ghost use Rattle.leb128.specs.Joining.{joined};
 ghost use Rattle.leb128.specs.declared.number.NumberRead.the-variants.{Good};
 
@@ -65,50 +64,4 @@ pub fn number_at(bytes: &[u8], at: usize, wide: bool) -> NumberRead
         return number_in(bytes, at, 9, 2);
     }
     number_in(bytes, at, 4, 16)
-}
-
-fn byte_at(bytes: &[u8], at: usize) -> u64
-    requires { ⌜ at < length (now bytes) ⌝ }
-    ensures { λ r. ⌜ (r ≡ getD (now (bytes .entry)) at 0) × (r < 256) ⌝ }
-{
-    bytes[at] as u64
-}
-
-// The number of at most four groups at a place, where four bytes are there: eight times it, and how many bytes it has; 0 where there is none.
-// Loops over many numbers take this way first: a plain number stays in a register.
-pub fn quick_at(bytes: &[u8], at: usize) -> u64
-    ensures { λ r. ⌜ r ≡ quickOf (now (bytes .entry)) at ⌝ }
-{
-    if bytes.len() < 4 {
-        return 0;
-    }
-    if bytes.len() - 4 < at {
-        return 0;
-    }
-    let b0 = byte_at(bytes, at);
-    if b0 < 128 {
-        return 8 * b0 + 1;
-    }
-    let b1 = byte_at(bytes, at + 1);
-    if b1 == 0 {
-        return 0;
-    }
-    if b1 < 128 {
-        return 8 * (b0 - 128 + 128 * b1) + 2;
-    }
-    let b2 = byte_at(bytes, at + 2);
-    if b2 == 0 {
-        return 0;
-    }
-    if b2 < 128 {
-        return 8 * (b0 - 128 + 128 * (b1 - 128 + 128 * b2)) + 3;
-    }
-    let b3 = byte_at(bytes, at + 3);
-    if b3 == 0 {
-        return 0;
-    }
-    if b3 < 128 {
-        return 8 * (b0 - 128 + 128 * (b1 - 128 + 128 * (b2 - 128 + 128 * b3))) + 4;
-    }
-    0
 }

@@ -6,8 +6,8 @@ ghost use lib.Seq.{sets};
 ghost use Rattle.leb128.specs.Numbers.{groups};
 ghost use Rattle.leb128.specs.Writing.{putAt, pastPut};
 
-// How many bytes a number is written in.
-pub fn number_len(n: u64) -> usize
+// How many bytes a number is written in, group by group.
+fn counted_len(n: u64) -> usize
     ensures { λ r. ⌜ r ≡ length (groups n) ⌝ }
 {
     let mut rest = n;
@@ -17,6 +17,25 @@ pub fn number_len(n: u64) -> usize
         len += 1;
     }
     len
+}
+
+// How many bytes a number is written in. Most have few, and then there is no loop.
+pub fn number_len(n: u64) -> usize
+    ensures { λ r. ⌜ r ≡ length (groups n) ⌝ }
+{
+    if n < 128 {
+        return 1;
+    }
+    if n < 16384 {
+        return 2;
+    }
+    if n < 2097152 {
+        return 3;
+    }
+    if n < 268435456 {
+        return 4;
+    }
+    counted_len(n)
 }
 
 // Writes a number's groups from a place on, where it is known that they fit, and answers the place past them.

@@ -1,2 +1,1 @@
 pub mod Values
-mod Lengths

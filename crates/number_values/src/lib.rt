@@ -1,12 +1,12 @@
 // The values of numbers that stand one after the other, stored in lent room.
 use leb128::NumberRead;
 use leb128::number_at;
-use leb128::quick_at;
+use quick_numbers::quick_at;
+use quick_numbers::quick_len;
 ghost use mathlib.Core.Path.{_≡_};
 ghost use mathlib.Core.List.{_++_};
-ghost use Prim.Native.Nat.{_≤_, _<_, _%_};
+ghost use Prim.Native.Nat.{_≤_};
 ghost use lib.ListN.{length, drop};
-ghost use Rattle.leb128.specs.Reading.{quickOf};
 ghost use Rattle.number_values.specs.Values.{valueOf, nextOf, valuesFrom};
 
 // The value that was read, or 0.
@@ -29,26 +29,6 @@ fn next_of(at: usize, r: NumberRead) -> usize
         NumberRead::Broken(_) => at,
         NumberRead::Short(_) => at,
     }
-}
-
-// How many bytes the number has that `quick_at` reads at a place. It is told by tests alone, so that a loop goes on without waiting for the number.
-fn quick_len(bytes: &[u8], at: usize) -> usize
-    requires { ⌜ 0 < quickOf (now bytes) at ⌝ }
-    ensures { λ r. ⌜ r ≡ quickOf (now (bytes .entry)) at % 8 ⌝ }
-{
-    let b0 = bytes[at];
-    if b0 < 128 {
-        return 1;
-    }
-    let b1 = bytes[at + 1];
-    if b1 < 128 {
-        return 2;
-    }
-    let b2 = bytes[at + 2];
-    if b2 < 128 {
-        return 3;
-    }
-    4
 }
 
 // Stores the values of n numbers below 2^32 from a place in the first places of the room.

@@ -1,9 +1,9 @@
 // The numbers of a slip, checked one after the other by document 01's rules for them.
 use leb128::NumberRead;
 use leb128::number_at;
-use leb128::quick_at;
 use number_cursor::Cursor;
 use number_cursor::next_number;
+use quick_numbers::quick_at;
 ghost use mathlib.Core.Path.{_≡_};
 ghost use Prim.Native.Nat.{_≤_};
 ghost use Rattle.leb128.specs.Reading.{moreOf, topOf};

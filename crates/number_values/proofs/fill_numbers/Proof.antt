@@ -14,7 +14,7 @@ use lib.Seq.{sets, sets-eq}
 use Rattle.leb128.specs.Reading.{readAt}
 use Rattle.leb128.specs.declared.number.NumberRead.the-variants.{Good}
 use Rattle.leb128.proofs.Readings.{read-next}
-use Rattle.leb128.proofs.Quick.{quick-is}
+use Rattle.quick_numbers.proofs.Quick.{quick-is}
 use Rattle.number_values.specs.Values.{valuesFrom, valueOf, nextOf}
 use Rattle.leb128.proofs.Groups.{limit32}
 use Rattle.number_values.proofs.Values.{length-values, value-below, fill-turn}

@@ -9,7 +9,7 @@ use lib.ListN.{length, getD}
 use Rattle.leb128.specs.Reading.{readAt, moreOf, topOf}
 use Rattle.leb128.specs.declared.number.NumberRead.the-variants.{Good}
 use Rattle.leb128.proofs.Readings.{read-next, width}
-use Rattle.leb128.proofs.Quick.{quick-is}
+use Rattle.quick_numbers.proofs.Quick.{quick-is}
 use Rattle.slip_numbers.specs.Steps.{run, checkedOf}
 use Rattle.slip_numbers.proofs.Runs.{allowed-past, check-none, check-good, check-broken, check-short}
 use Rattle.slip_numbers.proofs.check_pairs.Statement.{statement}

@@ -1,40 +1,27 @@
--- `leb128::write::number_len` meets its contract: the invariant says that the groups counted and those of what is left are all of the number's.
+-- `leb128::write::number_len` meets its contract: a number of few groups has as many as its size says.
 -- Assumes nothing.
-use mathlib.Core.Path.{_≡_, ap}
-use Prim.Native.Nat.{ℕ, suc, _+_, _<_}
-use native.Mathlib.Omega.{arith}
-use lib.ListN.{length}
-use Rattle.leb128.specs.Numbers.{groupsIn, groups}
-use Rattle.leb128.specs.Reading.{limit}
-use Rattle.leb128.proofs.Groups.{groups-one, groups-count, groups-turn, groups-all}
+use borrow.Author.Needs.{needs}
+use Rattle.leb128.proofs.Groups.{length-one, length-two, length-three, length-four}
 use Rattle.leb128.proofs.write.number_len.Statement.{statement}
 use Rattle.leb128.proofs.write.number_len.Tie as tie
 
-abbrev Inv-loop : tie.InvT-loop
-Inv-loop n rest₀ len₀ rest len = (k : ℕ) × (rest < limit k 128) × (len + length (groupsIn k rest) ≡ suc (length (groups n)))
+returns : tie.Need-returns
+returns c = length-one _ (c .if1 .taken)
 
-abbrev μ-loop : tie.MeasureT-loop
-μ-loop n rest₀ len₀ rest len = rest
+returns-2 : tie.Need-returns-2
+returns-2 c = length-two _ (c .before .if1 .left) (c .if2 .taken)
 
-loop-holds : tie.Need-loop-holds Inv-loop μ-loop
-loop-holds c = let g = groups-all (c .args .n) (c .fits .n .fits) in (g .0, g .1, omega (arith, ap length (g .2)))
+returns-3 : tie.Need-returns-3
+returns-3 c = length-three _ (c .before .if2 .left) (c .if3 .taken)
 
-add-len : tie.Need-add-len Inv-loop μ-loop
-add-len c = omega (arith, groups-count (c .before .before .args .n))
+returns-4 : tie.Need-returns-4
+returns-4 c = length-four _ (c .before .if3 .left) (c .if4 .taken)
 
-loop-less : tie.Need-loop-less Inv-loop μ-loop
-loop-less c = omega arith
+counted-len-requires : tie.Need-counted-len-requires
+counted-len-requires c κs = search needs
 
-loop-again : tie.Need-loop-again Inv-loop μ-loop
-loop-again c =
-    let i = c .before .loop .inv in
-    let g = groups-turn (i .0) (c .before .loop .rest) (i .1) (c .loop-test .taken) in
-    (g .0, g .1, omega (arith, ap length (g .2)))
-
-returns : tie.Need-returns Inv-loop μ-loop
-returns c =
-    let i = c .before .loop .inv in
-    omega (arith, ap length (groups-one (i .0) (c .before .loop .rest) (c .loop-test .left)))
+returns-5 : tie.Need-returns-5
+returns-5 c = c .counted-len .ensures
 
 pub number-len-spec : {M : Type 1} → statement M
-number-len-spec = tie.close (tie.spec Inv-loop μ-loop loop-holds add-len loop-less loop-again returns)
+number-len-spec = tie.close (tie.spec returns returns-2 returns-3 returns-4 counted-len-requires returns-5)

@@ -1,4 +1,4 @@
--- `leb128::number::quick_at` meets its contract: a law for each way out, by the bytes read so far.
+-- `quick_numbers::quick_at` meets its contract: a law for each way out, by the bytes read so far.
 -- Assumes nothing.
 use borrow.Author.Needs.{needs}
 use mathlib.Core.Path.{sym}
@@ -6,9 +6,9 @@ use Prim.Native.Nat.{_+_, _≤_}
 use native.Mathlib.Omega.{arith}
 use denote.Ref.{now}
 use lib.ListN.{length}
-use Rattle.leb128.proofs.Quick.{quick-few, quick-one, quick-two, quick-two-padded, quick-three, quick-three-padded, quick-four, quick-four-padded, quick-long}
-use Rattle.leb128.proofs.number.quick_at.Statement.{statement}
-use Rattle.leb128.proofs.number.quick_at.Tie as tie
+use Rattle.quick_numbers.proofs.Quick.{quick-few, quick-one, quick-two, quick-two-padded, quick-three, quick-three-padded, quick-four, quick-four-padded, quick-long}
+use Rattle.quick_numbers.proofs.quick_at.Statement.{statement}
+use Rattle.quick_numbers.proofs.quick_at.Tie as tie
 
 -- four bytes are there
 four : (e : tie.Else2) → e .before .before .before .args .at + 4 ≤ length (now (e .before .before .before .args .bytes))

@@ -1,9 +1,9 @@
--- `number_values::quick_len` meets its contract: a law for each way out, by the bytes read so far.
+-- `quick_numbers::quick_len` meets its contract: a law for each way out, by the bytes read so far.
 -- Assumes nothing.
 use native.Mathlib.Omega.{arith}
-use Rattle.number_values.proofs.Lengths.{there, len-one, len-two, len-three, len-four}
-use Rattle.number_values.proofs.quick_len.Statement.{statement}
-use Rattle.number_values.proofs.quick_len.Tie as tie
+use Rattle.quick_numbers.proofs.Lengths.{there, len-one, len-two, len-three, len-four}
+use Rattle.quick_numbers.proofs.quick_len.Statement.{statement}
+use Rattle.quick_numbers.proofs.quick_len.Tie as tie
 
 shared-slice-read-b0 : tie.Need-shared-slice-read-b0
 shared-slice-read-b0 c = omega (arith, there _ _ (c .before .pre))

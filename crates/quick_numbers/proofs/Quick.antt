@@ -8,11 +8,12 @@ use native.Mathlib.Omega.{arith}
 use lib.Dec.{leb, lit<, lit≤}
 use lib.ListN.{length, getD}
 use borrow.Author.Tests.{le-leb, lt-leb, leb-true, ne-eqb, eq-eqb}
-use Rattle.leb128.specs.Reading.{limit, readAt, moreOf, topOf, packed, quickOf}
+use Rattle.leb128.specs.Reading.{limit, readAt, moreOf, topOf}
 use Rattle.leb128.specs.declared.number.NumberRead.{NumberRead}
 use Rattle.leb128.specs.declared.number.NumberRead.the-variants.{Good, Broken, Short}
 use Rattle.leb128.proofs.Groups.{groups-few}
 use Rattle.leb128.proofs.Readings.{afterRead, read-step, read-one, read-last, read-last-broken, read-wider, read-written, read-next, width}
+use Rattle.quick_numbers.specs.Quick.{packed, quickOf}
 
 after-some : (b at m next : ℕ) → (m ≡ 0 → ⊥) → afterRead b at (Good m next) ≡ Good (b - 128 + 128 * m) next
 unfolding afterRead

@@ -1,10 +1,10 @@
--- `leb128::number::byte_at` meets its contract: a byte is below 256.
+-- `quick_numbers::byte_at` meets its contract: a byte is below 256.
 -- Assumes nothing.
 use borrow.Author.Needs.{needs}
 use mathlib.Core.Path.{refl}
 use native.Mathlib.Omega.{arith}
-use Rattle.leb128.proofs.number.byte_at.Statement.{statement}
-use Rattle.leb128.proofs.number.byte_at.Tie as tie
+use Rattle.quick_numbers.proofs.byte_at.Statement.{statement}
+use Rattle.quick_numbers.proofs.byte_at.Tie as tie
 
 shared-slice-read-result : tie.Need-shared-slice-read-result
 shared-slice-read-result c = search needs

@@ -6,8 +6,8 @@ use Prim.Native.Nat.{ℕ, _+_, _%_, _<_, _≤_}
 use native.Mathlib.Omega.{arith}
 use native.Mathlib.Decide.{ℕ-discrete, decLt}
 use lib.ListN.{length, getD}
-use Rattle.leb128.specs.Reading.{quickOf}
-use Rattle.leb128.proofs.Quick.{quick-few, quick-one, quick-two, quick-two-padded, quick-three, quick-three-padded, quick-four, quick-four-padded, quick-long}
+use Rattle.quick_numbers.specs.Quick.{quickOf}
+use Rattle.quick_numbers.proofs.Quick.{quick-few, quick-one, quick-two, quick-two-padded, quick-three, quick-three-padded, quick-four, quick-four-padded, quick-long}
 
 module _ (bs : List ℕ) (at : ℕ) (some : 0 < quickOf bs at) where
   pub there : at + 4 ≤ length bs

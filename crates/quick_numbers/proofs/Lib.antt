@@ -1,0 +1,2 @@
+pub mod Quick
+mod Lengths
