@@ -15,11 +15,11 @@ walkIn places =
 
 -- the state of a walk that goes on, and 0; where the moov is found, 0 for the length and for where to read next, one moov, its place, its size,
 -- and 1
-unfoldable pub stepNumbers : Next → List ℕ
-stepNumbers (Read w) = 0 ∷ w .length ∷ w .place ∷ w .moovs ∷ w .at ∷ w .size ∷ 0 ∷ []
-stepNumbers (Found at size) = 0 ∷ 0 ∷ 0 ∷ 1 ∷ at ∷ size ∷ 1 ∷ []
-stepNumbers (Refused r) = refusedWith 6 r
+unfoldable pub nextNumbers : Next → List ℕ
+nextNumbers (Read w) = 0 ∷ w .length ∷ w .place ∷ w .moovs ∷ w .at ∷ w .size ∷ 0 ∷ []
+nextNumbers (Found at size) = 0 ∷ 0 ∷ 0 ∷ 1 ∷ at ∷ size ∷ 1 ∷ []
+nextNumbers (Refused r) = refusedWith 6 r
 
 -- of the step with the bytes h from the state in the places
 abbrev pub ofStep : List ℕ → List ℕ → List ℕ
-ofStep h places = stepNumbers (stepped h (walkIn places))
+ofStep h places = nextNumbers (stepped h (walkIn places))

@@ -1,29 +1,22 @@
 // The walk over a file's top-level atoms for a caller in another language: its state in lent places.
 use hand::hand;
+use table_numbers::number_at;
 use top_level::Next;
 use top_level::Walk;
 ghost use mathlib.Core.Path.{_≡_};
-ghost use lib.ListN.{getD};
 ghost use Rattle.hand.specs.Places.{Answers};
 ghost use Rattle.host_top_level.specs.Numbers.{walkIn, ofStep};
-
-// The value in a place; 0 where there are no more than i.
-fn value_at(places: &[u64], i: usize) -> u64
-    ensures { λ r. ⌜ r ≡ getD (now (places .entry)) i 0 ⌝ }
-{
-    if i < places.len() { places[i] } else { 0 }
-}
 
 // The walk whose state is in the first five places.
 fn walk_in(places: &[u64]) -> Walk
     ensures { λ r. ⌜ r ≡ walkIn (now (places .entry)) ⌝ }
 {
     Walk {
-        length: value_at(places, 0),
-        place: value_at(places, 1),
-        moovs: value_at(places, 2),
-        at: value_at(places, 3),
-        size: value_at(places, 4),
+        length: number_at(places, 0),
+        place: number_at(places, 1),
+        moovs: number_at(places, 2),
+        at: number_at(places, 3),
+        size: number_at(places, 4),
     }
 }
 

@@ -1,16 +1,15 @@
 -- A position of the stepper as numbers: 29 of them, in the order of its structs' fields.
-use Prim.Native.Nat.{ℕ, _+_, _%_, _≤_}
+use Prim.Native.Nat.{ℕ, _+_, _≤_}
 use mathlib.Core.Path.{_≡_}
 use mathlib.Core.List.{List, [], _∷_}
 use lib.ListN.{length, getD}
 use Rattle.runs.specs.declared.cursor.RunCursor.{RunCursor}
 use Rattle.chunks.specs.declared.ChunkCursor.{ChunkCursor}
-use Rattle.places.specs.declared.Part.{Part}
-use Rattle.places.specs.declared.tables.Tables.{Tables}
 use Rattle.positions.specs.declared.dealt.Dealt.{Dealt}
 use Rattle.positions.specs.declared.moving.Moving.{Moving}
 use Rattle.stepping.specs.declared.Stepper.{Stepper}
 use Rattle.hand.specs.Places.{Hands}
+use Rattle.table_numbers.specs.Numbers.{lowAt, tablesAt}
 
 unfoldable pub stepperNumbers : Stepper → List ℕ
 stepperNumbers p =
@@ -46,16 +45,6 @@ stepperNumbers p =
     ∷ []
 
 -- ---- the position that numbers are, whatever they are: a field of 32 bits takes the lowest 32, and a number that is not there counts as 0
-
-abbrev pub lowAt : List ℕ → ℕ → ℕ
-lowAt ns i = getD ns i 0 % 4294967296
-
-abbrev pub partAt : List ℕ → ℕ → Part
-partAt ns i = record { at = getD ns i 0; len = getD ns (i + 1) 0 }
-
-abbrev pub tablesAt : List ℕ → Tables
-tablesAt ns =
-    record { stts = partAt ns 0; ctts = partAt ns 2; stsc = partAt ns 4; stsz = partAt ns 6; offsets = partAt ns 8; stss = partAt ns 10 }
 
 abbrev pub runAt : List ℕ → ℕ → RunCursor
 runAt ns i = record { at = getD ns i 0; count = lowAt ns (i + 1); each = lowAt ns (i + 2) }

@@ -1,63 +1,20 @@
 // A position of the stepper as 29 numbers, in the order of its structs' fields, for a caller in another language.
 use chunks::ChunkCursor;
 use hand::hand;
-use places::Part;
-use places::tables::Tables;
 use positions::dealt::Dealt;
 use positions::moving::Moving;
 use runs::cursor::RunCursor;
 use stepping::Stepper;
+use table_numbers::low_at;
+use table_numbers::number_at;
+use table_numbers::place_at;
+use table_numbers::tables_at;
 ghost use mathlib.Core.Path.{_≡_};
-ghost use Prim.Native.Nat.{_%_, _<_};
-ghost use lib.ListN.{getD};
-ghost use Rattle.position_numbers.specs.Position.{partAt, tablesAt, runAt, cursorAt, movingAt, stepperIn, HandsPosition};
+ghost use Prim.Native.Nat.{_<_};
+ghost use Rattle.position_numbers.specs.Position.{runAt, cursorAt, movingAt, stepperIn, HandsPosition};
 
 // How many they are.
 pub const NUMBERS: usize = 29;
-
-// The number in a place; 0 where there are no more than i.
-fn number_at(numbers: &[u64], i: usize) -> u64
-    ensures { λ r. ⌜ r ≡ getD (now (numbers .entry)) i 0 ⌝ }
-{
-    if i < numbers.len() { numbers[i] } else { 0 }
-}
-
-// The same, as a place in what is lent.
-fn place_at(numbers: &[u64], i: usize) -> usize
-    ensures { λ r. ⌜ r ≡ getD (now (numbers .entry)) i 0 ⌝ }
-{
-    number_at(numbers, i) as usize
-}
-
-// The same, cut to 32 bits.
-fn low_at(numbers: &[u64], i: usize) -> u32
-    ensures { λ r. ⌜ r ≡ getD (now (numbers .entry)) i 0 % 4294967296 ⌝ }
-{
-    (number_at(numbers, i) % 4294967296) as u32
-}
-
-fn part_at(numbers: &[u64], i: usize) -> Part
-    requires { ⌜ i < 29 ⌝ }
-    ensures { λ r. ⌜ r ≡ partAt (now (numbers .entry)) i ⌝ }
-{
-    Part {
-        at: place_at(numbers, i),
-        len: place_at(numbers, i + 1),
-    }
-}
-
-fn tables_at(numbers: &[u64]) -> Tables
-    ensures { λ r. ⌜ r ≡ tablesAt (now (numbers .entry)) ⌝ }
-{
-    Tables {
-        stts: part_at(numbers, 0),
-        ctts: part_at(numbers, 2),
-        stsc: part_at(numbers, 4),
-        stsz: part_at(numbers, 6),
-        offsets: part_at(numbers, 8),
-        stss: part_at(numbers, 10),
-    }
-}
 
 fn run_at(numbers: &[u64], i: usize) -> RunCursor
     requires { ⌜ i < 29 ⌝ }

@@ -4,7 +4,7 @@ use borrow.Author.Needs.{needs}
 use mathlib.Core.Path.{ap, _∙_}
 use Rattle.top_level.specs.Steps.{stepped}
 use Rattle.hand.proofs.Answered.{handed, of-case}
-use Rattle.host_top_level.specs.Numbers.{stepNumbers}
+use Rattle.host_top_level.specs.Numbers.{nextNumbers}
 use Rattle.host_top_level.proofs.hand_step.Statement.{statement}
 use Rattle.host_top_level.proofs.hand_step.Tie as tie
 
@@ -45,30 +45,30 @@ same-length : tie.Need-same-length
 same-length c = search needs
 
 returns : tie.Need-returns
-unfolding stepNumbers
+unfolding nextNumbers
 returns c =
     let a = c .before .before .before .before .before .before .before .before in
-    handed _ _ _ _ _ _ (of-case stepNumbers (a .step .ensures ∙ ap (stepped _) (a .before .walk-in .ensures)) (c .before .before .before .before .before .before .w .given .1))
+    handed _ _ _ _ _ _ (of-case nextNumbers (a .step .ensures ∙ ap (stepped _) (a .before .walk-in .ensures)) (c .before .before .before .before .before .before .w .given .1))
     (c .before .before .hand .ensures)
 
 same-length-2 : tie.Need-same-length-2
 same-length-2 c = search needs
 
 returns-2 : tie.Need-returns-2
-unfolding stepNumbers
+unfolding nextNumbers
 returns-2 c =
     let a = c .before .before .before .before .before .before .before .before in
-    handed _ _ _ _ _ _ (of-case stepNumbers (a .step .ensures ∙ ap (stepped _) (a .before .walk-in .ensures)) (c .before .before .before .before .before .before .at .given .1))
+    handed _ _ _ _ _ _ (of-case nextNumbers (a .step .ensures ∙ ap (stepped _) (a .before .walk-in .ensures)) (c .before .before .before .before .before .before .at .given .1))
     (c .before .before .hand2 .ensures)
 
 same-length-3 : tie.Need-same-length-3
 same-length-3 c = search needs
 
 returns-3 : tie.Need-returns-3
-unfolding stepNumbers
+unfolding nextNumbers
 returns-3 c =
     let a = c .before .before .before .before .before .before .before .before in
-    handed _ _ _ _ _ _ (of-case stepNumbers (a .step .ensures ∙ ap (stepped _) (a .before .walk-in .ensures)) (c .before .before .before .before .before .before .r .given .1))
+    handed _ _ _ _ _ _ (of-case nextNumbers (a .step .ensures ∙ ap (stepped _) (a .before .walk-in .ensures)) (c .before .before .before .before .before .before .r .given .1))
     (c .before .before .hand3 .ensures)
 
 pub hand-step-spec : {M : Type 1} → statement M
