@@ -8,6 +8,10 @@ use native.Mathlib.Nat.{zero-add}
 use lib.ListN.{length, drop, length-append}
 use lib.Seq.{sets, sets-eq}
 use Rattle.lists.proofs.Stores.{sets-append}
+use Rattle.bigendian.specs.BigEndian.{u32At}
+use Rattle.atoms.specs.Kinds.{trak, mdia, tkhd, hdlr, mdhd, stsz}
+use Rattle.atoms.specs.Atoms.{childIn}
+use Rattle.structure.specs.Track.{mdiaOf, tableOf, offsetTable, elstOf, idOf, subtypeOf, scaleOf, durationOf}
 use Rattle.track.specs.Refusals.{totalIn}
 use Rattle.track_list.specs.TrackList.{lineOf, linesOf}
 use Rattle.track_list.specs.Lines.{TotalsFit}
@@ -40,3 +44,11 @@ module _ (b : List ℕ) (ts rest : List (List ℕ)) (q : ts ≡ b ∷ rest) wher
 -- all of them, in room for them all
 pub all-lines : (ts : List (List ℕ)) (room : List ℕ) → 8 * length ts ≤ length room → sets room 0 (linesOf ts) ≡ linesOf ts ++ drop (length (linesOf ts)) room
 all-lines ts room h = rw (zero-add) at (sets-eq (linesOf ts) room 0 (omega (arith, lines-length ts)))
+
+-- the eight numbers, by the parts in which they are read
+pub line-by : (t x h m z o e : List ℕ) (id subtype scale total samples chunks edits stored : ℕ)
+    → x ≡ childIn trak tkhd 0 t → h ≡ childIn mdia hdlr 0 (mdiaOf t) → m ≡ childIn mdia mdhd 0 (mdiaOf t) → z ≡ tableOf stsz t → o ≡ offsetTable t → e ≡ elstOf t
+    → id ≡ u32At x 20 → subtype ≡ u32At h 16 → scale ≡ u32At m 20 → total ≡ totalIn t → samples ≡ u32At z 16 → chunks ≡ u32At o 12 → edits ≡ u32At e 12 → stored ≡ u32At m 24
+    → (id ∷ subtype ∷ scale ∷ total ∷ samples ∷ chunks ∷ edits ∷ stored ∷ []) ≡ lineOf t
+unfolding lineOf idOf subtypeOf scaleOf durationOf
+line-by t x h m z o e id subtype scale total samples chunks edits stored ex eh em ez eo ee a b c d f g i j = rw (a, b, c, d, f, g, i, j, ex, eh, em, ez, eo, ee)

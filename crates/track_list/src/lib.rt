@@ -3,16 +3,11 @@ use atoms::body_of;
 use atoms::kinds;
 use atoms::size_in;
 use bigendian::u32_at;
+use places::part_of;
+use places::trak::parts_of;
 use structure::moov::moov_body;
 use structure::moov::track_count;
 use structure::source::Source;
-use structure::trak::edit_list;
-use structure::trak::media_scale;
-use structure::trak::offset_table;
-use structure::trak::stored_duration;
-use structure::trak::subtype;
-use structure::trak::table;
-use structure::trak::track_id;
 use track::media_total;
 ghost use mathlib.Core.Path.{_≡_};
 ghost use Prim.Native.Nat.{_+_, _*_, _≤_, _<_};
@@ -42,15 +37,17 @@ fn line_of(trak: &[u8]) -> Line
     requires { ⌜ totalIn (now trak) < 4294967296 ⌝ }
     ensures { λ r. ⌜ fields r ≡ lineOf (now (trak .entry)) ⌝ }
 {
+    let p = parts_of(trak);
+    let mdhd = part_of(trak, p.mdhd);
     Line {
-        id: track_id(trak),
-        subtype: subtype(trak),
-        scale: media_scale(trak),
+        id: u32_at(part_of(trak, p.tkhd), 20),
+        subtype: u32_at(part_of(trak, p.hdlr), 16),
+        scale: u32_at(mdhd, 20),
         total: media_total(trak),
-        samples: u32_at(table(trak, kinds::STSZ), 16),
-        chunks: u32_at(offset_table(trak), 12),
-        edits: u32_at(edit_list(trak), 12),
-        stored: stored_duration(trak),
+        samples: u32_at(part_of(trak, p.stsz), 16),
+        chunks: u32_at(part_of(trak, p.offsets), 12),
+        edits: u32_at(part_of(trak, p.elst), 12),
+        stored: u32_at(mdhd, 24),
     }
 }
 
