@@ -2,21 +2,26 @@
 -- Assumes nothing.
 use Prim.Native.Nat.{ℕ, _≤_, _<_, _^_}
 use mathlib.Core.Path.{_≡_, refl, sym, ap, _∙_}
-use mathlib.Core.List.{List}
+use mathlib.Core.List.{List, _++_}
+use mathlib.Core.Bool.{Bool, true, false, cond}
 use native.Mathlib.Omega.{arith}
 use native.Mathlib.Nat.{mod-lt}
-use lib.ListN.{length, getD}
+use borrow.Author.Tests.{ltb-false, le-ltb}
+use lib.Dec.{ltb}
+use lib.ListN.{length, getD, drop}
 use Rattle.structure.specs.declared.source.Source.{Source}
 use Rattle.questions.specs.declared.samples.Sample.{Sample}
 use Rattle.questions.specs.declared.samples.SampleAnswer.{SampleAnswer}
 use Rattle.questions.specs.declared.samples.SampleAnswer.the-variants as sample
+use Rattle.structure.proofs.Callers.{none-else}
+use Rattle.movie.specs.Rooms.{noRoom, filledRoom, roomAfter}
 use Rattle.hand.specs.Places.{Hands}
-use Rattle.opened.specs.Opened.{openNumber, OpenAnswers, Opens, SampleBy}
+use Rattle.opened.specs.Opened.{openNumber, HandleOf, OpenAnswers, Opens, SampleBy}
 use Rattle.opened.specs.declared.Opened.{Opened}
 use Rattle.opened.specs.declared.Opening.{Opening}
 use Rattle.opened.specs.declared.Opening.the-variants.{Track, Refused}
 use Rattle.host_opened.specs.Handle.{openedNumbers, openedIn, HandsHandle}
-use Rattle.host_opened.specs.Hands.{openValues, HandsOpening, Answered, HandsBy}
+use Rattle.host_opened.specs.Hands.{openValues, HandsOpening, HandsBy, SameByHandle}
 
 -- ---- opening
 
@@ -59,10 +64,39 @@ sample-low s ns h n a f b x e =
 
 -- ---- what opening and asking come to
 
--- the places after opening, if it was not refused, are a handle of the film
-pub opening-opens : (s : List ℕ) (w : Source) (id : ℕ) (places : List ℕ) (r : ℕ) (after : List ℕ) → 19 ≤ length places → (h : Opened) (d : HandsOpening s w id places r after)
-    → d .opening ≡ Track h → Opens s w id (openedIn after)
-opening-opens s w id places r after l h d e =
-    let q = d .opens .opened (sym (d .opens .number) ∙ ap openNumber e) in
-    let z : h ≡ q .handle = let u : Track h ≡ Track (q .handle) = sym e ∙ q .answer in cc in
-    rw (d .again h e l ∙ z) (q .opens)
+room-enough : (b : Bool) → _≡_ {A = ℕ} (cond b 16 0) 0 → b ≡ false
+room-enough true e = absurd (omega arith)
+room-enough false e = refl
+
+module _ (s : List ℕ) (w : Source) (id : ℕ) (places : List ℕ) (r : ℕ) (after : List ℕ) (d : HandsOpening s w id places r after) (z : r ≡ 0) where
+  judged : (openNumber (d .opening) ≡ 0) × (noRoom (openValues (d .opening)) places ≡ 0)
+  judged = none-else _ _ (sym (d .handed .result) ∙ z)
+
+  found : HandleOf s w id (d .opening)
+  found = d .opens .opened (sym (d .opens .number) ∙ judged .0)
+
+  values : openValues (d .opening) ≡ openedNumbers (found .handle)
+  unfolding openValues
+  values = ap openValues (found .answer)
+
+  enough : 19 ≤ length places
+  unfolding noRoom openedNumbers
+  enough = ltb-false _ _ (room-enough (ltb (length places) 19) (rw values at (judged .1)))
+
+  long : 19 ≤ length after
+  unfolding noRoom roomAfter filledRoom openedNumbers
+  long =
+      let e : after ≡ openedNumbers (found .handle) ++ drop 19 places = rw (values, le-ltb (length places) 19 enough) at (d .handed .placed) in
+      rw e (omega arith)
+
+  -- what then stands in the places is a handle of the film
+  pub opening-opens : Opens s w id (openedIn after)
+  opening-opens = rw (d .again (found .handle) (found .answer) enough) (found .opens)
+
+  -- so by it each question hands over what it does without one
+  pub same-by-handle : SameByHandle s w id after
+  same-by-handle = record {
+    sample = λ n q k p h. let a = h .answered long in rw (a .promise .right w id opening-opens .answer) at (a .handed);
+    number = λ t q k p h. let a = h .answered long in rw (a .promise .right w id opening-opens .answer) at (a .handed);
+    time = λ t q k p h. let a = h .answered long in rw (a .promise .right w id opening-opens .answer) at (a .handed);
+  }

@@ -12,6 +12,8 @@ use Rattle.time_questions.specs.declared.NumberAnswer.{NumberAnswer}
 use Rattle.time_questions.specs.declared.TimeAnswer.{TimeAnswer}
 use Rattle.hand.specs.Places.{Hands, Answers, SignedAnswers}
 use Rattle.hand.specs.Times.{media, movie}
+use Rattle.host_samples.specs.Numbers.{ofSample}
+use Rattle.host_times.specs.Numbers.{ofSampleAt, ofMediaTime}
 use Rattle.opened.specs.Opened.{openNumber, OpenAnswers, SampleBy, NumberBy, TimeBy}
 use Rattle.opened.specs.declared.Opened.{Opened}
 use Rattle.opened.specs.declared.Opening.{Opening}
@@ -58,3 +60,11 @@ HandsNumber s handle t places r after =
 abbrev pub HandsTime : List ℕ → List ℕ → ℕ → List ℕ → ℕ → List ℕ → Type 0
 HandsTime s handle t places r after =
     HandsBy {X = TimeAnswer} handle (TimeBy s (openedIn handle) (movie t)) (λ a. Answers (timeNumbers a) places r after) places r after
+
+-- ---- the two together
+
+-- by a handle in these places each question hands over what it does without one
+pub record SameByHandle (s : List ℕ) (w : Source) (id : ℕ) (handle : List ℕ) : Type 0 where
+  pub sample : (n : ℕ) (places : List ℤ) (r : ℕ) (after : List ℤ) → HandsSample s handle n places r after → SignedAnswers (ofSample s w id n) places r after
+  pub number : (t : ℕ) (places : List ℕ) (r : ℕ) (after : List ℕ) → HandsNumber s handle t places r after → Answers (ofSampleAt s w id t) places r after
+  pub time : (t : ℕ) (places : List ℕ) (r : ℕ) (after : List ℕ) → HandsTime s handle t places r after → Answers (ofMediaTime s w id t) places r after
