@@ -135,9 +135,9 @@ module _ (stsc : List ℕ) (chunks i j : ℕ) (p : ChunkPosition) (w : At stsc c
   place-fits =
       (omega (arith, begins-low stsc [] [] chunks i j p w e), omega (arith, few-chunks stsc chunks short c bytes, at-chunk stsc [] [] chunks i j p w e))
 
-  pub step-fits : (stsz stco : List ℕ) (n : ℕ) → AtOnce stsz stco i j p n
+  pub step-fits : (stsz offsets : List ℕ) (n : ℕ) → AtOnce stsz offsets i j p n
       → (p .chunk + n < 2 ^ 64) × (p .begin < 2 ^ 32) × ((n ≡ 1 → ⊥) → p .begin + n * p .cursor .per < 2 ^ 32)
-  step-fits stsz stco n o = (
+  step-fits stsz offsets n o = (
     omega (arith, few-chunks stsc chunks short c bytes, past-chunk stsc [] [] chunks i j p w e n (o .few) (o .some)),
     place-fits .0,
     λ z. omega (arith, o .whole z .to),

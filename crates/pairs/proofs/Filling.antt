@@ -108,39 +108,39 @@ module _ {b : ℕ} {all : List Pair} {room₀ : List ℕ} {at₀ : ℕ} {rest : 
 
 -- ---- from place to place
 
-pub record Walked (b : ℕ) (stsc stsz stco : List ℕ) (chunks i j : ℕ) (room₀ : List ℕ) (p : ChunkPosition) (room : List ℕ) (at total : ℕ) : Type 0 where
+pub record Walked (b : ℕ) (stsc stsz offsets : List ℕ) (chunks i j : ℕ) (room₀ : List ℕ) (p : ChunkPosition) (room : List ℕ) (at total : ℕ) : Type 0 where
   pub place : At stsc chunks i p
-  pub filling : Filling b (pairsBetween stsc stsz stco chunks i j) room₀ 0 (pairsAhead stsc stsz stco chunks i j p) room at total
+  pub filling : Filling b (pairsBetween stsc stsz offsets chunks i j) room₀ 0 (pairsAhead stsc stsz offsets chunks i j p) room at total
 
-pub walked-start : {b : ℕ} (stsc stsz stco : List ℕ) (chunks i j : ℕ) (room : List ℕ) (p : ChunkPosition) → StartsAt stsc chunks i p → Putting b stsc stsz stco chunks i j (length room)
-    → Walked b stsc stsz stco chunks i j room p room 0 0
-walked-start stsc stsz stco chunks i j room p s w =
+pub walked-start : {b : ℕ} (stsc stsz offsets : List ℕ) (chunks i j : ℕ) (room : List ℕ) (p : ChunkPosition) → StartsAt stsc chunks i p → Putting b stsc stsz offsets chunks i j (length room)
+    → Walked b stsc stsz offsets chunks i j room p room 0 0
+walked-start stsc stsz offsets chunks i j room p s w =
     record {
       place = s .at;
-      filling = rw (from-start stsc stsz stco chunks i j p s) (filling-start (pairsBetween stsc stsz stco chunks i j) room 0 (record { fits = w .fits; total = w .total; space = omega (arith, w .room) }));
+      filling = rw (from-start stsc stsz offsets chunks i j p s) (filling-start (pairsBetween stsc stsz offsets chunks i j) room 0 (record { fits = w .fits; total = w .total; space = omega (arith, w .room) }));
     }
 
-module _ {b : ℕ} {stsc stsz stco : List ℕ} {chunks i j : ℕ} {room₀ : List ℕ} {p : ChunkPosition} {room : List ℕ} {at total : ℕ} (w : Walked b stsc stsz stco chunks i j room₀ p room at total) where
+module _ {b : ℕ} {stsc stsz offsets : List ℕ} {chunks i j : ℕ} {room₀ : List ℕ} {p : ChunkPosition} {room : List ℕ} {at total : ℕ} (w : Walked b stsc stsz offsets chunks i j room₀ p room at total) where
   pub walked-end : (eqb (p .cursor .remaining) 0 || leb j (p .begin)) ≡ true
-      → (total ≡ sum (lengthsOf (pairsBetween stsc stsz stco chunks i j))) × (room ≡ sets room₀ 0 (flat (pairsBetween stsc stsz stco chunks i j)))
+      → (total ≡ sum (lengthsOf (pairsBetween stsc stsz offsets chunks i j))) × (room ≡ sets room₀ 0 (flat (pairsBetween stsc stsz offsets chunks i j)))
   walked-end e =
-      let d = filling-end _ _ _ _ _ _ _ (w .filling) (at-end stsc stsz stco chunks i j p (w .place) e) in
+      let d = filling-end _ _ _ _ _ _ _ (w .filling) (at-end stsc stsz offsets chunks i j p (w .place) e) in
       (d .added, d .stored)
 
-  module _ (e : (eqb (p .cursor .remaining) 0 || leb j (p .begin)) ≡ false) (n : ℕ) (o : AtOnce stsz stco i j p n) where
+  module _ (e : (eqb (p .cursor .remaining) 0 || leb j (p .begin)) ≡ false) (n : ℕ) (o : AtOnce stsz offsets i j p n) where
     abbrev these : List Pair
-    these = pairsAtOnce stsz stco i j p n
+    these = pairsAtOnce stsz offsets i j p n
 
     abbrev others : List Pair
-    others = pairsAhead stsc stsz stco chunks i j (placePast stsc chunks n p)
+    others = pairsAhead stsc stsz offsets chunks i j (placePast stsc chunks n p)
 
-    split : pairsAhead stsc stsz stco chunks i j p ≡ these ++ others
-    split = at-once stsc stsz stco chunks i j p (w .place) e n o
+    split : pairsAhead stsc stsz offsets chunks i j p ≡ these ++ others
+    split = at-once stsc stsz offsets chunks i j p (w .place) e n o
 
     pub step-at : at + 2 * n ≤ length room₀
-    step-at = omega (arith, few (w .filling) these others split, at-once-length stsz stco i j p n o, w .filling .same)
+    step-at = omega (arith, few (w .filling) these others split, at-once-length stsz offsets i j p n o, w .filling .same)
 
-    module _ (h : sum (lengthsOf (pairsBetween stsc stsz stco chunks i j)) < 2 ^ 64) where
+    module _ (h : sum (lengthsOf (pairsBetween stsc stsz offsets chunks i j)) < 2 ^ 64) where
       pub step-room : Room b these at (length room)
       step-room = next-room (w .filling) these others split h
 
@@ -148,11 +148,11 @@ module _ {b : ℕ} {stsc stsz stco : List ℕ} {chunks i j : ℕ} {room₀ : Lis
       step-total d = omega (arith, next-total (w .filling) these others split h, d .added)
 
     pub step-turn : {bytes : ℕ} {new : List ℕ} → Put these room at bytes new → {r : ChunkPosition} → r ≡ placePast stsc chunks n p
-        → Walked b stsc stsz stco chunks i j room₀ r new (at + 2 * n) (total + bytes)
+        → Walked b stsc stsz offsets chunks i j room₀ r new (at + 2 * n) (total + bytes)
     step-turn {bytes} {new} d f =
-        let a : at + 2 * n ≡ at + 2 * length these = omega (arith, at-once-length stsz stco i j p n o) in
+        let a : at + 2 * n ≡ at + 2 * length these = omega (arith, at-once-length stsz offsets i j p n o) in
         let t : total + bytes ≡ total + sum (lengthsOf these) = omega (arith, d .added) in
         rw f (record {
-          place = at-past stsc stsz stco chunks i j p (w .place) e n (o .few) (o .some);
+          place = at-past stsc stsz offsets chunks i j p (w .place) e n (o .few) (o .some);
           filling = filling-turn (w .filling) these others split (d .stored) a t;
         })

@@ -113,14 +113,14 @@ one-past stsc chunks p =
     let e : p .begin + 1 * p .cursor .per ≡ p .begin + p .cursor .per = omega arith in
     λ k. record { cursor = readied stsc chunks (past 1 (p .cursor)); chunk = p .chunk + 1; begin = e k }
 
-module _ (stsc stsz stco : List ℕ) (chunks i j : ℕ) (p : ChunkPosition) (w : At stsc chunks i p) where
+module _ (stsc stsz offsets : List ℕ) (chunks i j : ℕ) (p : ChunkPosition) (w : At stsc chunks i p) where
   -- no pair lies ahead
-  pub at-end : (eqb (p .cursor .remaining) 0 || leb j (p .begin)) ≡ true → pairsAhead stsc stsz stco chunks i j p ≡ []
+  pub at-end : (eqb (p .cursor .remaining) 0 || leb j (p .begin)) ≡ true → pairsAhead stsc stsz offsets chunks i j p ≡ []
   at-end e = go (eqb (p .cursor .remaining) 0) refl e
     where
-      go : (b : Bool) → eqb (p .cursor .remaining) 0 ≡ b → (b || leb j (p .begin)) ≡ true → pairsAhead stsc stsz stco chunks i j p ≡ []
+      go : (b : Bool) → eqb (p .cursor .remaining) 0 ≡ b → (b || leb j (p .begin)) ≡ true → pairsAhead stsc stsz offsets chunks i j p ≡ []
       go true q h = rw (no-samples chunks (w .stands) (eqb-true _ _ q))
-      go false q h = touched-none i j (p .begin) (ahead stsc chunks (p .cursor)) (drop (p .chunk) (chunkOffsets stco)) (sizes stsz) (leb-true _ _ h)
+      go false q h = touched-none i j (p .begin) (ahead stsc chunks (p .cursor)) (drop (p .chunk) (chunkOffsets offsets)) (sizes stsz) (leb-true _ _ h)
 
   -- a pair does
   module _ (e : (eqb (p .cursor .remaining) 0 || leb j (p .begin)) ≡ false) where
@@ -184,22 +184,22 @@ module _ (stsc stsz stco : List ℕ) (chunks i j : ℕ) (p : ChunkPosition) (w :
     pub at-chunk : p .chunk < length (perChunk stsc chunks)
     at-chunk = omega (arith, past-chunk 1 remains (omega arith))
 
-    pub at-next : pairsAhead stsc stsz stco chunks i j p
-        ≡ pairOf i j (p .begin) (p .cursor .per) (getD (chunkOffsets stco) (p .chunk) 0) (sizes stsz) ∷ pairsAhead stsc stsz stco chunks i j (placeAfter stsc chunks p)
+    pub at-next : pairsAhead stsc stsz offsets chunks i j p
+        ≡ pairOf i j (p .begin) (p .cursor .per) (getD (chunkOffsets offsets) (p .chunk) 0) (sizes stsz) ∷ pairsAhead stsc stsz offsets chunks i j (placeAfter stsc chunks p)
     at-next =
-        let cs = chunkOffsets stco in
+        let cs = chunkOffsets offsets in
         let z : p .chunk + 0 ≡ p .chunk = omega arith in
         let g : getD (drop (p .chunk) cs) 0 0 ≡ getD cs (p .chunk) 0 = getD-drop (p .chunk) cs 0 0 ∙ ap (λ (k : ℕ). getD cs k 0) z in
         rw (opened, is-touched i j (p .begin) (p .cursor .per) begins-low (w .reaches some-remain), g, drop-drop)
 
     -- the pairs of the chunks that are put at once, and those from the place past them on
-    pub at-once : (n : ℕ) → AtOnce stsz stco i j p n → pairsAhead stsc stsz stco chunks i j p ≡ pairsAtOnce stsz stco i j p n ++ pairsAhead stsc stsz stco chunks i j (placePast stsc chunks n p)
+    pub at-once : (n : ℕ) → AtOnce stsz offsets i j p n → pairsAhead stsc stsz offsets chunks i j p ≡ pairsAtOnce stsz offsets i j p n ++ pairsAhead stsc stsz offsets chunks i j (placePast stsc chunks n p)
     at-once n o = elim (ℕ-discrete n 1) [
-      | yes z ↦ rw z (at-next ∙ ap (λ q. pairOf i j (p .begin) (p .cursor .per) (getD (chunkOffsets stco) (p .chunk) 0) (sizes stsz) ∷ pairsAhead stsc stsz stco chunks i j q) (sym (one-past stsc chunks p)))
+      | yes z ↦ rw z (at-next ∙ ap (λ q. pairOf i j (p .begin) (p .cursor .per) (getD (chunkOffsets offsets) (p .chunk) 0) (sizes stsz) ∷ pairsAhead stsc stsz offsets chunks i j q) (sym (one-past stsc chunks p)))
       | no z ↦
-          let cs = chunkOffsets stco in
+          let cs = chunkOffsets offsets in
           let v = o .whole z in
-          let l : n ≤ length (drop (p .chunk) cs) = omega (arith, v .offsets, length-drop (p .chunk) cs) in
+          let l : n ≤ length (drop (p .chunk) cs) = omega (arith, v .there, length-drop (p .chunk) cs) in
           rw (ne-eqb n 1 z, past-opened n (o .few)) (
           whole-touched i j (p .begin) n (p .cursor .per) (ahead stsc chunks (placePast stsc chunks n p .cursor)) (drop (p .chunk) cs) (sizes stsz) (v .from) (w .reaches some-remain) (λ _. begins-low) (v .to) l
           ∙ rw (drop-drop n (p .chunk) cs))
@@ -207,9 +207,9 @@ module _ (stsc stsz stco : List ℕ) (chunks i j : ℕ) (p : ChunkPosition) (w :
 
 -- ---- from the first place on
 
-pub from-start : (stsc stsz stco : List ℕ) (chunks i j : ℕ) (p : ChunkPosition) → StartsAt stsc chunks i p → pairsAhead stsc stsz stco chunks i j p ≡ pairsBetween stsc stsz stco chunks i j
-from-start stsc stsz stco chunks i j p w =
+pub from-start : (stsc stsz offsets : List ℕ) (chunks i j : ℕ) (p : ChunkPosition) → StartsAt stsc chunks i p → pairsAhead stsc stsz offsets chunks i j p ≡ pairsBetween stsc stsz offsets chunks i j
+from-start stsc stsz offsets chunks i j p w =
     let ps = perChunk stsc chunks in
     let z : i - 0 ≡ i = omega arith in
     let b : 0 + before ps (holder ps i) ≡ p .begin = omega (arith, w .at .begins, ap (before ps) (w .place)) in
-    sym (rw (z, b, ← w .place, ← w .at .valid .samples) at (touched-skip i j 0 ps (chunkOffsets stco) (sizes stsz) (omega arith)))
+    sym (rw (z, b, ← w .place, ← w .at .valid .samples) at (touched-skip i j 0 ps (chunkOffsets offsets) (sizes stsz) (omega arith)))

@@ -63,9 +63,9 @@ before-end count per samples h g =
     let q : samples / per < count = div-lt-iff-lt-mul {y = count} (pos-of-lt-mul count per samples g) .1 g in
     (omega arith, omega arith, omega (arith, div-add-mod' samples per))
 
-pub offsets-there : (stco : List ℕ) {part : List ℕ} {w : ℕ} → part ≡ drop 16 stco → w ≡ offsetWidth stco → length part / w ≡ length (chunkOffsets stco)
-offsets-there stco {part} {w} e f =
-    ap (λ l. length l / w) e ∙ ap (λ (k : ℕ). length (drop 16 stco) / k) f ∙ sym (ap length (offsets-in stco) ∙ length-numbers (offsetWidth stco) (width-positive stco) (drop 16 stco))
+pub offsets-there : (offsets : List ℕ) {part : List ℕ} {w : ℕ} → part ≡ drop 16 offsets → w ≡ offsetWidth offsets → length part / w ≡ length (chunkOffsets offsets)
+offsets-there offsets {part} {w} e f =
+    ap (λ l. length l / w) e ∙ ap (λ (k : ℕ). length (drop 16 offsets) / k) f ∙ sym (ap length (offsets-in offsets) ∙ length-numbers (offsetWidth offsets) (width-positive offsets) (drop 16 offsets))
 
 -- ---- the tables that a loop over whole chunks is given
 
@@ -74,25 +74,25 @@ wholes-length p [] zs = refl
 wholes-length p (c ∷ cs) zs = ap suc (wholes-length p cs (drop p zs))
 
 -- the offsets of n chunks, cut out of a table
-module _ (stco : List ℕ) {part : List ℕ} {w : ℕ} (k n : ℕ) (e : part ≡ drop 16 stco) (f : w ≡ offsetWidth stco) where
-  pub offsets-cut : numbersIn (offsetWidth stco) (take (k * w + n * w - k * w) (drop (k * w) part)) ≡ take n (drop k (chunkOffsets stco))
+module _ (offsets : List ℕ) {part : List ℕ} {w : ℕ} (k n : ℕ) (e : part ≡ drop 16 offsets) (f : w ≡ offsetWidth offsets) where
+  pub offsets-cut : numbersIn (offsetWidth offsets) (take (k * w + n * w - k * w) (drop (k * w) part)) ≡ take n (drop k (chunkOffsets offsets))
   offsets-cut =
-      let v = offsetWidth stco in
-      let p = width-positive stco in
+      let v = offsetWidth offsets in
+      let p = width-positive offsets in
       let d : k * w + n * w - k * w ≡ n * v = ap (λ (x : ℕ). k * x + n * x - k * x) f ∙ add-cancel (k * v) (n * v) in
       ap (λ (m : ℕ). numbersIn v (take m (drop (k * w) part))) d
       ∙ numbers-take v p n (drop (k * w) part)
       ∙ ap (λ (x : ℕ). take n (numbersIn v (drop (k * x) part))) f
-      ∙ ap (take n) (numbers-drop v p k part ∙ ap (λ l. drop k (numbersIn v l)) e ∙ ap (drop k) (sym (offsets-in stco)))
+      ∙ ap (take n) (numbers-drop v p k part ∙ ap (λ l. drop k (numbersIn v l)) e ∙ ap (drop k) (sym (offsets-in offsets)))
 
-  module _ (h : k + n ≤ length (chunkOffsets stco)) where
+  module _ (h : k + n ≤ length (chunkOffsets offsets)) where
     pub cut-within : k * w + n * w ≤ length part
     cut-within =
-        let g : (k + n) * w ≤ length part = le-div-iff-mul-le {k = w} {x = k + n} {y = length part} (rw f (width-positive stco)) .0 (omega (arith, offsets-there stco e f)) in
+        let g : (k + n) * w ≤ length part = le-div-iff-mul-le {k = w} {x = k + n} {y = length part} (rw f (width-positive offsets)) .0 (omega (arith, offsets-there offsets e f)) in
         omega (arith, add-mul k n w)
 
-    pub cut-fits : k * w + n * w ≤ length stco
-    cut-fits = omega (arith, cut-within, ap length e, length-drop 16 stco)
+    pub cut-fits : k * w + n * w ≤ length offsets
+    cut-fits = omega (arith, cut-within, ap length e, length-drop 16 offsets)
 
 module _ (stsz : List ℕ) {each : ℕ} (e : each ≡ u32At stsz 12) where
   pub sizes-cut : each ≡ 0 → {y z : List ℕ} (k : ℕ) → y ≡ drop 20 stsz → z ≡ drop (k * 4) y → wordsIn z ≡ drop k (sizes stsz)
@@ -127,48 +127,48 @@ run-common r e [] zs = refl
 run-common r e (c ∷ cs) zs = λ k. record { offset = c; length = by-listed r false e zs k } ∷ run-common r e cs (drop (r .per) zs) k
 
 -- as they are made
-pub run-made : (stsz stco : List ℕ) (p : ChunkPosition) (long : Bool) (each : ℕ) → long ≡ eqb (kindOf stco) co64 → each ≡ u32At stsz 12
-    → _≡_ {A = WholeRun} (record { long = long; listed = eqb each 0; per = p .cursor .per; bytes = p .cursor .per * each }) (runAt stsz stco p)
-run-made stsz stco p long each e f = λ k. record { long = e k; listed = eqb (f k) 0; per = p .cursor .per; bytes = p .cursor .per * f k }
+pub run-made : (stsz offsets : List ℕ) (p : ChunkPosition) (long : Bool) (each : ℕ) → long ≡ eqb (kindOf offsets) co64 → each ≡ u32At stsz 12
+    → _≡_ {A = WholeRun} (record { long = long; listed = eqb each 0; per = p .cursor .per; bytes = p .cursor .per * each }) (runAt stsz offsets p)
+run-made stsz offsets p long each e f = λ k. record { long = e k; listed = eqb (f k) 0; per = p .cursor .per; bytes = p .cursor .per * f k }
 
 pub first-made : (r : WholeRun) (b : Bool) (cs zs : List ℕ) (o n : ℕ) → r .listed ≡ b → o ≡ getD cs 0 0 → n ≡ cond b (sum (take (r .per) zs)) (r .bytes) → _≡_ {A = Pair} (record { offset = o; length = n }) (firstPair r cs zs)
 first-made r b cs zs o n e f g = λ k. record { offset = f k; length = (g ∙ sym (by-listed r b e zs)) k }
 
 -- as it is given for n chunks from a place on
-module _ (stsz stco : List ℕ) (p : ChunkPosition) (n : ℕ) (h : p .chunk + n ≤ length (chunkOffsets stco)) (g : (u32At stsz 12 ≡ 0 → ⊥) → p .begin + n * p .cursor .per ≤ u32At stsz 16) where
+module _ (stsz offsets : List ℕ) (p : ChunkPosition) (n : ℕ) (h : p .chunk + n ≤ length (chunkOffsets offsets)) (g : (u32At stsz 12 ≡ 0 → ⊥) → p .begin + n * p .cursor .per ≤ u32At stsz 16) where
   abbrev these : List ℕ
-  these = take n (drop (p .chunk) (chunkOffsets stco))
+  these = take n (drop (p .chunk) (chunkOffsets offsets))
 
   many : length these ≡ n
-  many = length-take-le n (drop (p .chunk) (chunkOffsets stco)) (omega (arith, length-drop (p .chunk) (chunkOffsets stco)))
+  many = length-take-le n (drop (p .chunk) (chunkOffsets offsets)) (omega (arith, length-drop (p .chunk) (chunkOffsets offsets)))
 
-  here : (z : List ℕ) → z ≡ drop (p .begin * 4) (drop 20 stsz) → (b : Bool) → eqb (u32At stsz 12) 0 ≡ b → runPairs (runAt stsz stco p) these (wordsIn z) ≡ wholesAt stsz stco p n
-  here z f true q = run-listed (runAt stsz stco p) q these (wordsIn z) ∙ ap (wholes (p .cursor .per) these) (sizes-cut stsz refl (eqb-true _ _ q) (p .begin) refl f)
+  here : (z : List ℕ) → z ≡ drop (p .begin * 4) (drop 20 stsz) → (b : Bool) → eqb (u32At stsz 12) 0 ≡ b → runPairs (runAt stsz offsets p) these (wordsIn z) ≡ wholesAt stsz offsets p n
+  here z f true q = run-listed (runAt stsz offsets p) q these (wordsIn z) ∙ ap (wholes (p .cursor .per) these) (sizes-cut stsz refl (eqb-true _ _ q) (p .begin) refl f)
   here z f false q =
       let y : u32At stsz 12 ≡ 0 → ⊥ = eqb-false _ _ q in
-      run-common (runAt stsz stco p) q these (wordsIn z) ∙ sym (wholes-common stsz refl y (p .begin) (p .cursor .per) these (rw many (g y)))
+      run-common (runAt stsz offsets p) q these (wordsIn z) ∙ sym (wholes-common stsz refl y (p .begin) (p .cursor .per) these (rw many (g y)))
 
-  pub run-given : (o z : List ℕ) (r : WholeRun) → numbersIn (offsetWidth stco) o ≡ take n (drop (p .chunk) (chunkOffsets stco)) → z ≡ drop (p .begin * 4) (drop 20 stsz) → r ≡ runAt stsz stco p
-      → runPairs r (numbersIn (widthOf (r .long)) o) (wordsIn z) ≡ wholesAt stsz stco p n
+  pub run-given : (o z : List ℕ) (r : WholeRun) → numbersIn (offsetWidth offsets) o ≡ take n (drop (p .chunk) (chunkOffsets offsets)) → z ≡ drop (p .begin * 4) (drop 20 stsz) → r ≡ runAt stsz offsets p
+      → runPairs r (numbersIn (widthOf (r .long)) o) (wordsIn z) ≡ wholesAt stsz offsets p n
   run-given o z r e f d =
-      let w : widthOf (r .long) ≡ offsetWidth stco = sym (width-is stco (ap (λ (x : WholeRun). x .long) d)) in
+      let w : widthOf (r .long) ≡ offsetWidth offsets = sym (width-is offsets (ap (λ (x : WholeRun). x .long) d)) in
       ap (λ (k : ℕ). runPairs r (numbersIn k o) (wordsIn z)) w ∙ ap (λ l. runPairs r l (wordsIn z)) e ∙ ap (λ (x : WholeRun). runPairs x these (wordsIn z)) d ∙ here z f (eqb (u32At stsz 12) 0) refl
 
 -- ---- one chunk, or whole ones
 
-module _ (stsz stco : List ℕ) (i j : ℕ) (p : ChunkPosition) (n : ℕ) where
-  pub at-once-one : n ≡ 1 → {q : Pair} → q ≡ pairOf i j (p .begin) (p .cursor .per) (getD (chunkOffsets stco) (p .chunk) 0) (sizes stsz) → pairsAtOnce stsz stco i j p n ≡ q ∷ []
+module _ (stsz offsets : List ℕ) (i j : ℕ) (p : ChunkPosition) (n : ℕ) where
+  pub at-once-one : n ≡ 1 → {q : Pair} → q ≡ pairOf i j (p .begin) (p .cursor .per) (getD (chunkOffsets offsets) (p .chunk) 0) (sizes stsz) → pairsAtOnce stsz offsets i j p n ≡ q ∷ []
   at-once-one z e = rw (eq-eqb n 1 z, e)
 
-  pub at-once-whole : (n ≡ 1 → ⊥) → pairsAtOnce stsz stco i j p n ≡ wholesAt stsz stco p n
+  pub at-once-whole : (n ≡ 1 → ⊥) → pairsAtOnce stsz offsets i j p n ≡ wholesAt stsz offsets p n
   at-once-whole z = rw (ne-eqb n 1 z)
 
-  pub at-once-length : AtOnce stsz stco i j p n → length (pairsAtOnce stsz stco i j p n) ≡ n
+  pub at-once-length : AtOnce stsz offsets i j p n → length (pairsAtOnce stsz offsets i j p n) ≡ n
   at-once-length o = elim (ℕ-discrete n 1) [
     | yes z ↦ ap length (at-once-one z refl) ∙ sym z
     | no z ↦
-        let cs = drop (p .chunk) (chunkOffsets stco) in
-        ap length (at-once-whole z) ∙ wholes-length (p .cursor .per) (take n cs) (drop (p .begin) (sizes stsz)) ∙ length-take-le n cs (omega (arith, o .whole z .offsets, length-drop (p .chunk) (chunkOffsets stco)))
+        let cs = drop (p .chunk) (chunkOffsets offsets) in
+        ap length (at-once-whole z) ∙ wholes-length (p .cursor .per) (take n cs) (drop (p .begin) (sizes stsz)) ∙ length-take-le n cs (omega (arith, o .whole z .there, length-drop (p .chunk) (chunkOffsets offsets)))
   ]
 
 -- ---- a turn of a loop over them

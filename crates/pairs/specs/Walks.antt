@@ -20,7 +20,7 @@ use Rattle.pairs.specs.declared.WholeRun.{WholeRun}
 
 -- the pairs of the samples from i up to j, with C chunks; and their lengths
 abbrev pub pairsBetween : List ℕ → List ℕ → List ℕ → ℕ → ℕ → ℕ → List Pair
-pairsBetween stsc stsz stco chunks i j = touched i j 0 (perChunk stsc chunks) (chunkOffsets stco) (sizes stsz)
+pairsBetween stsc stsz offsets chunks i j = touched i j 0 (perChunk stsc chunks) (chunkOffsets offsets) (sizes stsz)
 
 abbrev pub lengthsOf : List Pair → List ℕ
 lengthsOf qs = map (λ q. q .length) qs
@@ -39,15 +39,15 @@ Fitting b [] = Unit
 Fitting b (q ∷ qs) = (q .offset < b) × (q .length < b) × Fitting b qs
 
 -- what is asked where pairs are put into so many places
-pub record Putting (b : ℕ) (stsc stsz stco : List ℕ) (chunks i j places : ℕ) : Type 0 where
+pub record Putting (b : ℕ) (stsc stsz offsets : List ℕ) (chunks i j places : ℕ) : Type 0 where
   pub short : length stsc < 2 ^ 32
-  pub fits : Fitting b (pairsBetween stsc stsz stco chunks i j)
-  pub total : sum (lengthsOf (pairsBetween stsc stsz stco chunks i j)) < 2 ^ 64
-  pub room : 2 * length (pairsBetween stsc stsz stco chunks i j) ≤ places
+  pub fits : Fitting b (pairsBetween stsc stsz offsets chunks i j)
+  pub total : sum (lengthsOf (pairsBetween stsc stsz offsets chunks i j)) < 2 ^ 64
+  pub room : 2 * length (pairsBetween stsc stsz offsets chunks i j) ≤ places
 
 -- the pairs of the chunks from a place on
 abbrev pub pairsAhead : List ℕ → List ℕ → List ℕ → ℕ → ℕ → ℕ → ChunkPosition → List Pair
-pairsAhead stsc stsz stco chunks i j p = touched i j (p .begin) (ahead stsc chunks (p .cursor)) (drop (p .chunk) (chunkOffsets stco)) (sizes stsz)
+pairsAhead stsc stsz offsets chunks i j p = touched i j (p .begin) (ahead stsc chunks (p .cursor)) (drop (p .chunk) (chunkOffsets offsets)) (sizes stsz)
 
 -- a place before a chunk, if one is ahead, whose samples begin at the place's own; sample i does not lie behind that chunk
 pub record At (stsc : List ℕ) (chunks i : ℕ) (p : ChunkPosition) : Type 0 where
@@ -91,34 +91,34 @@ runPairs r (c ∷ cs) zs = firstPair r (c ∷ cs) zs ∷ runPairs r cs (drop (r 
 
 -- what the chunks of the run at a place have in common
 abbrev pub runAt : List ℕ → List ℕ → ChunkPosition → WholeRun
-runAt stsz stco p =
+runAt stsz offsets p =
     record {
-      long = eqb (kindOf stco) co64;
+      long = eqb (kindOf offsets) co64;
       listed = eqb (u32At stsz 12) 0;
       per = p .cursor .per;
       bytes = p .cursor .per * u32At stsz 12;
     }
 
 -- n chunks of the run at a place are asked for whole; their offsets are there, and their sizes, where these are common
-pub record Whole (stsz stco : List ℕ) (i j : ℕ) (p : ChunkPosition) (n : ℕ) : Type 0 where
+pub record Whole (stsz offsets : List ℕ) (i j : ℕ) (p : ChunkPosition) (n : ℕ) : Type 0 where
   pub from : i ≤ p .begin
   pub to : p .begin + n * p .cursor .per ≤ j
-  pub offsets : p .chunk + n ≤ length (chunkOffsets stco)
+  pub there : p .chunk + n ≤ length (chunkOffsets offsets)
   pub common : (u32At stsz 12 ≡ 0 → ⊥) → p .begin + n * p .cursor .per ≤ u32At stsz 16
 
 -- n chunks of the run are put at once: one, of whatever is asked for of it, or some whole ones
-pub record AtOnce (stsz stco : List ℕ) (i j : ℕ) (p : ChunkPosition) (n : ℕ) : Type 0 where
+pub record AtOnce (stsz offsets : List ℕ) (i j : ℕ) (p : ChunkPosition) (n : ℕ) : Type 0 where
   pub some : 0 < n
   pub few : n ≤ p .cursor .remaining
-  pub whole : (n ≡ 1 → ⊥) → Whole stsz stco i j p n
+  pub whole : (n ≡ 1 → ⊥) → Whole stsz offsets i j p n
 
 -- the pairs of these
 abbrev pub wholesAt : List ℕ → List ℕ → ChunkPosition → ℕ → List Pair
-wholesAt stsz stco p n = wholes (p .cursor .per) (take n (drop (p .chunk) (chunkOffsets stco))) (drop (p .begin) (sizes stsz))
+wholesAt stsz offsets p n = wholes (p .cursor .per) (take n (drop (p .chunk) (chunkOffsets offsets))) (drop (p .begin) (sizes stsz))
 
 abbrev pub pairsAtOnce : List ℕ → List ℕ → ℕ → ℕ → ChunkPosition → ℕ → List Pair
-pairsAtOnce stsz stco i j p n =
-    cond (eqb n 1) (pairOf i j (p .begin) (p .cursor .per) (getD (chunkOffsets stco) (p .chunk) 0) (sizes stsz) ∷ []) (wholesAt stsz stco p n)
+pairsAtOnce stsz offsets i j p n =
+    cond (eqb n 1) (pairOf i j (p .begin) (p .cursor .per) (getD (chunkOffsets offsets) (p .chunk) 0) (sizes stsz) ∷ []) (wholesAt stsz offsets p n)
 
 -- some pairs, their numbers below b, can be put into so many places, from the place `at` on
 pub record Room (b : ℕ) (qs : List Pair) (at places : ℕ) : Type 0 where

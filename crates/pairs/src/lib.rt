@@ -1,4 +1,4 @@
-// The byte ranges of some samples, chunk after chunk: one pass over the entries of stsc, stco and stsz that they touch. Samples are named by their index,
+// The byte ranges of some samples, chunk after chunk: one pass over the entries of stsc, stsz and the chunk offsets that they touch. Samples are named by their index,
 // `from` up to, not including, `stop`. The functions that walk have a place by value, so that each use of the pairs is a loop of its own and no list of
 // pairs is kept.
 use bigendian::after;
@@ -102,9 +102,9 @@ fn bytes_before(stsz: &[u8], begin: u32, first: u32) -> u64
 }
 
 // The pair of the chunk at a place.
-pub fn pair_at(stsz: &[u8], stco: &[u8], p: ChunkPosition, from: u32, stop: u32) -> Pair
-    requires { ⌜ (p .begin < stop) × (pairOf from stop (p .begin) (p .cursor .per) (getD (chunkOffsets (now stco)) (p .chunk) 0) (sizes (now stsz)) .offset < 2 ^ 64) ⌝ }
-    ensures { λ r. ⌜ r ≡ pairOf from stop (p .begin) (p .cursor .per) (getD (chunkOffsets (now (stco .entry))) (p .chunk) 0) (sizes (now (stsz .entry))) ⌝ }
+pub fn pair_at(stsz: &[u8], offsets: &[u8], p: ChunkPosition, from: u32, stop: u32) -> Pair
+    requires { ⌜ (p .begin < stop) × (pairOf from stop (p .begin) (p .cursor .per) (getD (chunkOffsets (now offsets)) (p .chunk) 0) (sizes (now stsz)) .offset < 2 ^ 64) ⌝ }
+    ensures { λ r. ⌜ r ≡ pairOf from stop (p .begin) (p .cursor .per) (getD (chunkOffsets (now (offsets .entry))) (p .chunk) 0) (sizes (now (stsz .entry))) ⌝ }
 {
     let c = p.cursor;
     let per = c.per;
@@ -113,7 +113,7 @@ pub fn pair_at(stsz: &[u8], stco: &[u8], p: ChunkPosition, from: u32, stop: u32)
     let first = larger(from, begin as u32);
     let before = bytes_before(stsz, begin as u32, first);
     Pair {
-        offset: chunk_offset(stco, p.chunk) + before,
+        offset: chunk_offset(offsets, p.chunk) + before,
         length: bytes_between(stsz, first, end),
     }
 }
@@ -186,24 +186,21 @@ pub fn width_of(long: bool) -> usize
 }
 
 // How many offsets a table has.
-fn offsets_there(stco: &[u8]) -> u64
-    ensures { λ r. ⌜ r ≡ length (chunkOffsets (now (stco .entry))) ⌝ }
+fn offsets_there(offsets: &[u8]) -> u64
+    ensures { λ r. ⌜ r ≡ length (chunkOffsets (now (offsets .entry))) ⌝ }
 {
-    let part = after(stco, 16);
-    (part.len() / width_of(is_long(stco))) as u64
+    let part = after(offsets, 16);
+    (part.len() / width_of(is_long(offsets))) as u64
 }
 
 // How many chunks of the run at a place are put at once: all that are asked for whole, or one.
-pub fn chunks_at_once(stsz: &[u8], stco: &[u8], p: ChunkPosition, from: u32, stop: u32) -> u64
+fn some_at_once(stsz: &[u8], offsets: &[u8], p: ChunkPosition, from: u32, stop: u32) -> u64
     requires { ⌜ (p .cursor .remaining ≡ 0 → ⊥) × (p .chunk < 2 ^ 63) ⌝ }
-    ensures { λ r. ⌜ AtOnce (now (stsz .entry)) (now (stco .entry)) from stop p r ⌝ }
+    ensures { λ r. ⌜ AtOnce (now (stsz .entry)) (now (offsets .entry)) from stop p r ⌝ }
 {
     let c = p.cursor;
     let count = c.remaining;
     let begin = p.begin;
-    if count == 1 {
-        return 1;
-    }
     if begin < from as u64 {
         return 1;
     }
@@ -211,10 +208,22 @@ pub fn chunks_at_once(stsz: &[u8], stco: &[u8], p: ChunkPosition, from: u32, sto
     if n == 0 {
         return 1;
     }
-    if offsets_there(stco) < p.chunk + n {
+    if offsets_there(offsets) < p.chunk + n {
         return 1;
     }
     n
+}
+
+// The same. A run of one chunk is told without a call.
+pub fn chunks_at_once(stsz: &[u8], offsets: &[u8], p: ChunkPosition, from: u32, stop: u32) -> u64
+    requires { ⌜ (p .cursor .remaining ≡ 0 → ⊥) × (p .chunk < 2 ^ 63) ⌝ }
+    ensures { λ r. ⌜ AtOnce (now (stsz .entry)) (now (offsets .entry)) from stop p r ⌝ }
+{
+    let c = p.cursor;
+    if c.remaining == 1 {
+        return 1;
+    }
+    some_at_once(stsz, offsets, p, from, stop)
 }
 
 // What whole chunks of a run have in common: whether their offsets have 64 bits, how many samples each has, whether the sizes of these are listed, and if
@@ -227,14 +236,14 @@ pub struct WholeRun {
 }
 
 // What the chunks of the run at a place have in common.
-pub fn run_at(stsz: &[u8], stco: &[u8], p: ChunkPosition) -> WholeRun
-    ensures { λ r. ⌜ r ≡ runAt (now (stsz .entry)) (now (stco .entry)) p ⌝ }
+pub fn run_at(stsz: &[u8], offsets: &[u8], p: ChunkPosition) -> WholeRun
+    ensures { λ r. ⌜ r ≡ runAt (now (stsz .entry)) (now (offsets .entry)) p ⌝ }
 {
     let c = p.cursor;
     let per = c.per;
     let each = u32_at(stsz, 12);
     WholeRun {
-        long: is_long(stco),
+        long: is_long(offsets),
         listed: each == 0,
         per,
         bytes: per as u64 * each as u64,
@@ -242,12 +251,12 @@ pub fn run_at(stsz: &[u8], stco: &[u8], p: ChunkPosition) -> WholeRun
 }
 
 // The offsets of n chunks from a place on.
-pub fn run_offsets<'a>(stco: &'a [u8], p: ChunkPosition, n: u64) -> &'a [u8]
-    requires { ⌜ p .chunk + n ≤ length (chunkOffsets (now stco)) ⌝ }
-    ensures { λ r. ⌜ numbersIn (offsetWidth (now (stco .entry))) (now r) ≡ take n (drop (p .chunk) (chunkOffsets (now (stco .entry)))) ⌝ }
+pub fn run_offsets<'a>(offsets: &'a [u8], p: ChunkPosition, n: u64) -> &'a [u8]
+    requires { ⌜ p .chunk + n ≤ length (chunkOffsets (now offsets)) ⌝ }
+    ensures { λ r. ⌜ numbersIn (offsetWidth (now (offsets .entry))) (now r) ≡ take n (drop (p .chunk) (chunkOffsets (now (offsets .entry)))) ⌝ }
 {
-    let part = after(stco, 16);
-    let width = width_of(is_long(stco));
+    let part = after(offsets, 16);
+    let width = width_of(is_long(offsets));
     let start = p.chunk as usize * width;
     let end = start + n as usize * width;
     &part[start..end]

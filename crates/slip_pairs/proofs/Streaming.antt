@@ -194,12 +194,12 @@ module _ {all rest : List Pair} {out₀ out : List ℕ} {at k : ℕ} (w : Writin
 
 -- ---- from place to place
 
-module _ (stsc stsz stco : List ℕ) (chunks i j : ℕ) where
+module _ (stsc stsz offsets : List ℕ) (chunks i j : ℕ) where
   abbrev pub allPairs : List Pair
-  allPairs = pairsBetween stsc stsz stco chunks i j
+  allPairs = pairsBetween stsc stsz offsets chunks i j
 
   abbrev pub aheadOf : ChunkPosition → List Pair
-  aheadOf p = pairsAhead stsc stsz stco chunks i j p
+  aheadOf p = pairsAhead stsc stsz offsets chunks i j p
 
   -- a place, and that the pairs from there on fit
   pub record Walking (p : ChunkPosition) : Type 0 where
@@ -208,22 +208,22 @@ module _ (stsc stsz stco : List ℕ) (chunks i j : ℕ) where
 
   pub walking-start : (p : ChunkPosition) → StartsAt stsc chunks i p → Fitting (2 ^ 64) allPairs → Walking p × (aheadOf p ≡ allPairs)
   walking-start p s f =
-      let e = from-start stsc stsz stco chunks i j p s in
+      let e = from-start stsc stsz offsets chunks i j p s in
       (record { place = s .at; fits = rw e f }, e)
 
   module _ (p : ChunkPosition) (w : Walking p) where
     pub walking-end : (eqb (p .cursor .remaining) 0 || leb j (p .begin)) ≡ true → aheadOf p ≡ []
-    walking-end e = at-end stsc stsz stco chunks i j p (w .place) e
+    walking-end e = at-end stsc stsz offsets chunks i j p (w .place) e
 
-    module _ (e : (eqb (p .cursor .remaining) 0 || leb j (p .begin)) ≡ false) (n : ℕ) (o : AtOnce stsz stco i j p n) where
-      pub walking-split : aheadOf p ≡ pairsAtOnce stsz stco i j p n ++ aheadOf (placePast stsc chunks n p)
-      walking-split = at-once stsc stsz stco chunks i j p (w .place) e n o
+    module _ (e : (eqb (p .cursor .remaining) 0 || leb j (p .begin)) ≡ false) (n : ℕ) (o : AtOnce stsz offsets i j p n) where
+      pub walking-split : aheadOf p ≡ pairsAtOnce stsz offsets i j p n ++ aheadOf (placePast stsc chunks n p)
+      walking-split = at-once stsc stsz offsets chunks i j p (w .place) e n o
 
-      parts : Fitting (2 ^ 64) (pairsAtOnce stsz stco i j p n) × Fitting (2 ^ 64) (aheadOf (placePast stsc chunks n p))
-      parts = fitting-append (2 ^ 64) (pairsAtOnce stsz stco i j p n) (aheadOf (placePast stsc chunks n p)) (rw walking-split at (w .fits))
+      parts : Fitting (2 ^ 64) (pairsAtOnce stsz offsets i j p n) × Fitting (2 ^ 64) (aheadOf (placePast stsc chunks n p))
+      parts = fitting-append (2 ^ 64) (pairsAtOnce stsz offsets i j p n) (aheadOf (placePast stsc chunks n p)) (rw walking-split at (w .fits))
 
-      pub walking-fits : Fitting (2 ^ 64) (pairsAtOnce stsz stco i j p n)
+      pub walking-fits : Fitting (2 ^ 64) (pairsAtOnce stsz offsets i j p n)
       walking-fits = parts .0
 
       pub walking-turn : (r : ChunkPosition) → r ≡ placePast stsc chunks n p → Walking r × (aheadOf r ≡ aheadOf (placePast stsc chunks n p))
-      walking-turn r f = (rw f (record { place = at-past stsc stsz stco chunks i j p (w .place) e n (o .few) (o .some); fits = parts .1 }), ap aheadOf f)
+      walking-turn r f = (rw f (record { place = at-past stsc stsz offsets chunks i j p (w .place) e n (o .few) (o .some); fits = parts .1 }), ap aheadOf f)

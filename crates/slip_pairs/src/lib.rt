@@ -91,34 +91,34 @@ fn measure_run(offsets: &[u8], sizes: &[u8], r: WholeRun) -> Measured
 // Of the pairs of some chunks of the run at a place: of one, or of whole ones.
 fn measure_chunks(
     stsz: &[u8],
-    stco: &[u8],
+    offsets: &[u8],
     p: ChunkPosition,
     n: u64,
     from: u32,
     stop: u32,
 ) -> Measured
-    requires { ⌜ (p .begin < stop) × AtOnce (now stsz) (now stco) from stop p n × Fitting (2 ^ 64) (pairsAtOnce (now stsz) (now stco) from stop p n) × (length (pairBytes (pairsAtOnce (now stsz) (now stco) from stop p n)) < 2 ^ 64) ⌝ }
-    ensures { λ m. ⌜ m ≡ measuredOf (pairsAtOnce (now (stsz .entry)) (now (stco .entry)) from stop p n) ⌝ }
+    requires { ⌜ (p .begin < stop) × AtOnce (now stsz) (now offsets) from stop p n × Fitting (2 ^ 64) (pairsAtOnce (now stsz) (now offsets) from stop p n) × (length (pairBytes (pairsAtOnce (now stsz) (now offsets) from stop p n)) < 2 ^ 64) ⌝ }
+    ensures { λ m. ⌜ m ≡ measuredOf (pairsAtOnce (now (stsz .entry)) (now (offsets .entry)) from stop p n) ⌝ }
 {
     if n == 1 {
-        return measure_pair(pair_at(stsz, stco, p, from, stop));
+        return measure_pair(pair_at(stsz, offsets, p, from, stop));
     }
-    let offsets = run_offsets(stco, p, n);
+    let these = run_offsets(offsets, p, n);
     let sizes = run_sizes(stsz, p);
-    measure_run(offsets, sizes, run_at(stsz, stco, p))
+    measure_run(these, sizes, run_at(stsz, offsets, p))
 }
 
 // Of the pairs of the samples from one index up to, not including, another.
 pub fn measure_pairs(
     stsc: &[u8],
     stsz: &[u8],
-    stco: &[u8],
+    offsets: &[u8],
     chunks: u32,
     from: u32,
     stop: u32,
 ) -> Measured
-    requires { ⌜ (length (now stsc) < 2 ^ 32) × Fitting (2 ^ 64) (pairsBetween (now stsc) (now stsz) (now stco) chunks from stop) × (length (pairBytes (pairsBetween (now stsc) (now stsz) (now stco) chunks from stop)) < 2 ^ 64) ⌝ }
-    ensures { λ m. ⌜ m ≡ measuredOf (pairsBetween (now (stsc .entry)) (now (stsz .entry)) (now (stco .entry)) chunks from stop) ⌝ }
+    requires { ⌜ (length (now stsc) < 2 ^ 32) × Fitting (2 ^ 64) (pairsBetween (now stsc) (now stsz) (now offsets) chunks from stop) × (length (pairBytes (pairsBetween (now stsc) (now stsz) (now offsets) chunks from stop)) < 2 ^ 64) ⌝ }
+    ensures { λ m. ⌜ m ≡ measuredOf (pairsBetween (now (stsc .entry)) (now (stsz .entry)) (now (offsets .entry)) chunks from stop) ⌝ }
 {
     let mut p = start_place(stsc, chunks, from);
     let mut m = Measured {
@@ -126,8 +126,8 @@ pub fn measure_pairs(
         wide: false,
     };
     while !is_past(p, stop) {
-        let n = chunks_at_once(stsz, stco, p, from, stop);
-        m = both(m, measure_chunks(stsz, stco, p, n, from, stop));
+        let n = chunks_at_once(stsz, offsets, p, from, stop);
+        m = both(m, measure_chunks(stsz, offsets, p, n, from, stop));
         p = place_past(stsc, chunks, p, n);
     }
     m
@@ -164,7 +164,7 @@ fn write_run(offsets: &[u8], sizes: &[u8], r: WholeRun, out: &mut [u8], at: usiz
 // Writes the pairs of some chunks of the run at a place: of one, or of whole ones.
 fn write_chunks(
     stsz: &[u8],
-    stco: &[u8],
+    offsets: &[u8],
     p: ChunkPosition,
     n: u64,
     from: u32,
@@ -172,38 +172,38 @@ fn write_chunks(
     out: &mut [u8],
     at: usize,
 ) -> usize
-    requires { ⌜ (p .begin < stop) × AtOnce (now stsz) (now stco) from stop p n × Fitting (2 ^ 64) (pairsAtOnce (now stsz) (now stco) from stop p n) × (at + length (pairBytes (pairsAtOnce (now stsz) (now stco) from stop p n)) ≤ length (now out)) ⌝ }
-    ensures { λ past. ⌜ Wrote (pairsAtOnce (now (stsz .entry)) (now (stco .entry)) from stop p n) (now (out .entry)) at past (now (out .exit)) ⌝ }
+    requires { ⌜ (p .begin < stop) × AtOnce (now stsz) (now offsets) from stop p n × Fitting (2 ^ 64) (pairsAtOnce (now stsz) (now offsets) from stop p n) × (at + length (pairBytes (pairsAtOnce (now stsz) (now offsets) from stop p n)) ≤ length (now out)) ⌝ }
+    ensures { λ past. ⌜ Wrote (pairsAtOnce (now (stsz .entry)) (now (offsets .entry)) from stop p n) (now (out .entry)) at past (now (out .exit)) ⌝ }
 {
     if n == 1 {
-        let q = pair_at(stsz, stco, p, from, stop);
+        let q = pair_at(stsz, offsets, p, from, stop);
         return write_pair(q, out, at);
     }
-    let offsets = run_offsets(stco, p, n);
+    let these = run_offsets(offsets, p, n);
     let sizes = run_sizes(stsz, p);
-    let r = run_at(stsz, stco, p);
-    write_run(offsets, sizes, r, out, at)
+    let r = run_at(stsz, offsets, p);
+    write_run(these, sizes, r, out, at)
 }
 
 // Writes the pairs of the samples from one index up to, not including, another, from the place `at` on, and answers the place past them.
 pub fn write_pairs(
     stsc: &[u8],
     stsz: &[u8],
-    stco: &[u8],
+    offsets: &[u8],
     chunks: u32,
     from: u32,
     stop: u32,
     out: &mut [u8],
     at: usize,
 ) -> usize
-    requires { ⌜ (length (now stsc) < 2 ^ 32) × Fitting (2 ^ 64) (pairsBetween (now stsc) (now stsz) (now stco) chunks from stop) × (at + length (pairBytes (pairsBetween (now stsc) (now stsz) (now stco) chunks from stop)) ≤ length (now out)) ⌝ }
-    ensures { λ past. ⌜ Wrote (pairsBetween (now (stsc .entry)) (now (stsz .entry)) (now (stco .entry)) chunks from stop) (now (out .entry)) at past (now (out .exit)) ⌝ }
+    requires { ⌜ (length (now stsc) < 2 ^ 32) × Fitting (2 ^ 64) (pairsBetween (now stsc) (now stsz) (now offsets) chunks from stop) × (at + length (pairBytes (pairsBetween (now stsc) (now stsz) (now offsets) chunks from stop)) ≤ length (now out)) ⌝ }
+    ensures { λ past. ⌜ Wrote (pairsBetween (now (stsc .entry)) (now (stsz .entry)) (now (offsets .entry)) chunks from stop) (now (out .entry)) at past (now (out .exit)) ⌝ }
 {
     let mut p = start_place(stsc, chunks, from);
     let mut k = at;
     while !is_past(p, stop) {
-        let n = chunks_at_once(stsz, stco, p, from, stop);
-        k = write_chunks(stsz, stco, p, n, from, stop, out, k);
+        let n = chunks_at_once(stsz, offsets, p, from, stop);
+        k = write_chunks(stsz, offsets, p, n, from, stop, out, k);
         p = place_past(stsc, chunks, p, n);
     }
     k

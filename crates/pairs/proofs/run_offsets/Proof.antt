@@ -22,19 +22,19 @@ mul-start : tie.Need-mul-start
 mul-start c =
     let s = c .before .before .before .before in
     let f = c .width-of .ensures ∙ sym (width-is _ (c .before .is-long .ensures)) in
-    record { fits = omega (arith, cut-fits (now (s .args .stco)) (s .args .p .chunk) (s .args .n) (c .before .before .after .ensures) f (s .pre), s .good) }
+    record { fits = omega (arith, cut-fits (now (s .args .offsets)) (s .args .p .chunk) (s .args .n) (c .before .before .after .ensures) f (s .pre), s .good) }
 
 mul-end : tie.Need-mul-end
 mul-end c =
     let s = c .before .before .before .before in
     let f = c .width-of .ensures ∙ sym (width-is _ (c .before .is-long .ensures)) in
-    record { fits = omega (arith, cut-fits (now (s .args .stco)) (s .args .p .chunk) (s .args .n) (c .before .before .after .ensures) f (s .pre), s .good) }
+    record { fits = omega (arith, cut-fits (now (s .args .offsets)) (s .args .p .chunk) (s .args .n) (c .before .before .after .ensures) f (s .pre), s .good) }
 
 add-end : tie.Need-add-end
 add-end c =
     let s = c .before .before .before .before in
     let f = c .width-of .ensures ∙ sym (width-is _ (c .before .is-long .ensures)) in
-    record { fits = omega (arith, cut-fits (now (s .args .stco)) (s .args .p .chunk) (s .args .n) (c .before .before .after .ensures) f (s .pre), s .good) }
+    record { fits = omega (arith, cut-fits (now (s .args .offsets)) (s .args .p .chunk) (s .args .n) (c .before .before .after .ensures) f (s .pre), s .good) }
 
 sub-result : tie.Need-sub-result
 sub-result c = search needs
@@ -46,13 +46,13 @@ part-result-end : tie.Need-part-result-end
 part-result-end c =
     let s = c .before .before .before .before in
     let f = c .width-of .ensures ∙ sym (width-is _ (c .before .is-long .ensures)) in
-    cut-within (now (s .args .stco)) (s .args .p .chunk) (s .args .n) (c .before .before .after .ensures) f (s .pre)
+    cut-within (now (s .args .offsets)) (s .args .p .chunk) (s .args .n) (c .before .before .after .ensures) f (s .pre)
 
 returns : tie.Need-returns
 returns c =
     let s = c .before .before .before .before .before in
     let f = c .before .width-of .ensures ∙ sym (width-is _ (c .before .before .is-long .ensures)) in
-    offsets-cut (now (s .args .stco)) (s .args .p .chunk) (s .args .n) (c .before .before .before .after .ensures) f
+    offsets-cut (now (s .args .offsets)) (s .args .p .chunk) (s .args .n) (c .before .before .before .after .ensures) f
 
 pub run-offsets-spec : {M : Type 1} → statement M
 run-offsets-spec =

@@ -24,7 +24,7 @@ returns c =
     c .measure-pair .ensures ∙ ap measuredOf (sym (at-once-one _ _ _ _ (s .args .p) (s .args .n) (i .if1 .taken) (c .before .pair-at .ensures)))
 
 run-offsets-requires : tie.Need-run-offsets-requires
-run-offsets-requires c κs = c .before .before .before .pre .1 .whole (c .if1 .left) .offsets
+run-offsets-requires c κs = c .before .before .before .pre .1 .whole (c .if1 .left) .there
 
 run-sizes-requires : tie.Need-run-sizes-requires
 run-sizes-requires c κs = let s = c .before .before .before .before in omega (arith, s .pre .0, s .fits .stop .fits)
@@ -37,7 +37,7 @@ measure-run-requires c κs =
     let i = c .before .before .before in
     let s = i .before .before .before in
     let w = s .pre .1 .whole (i .if1 .left) in
-    let e = run-given _ _ (s .args .p) (s .args .n) (w .offsets) (w .common) _ _ _ (c .before .before .run-offsets .ensures) (c .before .run-sizes .ensures) (c .run-at .ensures) ∙ sym (at-once-whole _ _ _ _ (s .args .p) (s .args .n) (i .if1 .left)) in
+    let e = run-given _ _ (s .args .p) (s .args .n) (w .there) (w .common) _ _ _ (c .before .before .run-offsets .ensures) (c .before .run-sizes .ensures) (c .run-at .ensures) ∙ sym (at-once-whole _ _ _ _ (s .args .p) (s .args .n) (i .if1 .left)) in
     same-short e (s .pre .3)
 
 returns-2 : tie.Need-returns-2
@@ -46,7 +46,7 @@ returns-2 c =
     let i = r .before .before .before in
     let s = i .before .before .before in
     let w = s .pre .1 .whole (i .if1 .left) in
-    let e = run-given _ _ (s .args .p) (s .args .n) (w .offsets) (w .common) _ _ _ (r .before .before .run-offsets .ensures) (r .before .run-sizes .ensures) (r .run-at .ensures) ∙ sym (at-once-whole _ _ _ _ (s .args .p) (s .args .n) (i .if1 .left)) in
+    let e = run-given _ _ (s .args .p) (s .args .n) (w .there) (w .common) _ _ _ (r .before .before .run-offsets .ensures) (r .before .run-sizes .ensures) (r .run-at .ensures) ∙ sym (at-once-whole _ _ _ _ (s .args .p) (s .args .n) (i .if1 .left)) in
     c .measure-run .ensures ∙ ap measuredOf e
 
 pub measure-chunks-spec : {M : Type 1} → statement M

@@ -13,11 +13,11 @@ use Rattle.slip_pairs.proofs.measure_pairs.Statement.{statement}
 use Rattle.slip_pairs.proofs.measure_pairs.Tie as tie
 
 abbrev Inv-loop : tie.InvT-loop
-Inv-loop stsc stsz stco chunks from stop p₀ m₀ p m =
-    Walking stsc stsz stco chunks from stop p × Measuring (allPairs stsc stsz stco chunks from stop) (aheadOf stsc stsz stco chunks from stop p) m
+Inv-loop stsc stsz offsets chunks from stop p₀ m₀ p m =
+    Walking stsc stsz offsets chunks from stop p × Measuring (allPairs stsc stsz offsets chunks from stop) (aheadOf stsc stsz offsets chunks from stop p) m
 
 abbrev μ-loop : tie.MeasureT-loop
-μ-loop stsc stsz stco chunks from stop p₀ m₀ p m = length (ahead stsc chunks (p .cursor))
+μ-loop stsc stsz offsets chunks from stop p₀ m₀ p m = length (ahead stsc chunks (p .cursor))
 
 start-place-requires : tie.Need-start-place-requires Inv-loop μ-loop
 start-place-requires c κs = c .before .before .before .pre .0

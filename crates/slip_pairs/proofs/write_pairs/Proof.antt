@@ -13,11 +13,11 @@ use Rattle.slip_pairs.proofs.write_pairs.Statement.{statement}
 use Rattle.slip_pairs.proofs.write_pairs.Tie as tie
 
 abbrev Inv-loop : tie.InvT-loop
-Inv-loop stsc stsz stco chunks from stop out₀ at p₀ k₀ out p k =
-    Walking stsc stsz stco chunks from stop p × Writing (allPairs stsc stsz stco chunks from stop) out₀ at (aheadOf stsc stsz stco chunks from stop p) out k
+Inv-loop stsc stsz offsets chunks from stop out₀ at p₀ k₀ out p k =
+    Walking stsc stsz offsets chunks from stop p × Writing (allPairs stsc stsz offsets chunks from stop) out₀ at (aheadOf stsc stsz offsets chunks from stop p) out k
 
 abbrev μ-loop : tie.MeasureT-loop
-μ-loop stsc stsz stco chunks from stop out₀ at p₀ k₀ out p k = length (ahead stsc chunks (p .cursor))
+μ-loop stsc stsz offsets chunks from stop out₀ at p₀ k₀ out p k = length (ahead stsc chunks (p .cursor))
 
 start-place-requires : tie.Need-start-place-requires Inv-loop μ-loop
 start-place-requires c κs = c .before .before .before .before .pre .0
