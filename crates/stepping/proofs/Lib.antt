@@ -1,3 +1,4 @@
 pub mod Agreeing
 pub mod Started
+pub mod Forward
 pub mod Stepped

@@ -38,6 +38,7 @@ use Rattle.stepping.specs.declared.Stepper.{Stepper}
 use Rattle.stepping.specs.declared.Step.{Step}
 use Rattle.stepping.specs.declared.Step.the-variants.{Next, Done}
 use Rattle.stepping.proofs.Agreeing.{asked-agrees, in-film}
+use Rattle.stepping.proofs.Forward.{moved-forward}
 
 -- where no entry is needed, reading them changes nothing
 pub ready-same : (s : List ℕ) (p : Tables) (m : Moving) → needsEntries (p .ctts .len) m ≡ false → readiedIn s p m ≡ m
@@ -126,7 +127,7 @@ done-next : {x : Sample} {q : Stepper} {A : Type 0} → Done ≡ Next x q → A
 done-next e = let z : _≡_ {A = ℕ} 0 1 = cc in absurd (omega arith)
 
 pub done-elsewhere : (p : Stepper) → Elsewhere p Done
-done-elsewhere p = record { moves = λ x q e. done-next e; same = λ x q e. done-next e; low = λ x q e. done-next e }
+done-elsewhere p = record { moves = λ x q e. done-next e; same = λ x q e. done-next e; forward = λ x q e. done-next e; low = λ x q e. done-next e }
 
 -- past the last sample
 pub steps-past : (s : List ℕ) (p : Stepper) → p .samples ≤ p .moving .index → Steps s p Done
@@ -194,6 +195,9 @@ module _ (s : List ℕ) (p : Stepper) (h : p .moving .index < p .samples) (m : M
             let o : m .index ≡ p .moving .index = ap (λ o. o .index) e in
             rw a (h, omega arith, refl);
         same = λ r q c. let a : q ≡ record { tables = p .tables; samples = p .samples; moving = n } = cc in rw a refl;
+        forward = λ r q c.
+            let a : q ≡ record { tables = p .tables; samples = p .samples; moving = n } = cc in
+            rw (a, ← known .2, e) (moved-forward s (p .tables) z y (p .moving));
         low = λ r q c.
             let a : x ≡ r = cc in
             let b = may-known m (known .0) in

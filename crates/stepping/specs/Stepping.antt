@@ -13,6 +13,7 @@ use Rattle.structure.specs.Track.{tableOf, offsetTable, samplesOf}
 use Rattle.track.specs.Track.{trackOf}
 use Rattle.places.specs.Places.{AreTables}
 use Rattle.positions.specs.Moving.{Bytes, StandsAt}
+use Rattle.positions.specs.declared.moving.Moving.{Moving}
 use Rattle.questions.specs.Asked.{askRefusal, trackAsked}
 use Rattle.questions.specs.Samples.{sampleOf, sampleRefusal, sampleValues}
 use Rattle.questions.specs.declared.samples.Sample.{Sample}
@@ -64,7 +65,7 @@ pub record Starts (s : List ℕ) (w : Source) (id n : ℕ) (r : Start) : Type 0 
 
 -- ---- a step
 
--- document 01's values for each case: 1 and those of the sample; done is 0 and zeros
+-- the numbers of each case: document 01's values of the sample, and before them a number of this reader's own, 1; done is nine zeros
 unfoldable pub stepNumbers : Step → List ℤ
 stepNumbers (Next x q) = pos 1 ∷ sampleValues x
 stepNumbers Done = replicate 9 (pos 0)
@@ -76,12 +77,21 @@ pub record Onward (s : List ℕ) (w : Source) (id k : ℕ) (r : Step) : Type 0 w
   pub numbers : stepNumbers r ≡ pos 1 ∷ sampleValues (sampleOf (trackOf (trackAsked s id)) k)
   pub stands : Stands s w id (suc k) position
 
--- from any position, also one of another film or track: done, or some sample and a position one further on in the same tables, of as many
--- samples; so at most as many steps follow as its samples are more than its index
+-- "without starting again at the tables' head": no place in a table goes back. Places count bytes; in stco or co64 it is the chunks begun
+pub record Forward (m n : Moving) : Type 0 where
+  pub stts : m .times .at ≤ n .times .at
+  pub ctts : m .shifts .at ≤ n .shifts .at
+  pub stsc : m .dealt .cursor .at ≤ n .dealt .cursor .at
+  pub offsets : m .dealt .chunk ≤ n .dealt .chunk
+  pub stss : m .sync ≤ n .sync
+
+-- from any position, also one of another film or track: done; or some sample, and a position one further on in the same tables, of as many samples.
+-- So at most `samples` less `index` steps follow before done
 pub record Elsewhere (p : Stepper) (r : Step) : Type 0 where
   pub moves : (x : Sample) (q : Stepper) → r ≡ Next x q
       → (p .moving .index < p .samples) × (q .moving .index ≡ suc (p .moving .index)) × (q .samples ≡ p .samples)
   pub same : (x : Sample) (q : Stepper) → r ≡ Next x q → q .tables ≡ p .tables
+  pub forward : (x : Sample) (q : Stepper) → r ≡ Next x q → Forward (p .moving) (q .moving)
   pub low : (x : Sample) (q : Stepper) → r ≡ Next x q → (x .decode < 2 ^ 32) × (x .chunk < 2 ^ 32) × (x .offset < 2 ^ 63)
 
 -- the promise of `step`

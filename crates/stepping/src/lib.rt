@@ -32,7 +32,7 @@ pub enum Start {
     Refused(u32),
 }
 
-// The answer of `step`: the next sample, and the position past it.
+// The answer of `step`: the next sample, and the position past it; or done, where no sample follows.
 pub enum Step {
     Next(Sample, Stepper),
     Done,

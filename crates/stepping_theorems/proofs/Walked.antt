@@ -1,30 +1,28 @@
--- The promises of `Stepper::at` and of `step` alone give it, by induction on the steps.
+-- The promises of `Stepper::at` and of `step` alone give the claims, by induction on the steps.
 -- Assumes nothing.
 use Prim.Native.Nat.{ℕ, zero, suc, _+_, _-_, _≤_, _<_}
 use mathlib.Core.Path.{_≡_, refl, sym, ap, _∙_}
 use mathlib.Core.List.{List, [], _∷_, map}
 use native.Mathlib.Omega.{arith}
 use native.Mathlib.Decide.{decLt}
-use borrow.Author.Tests.{lt-ltb, le-leb, ltb-true}
+use borrow.Author.Tests.{lt-ltb, le-leb}
 use lib.ListN.{length}
-use Rattle.lists.proofs.Booleans.{and-left, cond-zero}
 use Rattle.structure.specs.declared.source.Source.{Source}
 use Rattle.structure.specs.Track.{samplesOf}
 use Rattle.structure.specs.Rows.{orElse}
-use Rattle.structure.proofs.Callers.{none-else}
 use Rattle.track.specs.Track.{trackOf}
 use Rattle.questions.specs.Asked.{askRefusal, trackAsked}
 use Rattle.questions.specs.Samples.{sampleOf, sampleRefusal, sampleAnswer}
 use Rattle.questions.specs.declared.samples.Sample.{Sample}
 use Rattle.questions.specs.declared.samples.SampleAnswer.{SampleAnswer}
 use Rattle.questions.specs.declared.samples.SampleAnswer.the-variants.{Found}
-use Rattle.stepping.specs.Stepping.{Stands, startNumber, Starts, Steps, Onward, Chain}
+use Rattle.stepping.specs.Stepping.{Stands, Starts, Steps, Onward, Chain}
 use Rattle.stepping.specs.declared.Stepper.{Stepper}
 use Rattle.stepping.specs.declared.Start.{Start}
 use Rattle.stepping.specs.declared.Start.the-variants.{At}
 use Rattle.stepping.specs.declared.Step.{Step}
 use Rattle.stepping.specs.declared.Step.the-variants.{Next, Done}
-use Rattle.stepping_theorems.specs.Walked.{answersFrom, StepsThrough, StepsAnywhere}
+use Rattle.stepping_theorems.specs.Walked.{answersFrom, Walks, Keeps, StepsThrough, StepsFromAny, StepsAnywhere}
 
 -- the sample question's answer for a sample of the track
 answered : (s : List ℕ) (w : Source) (id k : ℕ) → askRefusal s w id ≡ 0 → k < samplesOf (trackAsked s id)
@@ -34,13 +32,10 @@ answered s w id k e h =
     let z : suc k - 1 ≡ k = omega arith in
     rw (e, lt-ltb 0 (suc k) (omega arith), le-leb (suc k) (samplesOf (trackAsked s id)) (omega arith), z)
 
--- a number that is not refused is above 0
-above : (s : List ℕ) (w : Source) (id n : ℕ) → sampleRefusal s w id n ≡ 0 → suc (n - 1) ≡ n
-unfolding sampleRefusal
-above s w id n e =
-    let q = none-else _ _ e in
-    let r = cond-zero _ 15 (omega arith) (q .1) in
-    omega (arith, ltb-true 0 n (and-left _ _ r))
+-- a number in 1 to N is not refused
+accepted : (s : List ℕ) (w : Source) (id n : ℕ) → askRefusal s w id ≡ 0 → 1 ≤ n → n ≤ samplesOf (trackAsked s id) → sampleRefusal s w id n ≡ 0
+unfolding sampleRefusal orElse
+accepted s w id n e g h = rw (e, lt-ltb 0 n (omega arith), le-leb n (samplesOf (trackAsked s id)) h)
 
 -- a step is not done and a sample too
 no-sample : {x : Sample} {q : Stepper} {A : Type 0} → Done ≡ Next x q → A
@@ -74,13 +69,26 @@ module _ (s : List ℕ) (w : Source) (id : ℕ) where
         rw z at (f .1),
       )
 
-  pub steps-from : (k : ℕ) (p : Stepper) → Stands s w id k p → StepsThrough s w id (suc k) p
+  -- c steps from before sample k to the end
+  ends : (f : Stepper → Step) → Keeps s w id f → (c k : ℕ) (p : Stepper) → Stands s w id k p → k + c ≡ samplesOf (trackAsked s id)
+      → (xs : List Sample) × Walks f p xs × (map Found xs ≡ answersFrom (sampleAnswer s w id) (suc k) c)
+  ends f g zero k p a e = let z : k ≡ samplesOf (trackAsked s id) = omega arith in ([], g k p a .done w id (rw z at a), refl)
+  ends f g (suc c) k p a e =
+      let h : k < samplesOf (trackAsked s id) = omega arith in
+      let o = g k p a .next w id k a h in
+      let t = ends f g c (suc k) (o .position) (o .stands) (omega arith) in
+      let x = sampleOf (trackOf (trackAsked s id)) k in
+      (x ∷ t .0, (o .position, o .answer, t .1), λ i. sym (answered s w id k (a .asked) h) i ∷ t .2 i)
+
+  steps-from : (k : ℕ) (p : Stepper) → Stands s w id k p → StepsThrough s w id (suc k) p
   steps-from k p a =
       let z : suc k - 1 ≡ k = omega arith in
+      let y : suc (samplesOf (trackAsked s id)) - suc k ≡ samplesOf (trackAsked s id) - k = omega arith in
       record {
+        to-end = λ f g. rw y (ends f g (samplesOf (trackAsked s id) - k) k p a (omega (arith, a .upto)));
         answers = λ xs q c. walks k p xs q a c .0;
         stands = λ xs q c. rw z (walks k p xs q a c .1);
-        done = λ xs q c e r g. let d = rw z at e in g .done w id (rw d at (walks k p xs q a c .1));
+        done = λ xs q c e r g. let d : k + length xs ≡ samplesOf (trackAsked s id) = omega (arith, e) in g .done w id (rw d at (walks k p xs q a c .1));
         all = λ xs q c g.
             let f = walks k p xs q a c .1 in
             elim (decLt (k + length xs) (samplesOf (trackAsked s id))) [
@@ -89,12 +97,14 @@ module _ (s : List ℕ) (w : Source) (id : ℕ) where
             ];
       }
 
-  pub steps-through : (n : ℕ) (r : Start) (p : Stepper) → Starts s w id n r → r ≡ At p → StepsThrough s w id n p
-  steps-through n r p a e =
-      let y : sampleRefusal s w id n ≡ 0 = sym (a .number) ∙ ap startNumber e in
-      let b = a .started y in
-      let q : b .position ≡ p = let z : At (b .position) ≡ At p = sym (b .answer) ∙ e in cc in
-      rw (above s w id n y) at (steps-from (n - 1) p (rw q at (b .stands)))
+  standing : (n : ℕ) → 1 ≤ n → (p : Stepper) → Stands s w id (n - 1) p → StepsThrough s w id n p
+  standing n h p a = let z : suc (n - 1) ≡ n = omega arith in rw z at (steps-from (n - 1) p a)
+
+  pub steps-from-any : (n : ℕ) → StepsFromAny s w id n
+  steps-from-any n = record {
+    started = λ e g h r a. let b = a .started (accepted s w id n e g h) in (b .position, b .answer, standing n g (b .position) (b .stands));
+    standing = standing n;
+  }
 
 module _ (s : List ℕ) where
   goes : (p : Stepper) (xs : List Sample) (q : Stepper) → Chain s p xs q
