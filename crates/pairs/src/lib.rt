@@ -194,13 +194,16 @@ fn offsets_there(offsets: &[u8]) -> u64
 }
 
 // How many chunks of the run at a place are put at once: all that are asked for whole, or one.
-fn some_at_once(stsz: &[u8], offsets: &[u8], p: ChunkPosition, from: u32, stop: u32) -> u64
+pub fn chunks_at_once(stsz: &[u8], offsets: &[u8], p: ChunkPosition, from: u32, stop: u32) -> u64
     requires { ⌜ (p .cursor .remaining ≡ 0 → ⊥) × (p .chunk < 2 ^ 63) ⌝ }
     ensures { λ r. ⌜ AtOnce (now (stsz .entry)) (now (offsets .entry)) from stop p r ⌝ }
 {
     let c = p.cursor;
     let count = c.remaining;
     let begin = p.begin;
+    if count == 1 {
+        return 1;
+    }
     if begin < from as u64 {
         return 1;
     }
@@ -212,18 +215,6 @@ fn some_at_once(stsz: &[u8], offsets: &[u8], p: ChunkPosition, from: u32, stop: 
         return 1;
     }
     n
-}
-
-// The same. A run of one chunk is told without a call.
-pub fn chunks_at_once(stsz: &[u8], offsets: &[u8], p: ChunkPosition, from: u32, stop: u32) -> u64
-    requires { ⌜ (p .cursor .remaining ≡ 0 → ⊥) × (p .chunk < 2 ^ 63) ⌝ }
-    ensures { λ r. ⌜ AtOnce (now (stsz .entry)) (now (offsets .entry)) from stop p r ⌝ }
-{
-    let c = p.cursor;
-    if c.remaining == 1 {
-        return 1;
-    }
-    some_at_once(stsz, offsets, p, from, stop)
 }
 
 // What whole chunks of a run have in common: whether their offsets have 64 bits, how many samples each has, whether the sizes of these are listed, and if
