@@ -65,6 +65,9 @@ HandsTime s handle t places r after =
 
 -- by a handle in these places each question hands over what it does without one
 pub record SameByHandle (s : List ℕ) (w : Source) (id : ℕ) (handle : List ℕ) : Type 0 where
-  pub sample : (n : ℕ) (places : List ℤ) (r : ℕ) (after : List ℤ) → HandsSample s handle n places r after → SignedAnswers (ofSample s w id n) places r after
-  pub number : (t : ℕ) (places : List ℕ) (r : ℕ) (after : List ℕ) → HandsNumber s handle t places r after → Answers (ofSampleAt s w id t) places r after
-  pub time : (t : ℕ) (places : List ℕ) (r : ℕ) (after : List ℕ) → HandsTime s handle t places r after → Answers (ofMediaTime s w id t) places r after
+  pub sample : (n : ℕ) (places : List ℤ) (r : ℕ) (after : List ℤ) → HandsSample s handle n places r after
+      → SignedAnswers (ofSample s w id n) places r after
+  pub number : (t : ℕ) (places : List ℕ) (r : ℕ) (after : List ℕ) → HandsNumber s handle t places r after
+      → Answers (ofSampleAt s w id t) places r after
+  pub time : (t : ℕ) (places : List ℕ) (r : ℕ) (after : List ℕ) → HandsTime s handle t places r after
+      → Answers (ofMediaTime s w id t) places r after
