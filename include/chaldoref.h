@@ -201,15 +201,18 @@ uint32_t chaldoref_sample_bytes(
  *         ... places[1] to places[8] are the sample ...
  *     }
  *
- * A position is CHALDOREF_STEPPER_NUMBERS numbers that the caller keeps, may copy and may step from as often as
- * wanted; what each of them is may change with the version. It holds no pointer: it says where in the lent bytes the tables are. Step with the bytes that it was
- * started with. With other bytes, or from numbers of any kind, a step is safe and reads only what is lent; its answer is then no sample of
- * the film, and the steps still end.
+ * A position is CHALDOREF_STEPPER_NUMBERS numbers that the caller keeps, may copy and may step from
+ * as often as wanted; what each of them is may change with the version. It holds no pointer: it
+ * says where in the lent bytes the tables are. Step with the bytes that it was started with. With
+ * other bytes, or from numbers of any kind, a step is safe and reads only what is lent; what it
+ * answers then need not be a sample of the film, and after as many steps as the position has
+ * samples left, or fewer, it answers that there is none.
  */
 
 /*
  * The position before sample n of a track, numbered from 1. Refusals: the file's but 11; 14, 15, 16.
- * stepper: CHALDOREF_STEPPER_NUMBERS numbers: the position; zeros with a refusal; with 16, for fewer numbers, nothing is written.
+ * stepper: CHALDOREF_STEPPER_NUMBERS numbers: the position; zeros with a refusal; with 16, for
+ *          fewer numbers, nothing is written.
  */
 uint32_t chaldoref_step_start(
     const uint8_t *file, size_t file_len,
@@ -217,10 +220,11 @@ uint32_t chaldoref_step_start(
     uint64_t *stepper, size_t stepper_len);
 
 /*
- * The next sample. lent are the bytes that the position was started with: the whole file, or the moov alone. Refusal 16 only, for too few
- * numbers or places, and then nothing is written.
+ * The next sample. lent are the bytes that the position was started with: the whole file, or the
+ * moov alone. Refusal 16 only, for too few numbers or places, and then nothing is written.
  * stepper: the position, which is moved past the sample; past the last one it stays as it is.
- * places: 9: 1 and the sample's eight values in the order of chaldoref_sample; or nine zeros past the last sample.
+ * places: 9: 1 and the sample's eight values in the order of chaldoref_sample; or nine zeros past
+ *         the last sample.
  */
 uint32_t chaldoref_step(
     const uint8_t *lent, size_t lent_len,
@@ -228,10 +232,11 @@ uint32_t chaldoref_step(
     int64_t *places, size_t places_len);
 
 /*
- * The next samples, as many as the room takes. Refusal 16 only, as for chaldoref_step; a room may have any length.
+ * The next samples, as many as the room takes. Refusal 16 only, as for chaldoref_step; a room may
+ * have any length.
  * stepper: the position, which is moved past them.
- * room: for each sample its eight values in the order of chaldoref_sample, CHALDOREF_SAMPLE_NUMBERS numbers; room_len
- *       / CHALDOREF_SAMPLE_NUMBERS samples are the most.
+ * room: for each sample CHALDOREF_SAMPLE_NUMBERS numbers, its values in the order of
+ *       chaldoref_sample; room_len / CHALDOREF_SAMPLE_NUMBERS samples are the most.
  * places: 1: the number of samples; fewer than the room takes only at the track's end.
  */
 uint32_t chaldoref_steps(
@@ -556,8 +561,8 @@ static inline const char *chaldoref_refusal_text(uint32_t number)
 }
 
 /*
- * The same for a refusal of a moov alone, with the lengths that it was lent with: of refusal 1, which has three grounds
- * there, it says which one it is.
+ * The same for a refusal of a moov alone, with the lengths that it was lent with: of refusal 1,
+ * which has three grounds there, it says which one it is.
  */
 static inline const char *chaldoref_moov_refusal_text(uint32_t number, size_t moov_len, uint64_t length)
 {
@@ -816,8 +821,8 @@ static inline int chaldoref_stepper_next(
 }
 
 /*
- * The next samples, as many as the room of room_len numbers takes: how many they are, 0 past the last one. Sample i of them is
- * chaldoref_moov_sample_of(room + CHALDOREF_SAMPLE_NUMBERS * i).
+ * The next samples, as many as the room of room_len numbers takes: how many they are, 0 past the
+ * last one. Sample i of them is chaldoref_moov_sample_of(room + CHALDOREF_SAMPLE_NUMBERS * i).
  */
 static inline size_t chaldoref_stepper_fill(
     const uint8_t *lent, size_t lent_len, struct chaldoref_stepper *stepper, int64_t *room, size_t room_len)
