@@ -265,11 +265,11 @@ uint32_t chaldoref_media_time(
     uint64_t *places, size_t places_len);
 
 /*
- * A track opened once: the film is judged here, and not again by the three questions that take the handle. Refusals:
- * the file's but 11; 14, 16.
- * handle: CHALDOREF_OPENED_NUMBERS numbers that the caller keeps; zeros with a refusal; with 16, for fewer numbers, nothing is
- *         written. They hold no pointer: they say where in the lent bytes the tables are, and what each of them is
- *         may change with the version.
+ * A track opened once: the film is judged here, and not again by the three questions that take the
+ * handle. Refusals: the file's but 11; 14, 16.
+ * handle: CHALDOREF_OPENED_NUMBERS numbers that the caller keeps; zeros with a refusal; with 16,
+ *         for fewer numbers, nothing is written. They hold no pointer: they say where in the lent
+ *         bytes the tables are, and what each of them is may change with the version.
  */
 uint32_t chaldoref_open(
     const uint8_t *file, size_t file_len,
@@ -277,10 +277,11 @@ uint32_t chaldoref_open(
     uint64_t *handle, size_t handle_len);
 
 /*
- * Sample n of the track that was opened, the sample at media time t, and movie time t to media time: the answers and
- * places of chaldoref_sample, chaldoref_sample_at and chaldoref_media_time. Refusals: 15, 16. lent are the bytes
- * that the track was opened with: the whole file, or the moov alone. With other bytes, or with
- * numbers of any kind, a call is safe and reads only what is lent; its answer is then none of the film's.
+ * Sample n of the track that was opened, the sample at media time t, and movie time t to media
+ * time: the answers and places of chaldoref_sample, chaldoref_sample_at and chaldoref_media_time.
+ * Refusals: 15, 16. lent are the bytes that the track was opened with: the whole file, or the moov
+ * alone. With other bytes, or with numbers of any kind, a call is safe and reads only what is lent;
+ * what it answers then need not be of the film.
  */
 uint32_t chaldoref_opened_sample(
     const uint8_t *lent, size_t lent_len,
