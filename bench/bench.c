@@ -366,7 +366,7 @@ static void measure(struct candidate *c, int n, const struct film *f)
 {
     for (int round = 0; round <= ROUNDS; round++)
         for (int i = 0; i < n; i++) {
-            if (!c[i].slow || round % AV_EVERY == 0)
+            if (!(c[i].slow || f->slow) || round % AV_EVERY == 0)
                 run_once(&c[i], f);
             if (round == 0)
                 c[i].times = 0;

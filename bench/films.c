@@ -393,7 +393,7 @@ static void add_trak(struct writer *w, struct film *film, const struct plan *p, 
 /* ftyp, mdat, moov: with the mdat first the chunks' offsets are known when stco is written. */
 struct film make_film(int kind)
 {
-    struct film film = { .name = kinds[kind].name, .tables = kinds[kind].tables };
+    struct film film = { .name = kinds[kind].name, .tables = kinds[kind].tables, .slow = kinds[kind].free.place != NOWHERE };
     struct writer w = { 0 };
     size_t ftyp = open_atom(&w, "ftyp");
     put(&w, "qt  \0\0\0\0qt  ", 12);

@@ -2,6 +2,7 @@
 #ifndef BENCH_FILMS_H
 #define BENCH_FILMS_H
 
+#include <stdbool.h>
 #include <stddef.h>
 #include <stdint.h>
 
@@ -22,6 +23,7 @@ struct film {
     size_t len;
     const uint8_t *moov; /* the atom with its header */
     size_t moov_len;
+    bool slow; /* its questions take so long that fewer rounds are enough */
     int tracks;
     struct track_facts track[FILM_TRACKS];
 };

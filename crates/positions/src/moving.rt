@@ -69,7 +69,8 @@ pub fn read_entries(stts: &[u8], ctts: &[u8], stsc: &[u8], offsets: &[u8], m: Mo
     }
 }
 
-// Whether it stands before a sample whose numbers are so low that the next ones fit. Of a position in its own film that is so before every sample.
+// Whether, with the entries read, a sample lies ahead whose offset and decode time are so low that the next ones fit. Of a position that stands in its
+// own film that is so before every sample.
 pub fn may_move(m: Moving) -> bool
     ensures { λ r. ⌜ r ≡ mayMove m ⌝ }
 {

@@ -126,7 +126,7 @@ done-next : {x : Sample} {q : Stepper} {A : Type 0} → Done ≡ Next x q → A
 done-next e = let z : _≡_ {A = ℕ} 0 1 = cc in absurd (omega arith)
 
 pub done-elsewhere : (p : Stepper) → Elsewhere p Done
-done-elsewhere p = record { moves = λ x q e. done-next e; low = λ x q e. done-next e }
+done-elsewhere p = record { moves = λ x q e. done-next e; same = λ x q e. done-next e; low = λ x q e. done-next e }
 
 -- past the last sample
 pub steps-past : (s : List ℕ) (p : Stepper) → p .samples ≤ p .moving .index → Steps s p Done
@@ -155,7 +155,7 @@ module _ (s : List ℕ) (p : Stepper) (h : p .moving .index < p .samples) (m : M
     elsewhere = done-elsewhere p;
   }
 
-  module _ (x : Sample) (n : Moving) (u : v ≡ To x n) where
+  module _ (x : Sample) (n : Moving) (u : v ≡ To x n) (l : n .dealt .chunk < 2 ^ 32) where
     -- the places that it passes on are the ones moved
     came : (b : Bool) → mayMove m ≡ b → cond b (To (sampleSaid z y m) (movedPast z y m)) End ≡ To x n
         → (mayMove m ≡ true) × (sampleSaid z y m ≡ x) × (movedPast z y m ≡ n)
@@ -169,8 +169,8 @@ module _ (s : List ℕ) (p : Stepper) (h : p .moving .index < p .samples) (m : M
     pub steps-next : Steps s p (Next x (record { tables = p .tables; samples = p .samples; moving = n }))
     unfolding stepNumbers
     steps-next = record {
-      next = λ w id k a l.
-          let q = passes s w id k p a l in
+      next = λ w id k a h.
+          let q = passes s w id k p a h in
           let c : To (sampleOf (trackOf (trackAsked s id)) k) (q .places) ≡ To x n = sym (q .answer) ∙ sym moved-is ∙ u in
           let i : x ≡ sampleOf (trackOf (trackAsked s id)) k = cc in
           let j : q .places ≡ n = cc in
@@ -193,9 +193,10 @@ module _ (s : List ℕ) (p : Stepper) (h : p .moving .index < p .samples) (m : M
             let b : n .index ≡ m .index + 1 = ap (λ o. o .index) (sym (known .2)) in
             let o : m .index ≡ p .moving .index = ap (λ o. o .index) e in
             rw a (h, omega arith, refl);
+        same = λ r q c. let a : q ≡ record { tables = p .tables; samples = p .samples; moving = n } = cc in rw a refl;
         low = λ r q c.
             let a : x ≡ r = cc in
             let b = may-known m (known .0) in
-            rw (← a, ← known .1) (b .2, b .1);
+            rw (← a, ← known .1) (b .2, omega (arith, l, ap (λ o. o .dealt .chunk) (known .2)), b .1);
       };
     }

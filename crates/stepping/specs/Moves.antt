@@ -14,7 +14,7 @@ use Rattle.questions.specs.declared.samples.Sample.{Sample}
 use Rattle.stepping.specs.declared.moves.Move.{Move}
 use Rattle.stepping.specs.declared.moves.Move.the-variants.{To, End}
 
--- what the places, with the entries read, say of the sample; stsz and stss are asked by its index
+-- what the places, with the entries read, say of the sample; stsz is asked by its index, and stss, from its place on, by its number
 abbrev pub sampleSaid : List ℕ → List ℕ → Moving → Sample
 sampleSaid stsz stss m =
     record {

@@ -76,15 +76,21 @@ pub record Onward (s : List ℕ) (w : Source) (id k : ℕ) (r : Step) : Type 0 w
   pub numbers : stepNumbers r ≡ pos 1 ∷ sampleValues (sampleOf (trackOf (trackAsked s id)) k)
   pub stands : Stands s w id (suc k) position
 
--- from any position, also one of another film or track: done, or some sample and a position one further on, of as many samples; so at most
--- as many steps follow as its samples are more than its index
+-- from any position, also one of another film or track: done, or some sample and a position one further on in the same tables, of as many
+-- samples; so at most as many steps follow as its samples are more than its index
 pub record Elsewhere (p : Stepper) (r : Step) : Type 0 where
   pub moves : (x : Sample) (q : Stepper) → r ≡ Next x q
       → (p .moving .index < p .samples) × (q .moving .index ≡ suc (p .moving .index)) × (q .samples ≡ p .samples)
-  pub low : (x : Sample) (q : Stepper) → r ≡ Next x q → (x .decode < 2 ^ 32) × (x .offset < 2 ^ 63)
+  pub same : (x : Sample) (q : Stepper) → r ≡ Next x q → q .tables ≡ p .tables
+  pub low : (x : Sample) (q : Stepper) → r ≡ Next x q → (x .decode < 2 ^ 32) × (x .chunk < 2 ^ 32) × (x .offset < 2 ^ 63)
 
 -- the promise of `step`
 pub record Steps (s : List ℕ) (p : Stepper) (r : Step) : Type 0 where
   pub next : (w : Source) (id k : ℕ) → Stands s w id k p → k < samplesOf (trackAsked s id) → Onward s w id k r
   pub done : (w : Source) (id : ℕ) → Stands s w id (samplesOf (trackAsked s id)) p → r ≡ Done
   pub elsewhere : Elsewhere p r
+
+-- steps one after the other, from p by the samples xs to q: each keeps the promise
+abbrev pub Chain : List ℕ → Stepper → List Sample → Stepper → Type 0
+Chain s p [] q = p ≡ q
+Chain s p (x ∷ xs) q = (m : Stepper) × Steps s p (Next x m) × Chain s m xs q

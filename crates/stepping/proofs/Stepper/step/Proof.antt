@@ -50,7 +50,7 @@ returns-2 : tie.Need-returns-2
 returns-2 c =
     let v = c .before .before .before in
     let j = v .before .before .before .before .before in
-    steps-next _ (j .before .before .before .before .before .before .before .before .args .self) (j .before .before .before .if1 .left) _ (ready j) _ _ (v .before .before .part-of .ensures) (v .before .part-of2 .ensures) _ (v .moved .ensures) _ _ (c .before .r .given .1)
+    steps-next _ (j .before .before .before .before .before .before .before .before .args .self) (j .before .before .before .if1 .left) _ (ready j) _ _ (v .before .before .part-of .ensures) (v .before .part-of2 .ensures) _ (v .moved .ensures) _ _ (c .before .r .given .1) (omega (arith, c .known-told .given .1))
 
 returns-3 : tie.Need-returns-3
 returns-3 c =

@@ -1,0 +1,76 @@
+-- What stepping hands to a caller in another language. Document 02: "a stepper that holds its position in each table by value and hands back the
+-- next sample with the new position": the position is 29 numbers in lent places.
+use Prim.Native.Nat.{ℕ, suc, _*_, _≤_, _<_}
+use mathlib.Core.Path.{_≡_}
+use mathlib.Core.List.{List, [], _∷_}
+use mathlib.Core.Logic.{_⊎_}
+use lib.ListN.{length, replicate}
+use lib.IntN.{ℤ}
+use Rattle.structure.specs.declared.source.Source.{Source}
+use Rattle.movie.specs.Rooms.{filledRoom}
+use Rattle.questions.specs.declared.samples.Sample.{Sample}
+use Rattle.stepping.specs.Stepping.{startNumber, Starts, stepNumbers, Steps, Chain}
+use Rattle.stepping.specs.declared.Stepper.{Stepper}
+use Rattle.stepping.specs.declared.Start.{Start}
+use Rattle.stepping.specs.declared.Start.the-variants.{At, Refused}
+use Rattle.stepping.specs.declared.Step.{Step}
+use Rattle.stepping.specs.declared.Step.the-variants.{Next, Done}
+use Rattle.steps_into.specs.Into.{flatSamples}
+use Rattle.hand.specs.Places.{Hands}
+use Rattle.position_numbers.specs.Position.{stepperNumbers, stepperIn}
+
+-- ---- the start
+
+-- "Numbers returned with a refusal are all 0"
+unfoldable pub startValues : Start → List ℕ
+startValues (At p) = stepperNumbers p
+startValues (Refused r) = replicate 29 0
+
+-- the promise of `hand_step_start`: an answer that keeps the promise of `Stepper::at`, its refusal and its values
+pub record HandsStart (s : List ℕ) (w : Source) (id n : ℕ) (stepper : List ℕ) (r : ℕ) (after : List ℕ) : Type 0 where
+  pub start : Start
+  pub starts : Starts s w id n start
+  pub handed : Hands (startNumber start) (startValues start) stepper r after
+  -- what then stands in the places is the position
+  pub again : (p : Stepper) → start ≡ At p → 29 ≤ length stepper → stepperIn after ≡ p
+
+-- ---- a step
+
+-- the position past the sample; done leaves the position as it was
+unfoldable pub stepperAfter : Step → List ℕ → List ℕ
+stepperAfter (Next x q) stepper = filledRoom (stepperNumbers q) stepper
+stepperAfter Done stepper = stepper
+
+-- a step that keeps the promise of `step`, from the position in the places, and its numbers
+pub record Stepped (s stepper : List ℕ) (places : List ℤ) (r : ℕ) (stepper′ : List ℕ) (places′ : List ℤ) : Type 0 where
+  pub step : Step
+  pub steps : Steps s (stepperIn stepper) step
+  pub result : r ≡ 0
+  pub numbers : places′ ≡ filledRoom (stepNumbers step) places
+  pub position : stepper′ ≡ stepperAfter step stepper
+  pub again : (x : Sample) (q : Stepper) → step ≡ Next x q → stepperIn stepper′ ≡ q
+
+-- the promise of `hand_sample_step`: too few numbers of the position or too few places are refused 16, and nothing is written
+pub record HandsStep (s stepper : List ℕ) (places : List ℤ) (r : ℕ) (stepper′ : List ℕ) (places′ : List ℤ) : Type 0 where
+  pub short : (length stepper < 29) ⊎ (length places < 9) → (r ≡ 16) × (stepper′ ≡ stepper) × (places′ ≡ places)
+  pub stepped : 29 ≤ length stepper → 9 ≤ length places → Stepped s stepper places r stepper′ places′
+
+-- ---- the next samples
+
+-- steps one after the other from the position in the places: as many as the room holds; or fewer, and the next one is done
+pub record Filled (s stepper : List ℕ) (room : List ℤ) (places : List ℕ) (r : ℕ) (stepper′ : List ℕ) (room′ : List ℤ) (places′ : List ℕ) : Type 0 where
+  pub samples : List Sample
+  pub position : Stepper
+  pub chain : Chain s (stepperIn stepper) samples position
+  pub within : 8 * length samples ≤ length room
+  pub ends : (length room < 8 * suc (length samples)) ⊎ Steps s position Done
+  pub result : r ≡ 0
+  pub values : room′ ≡ filledRoom (flatSamples samples) room
+  pub count : places′ ≡ filledRoom (length samples ∷ []) places
+  pub numbers : stepper′ ≡ filledRoom (stepperNumbers position) stepper
+  pub again : stepperIn stepper′ ≡ position
+
+-- the promise of `hand_sample_steps`
+pub record HandsSteps (s stepper : List ℕ) (room : List ℤ) (places : List ℕ) (r : ℕ) (stepper′ : List ℕ) (room′ : List ℤ) (places′ : List ℕ) : Type 0 where
+  pub short : (length stepper < 29) ⊎ (length places < 1) → (r ≡ 16) × (stepper′ ≡ stepper) × (room′ ≡ room) × (places′ ≡ places)
+  pub filled : 29 ≤ length stepper → 1 ≤ length places → Filled s stepper room places r stepper′ room′ places′

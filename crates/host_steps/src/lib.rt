@@ -1,0 +1,67 @@
+// Stepping through a track for a caller in another language: the position as numbers in lent places, and samples in lent places or room.
+use hand::hand;
+use hand::hand_signed;
+use position_numbers::NUMBERS;
+use position_numbers::hand_position;
+use position_numbers::position_in;
+use stepping::Start;
+use stepping::Step;
+use stepping::Stepper;
+use steps_into::SAMPLE;
+use steps_into::put_sample;
+use steps_into::steps_into;
+use structure::source::Source;
+ghost use Rattle.host_steps.specs.Hands.{HandsStart, HandsStep, HandsSteps};
+
+// A position before sample n of a track, in 29 places.
+pub fn hand_step_start(lent: &[u8], source: Source, id: u32, n: u32, stepper: &mut [u64]) -> u32
+    ensures { λ r. ⌜ HandsStart (now (lent .entry)) source id n (now (stepper .entry)) r (now (stepper .exit)) ⌝ }
+{
+    match Stepper::at(lent, source, id, n) {
+        Start::At(p) => hand_position(p, stepper),
+        Start::Refused(r) => hand(r, &[0u64; 29], stepper),
+    }
+}
+
+// The next sample in nine places, 1 and its eight values, and the position past it; or nine zeros where there is none.
+pub fn hand_sample_step(lent: &[u8], stepper: &mut [u64], places: &mut [i64]) -> u32
+    ensures { λ r. ⌜ HandsStep (now (lent .entry)) (now (stepper .entry)) (now (places .entry)) r (now (stepper .exit)) (now (places .exit)) ⌝ }
+{
+    if stepper.len() < NUMBERS {
+        return 16;
+    }
+    if places.len() <= SAMPLE {
+        return 16;
+    }
+    let p = position_in(&stepper[..]);
+    match p.step(lent) {
+        Step::Next(x, q) => {
+            places[0] = 1;
+            put_sample(x, places, 1);
+            hand_position(q, stepper)
+        }
+        Step::Done => hand_signed(0, &[0i64; 9], places),
+    }
+}
+
+// The next samples in the room, eight values each, as many as it holds or as are left; in one place how many, and the position past them.
+pub fn hand_sample_steps(
+    lent: &[u8],
+    stepper: &mut [u64],
+    room: &mut [i64],
+    places: &mut [u64],
+) -> u32
+    ensures { λ r. ⌜ HandsSteps (now (lent .entry)) (now (stepper .entry)) (now (room .entry)) (now (places .entry)) r (now (stepper .exit)) (now (room .exit)) (now (places .exit)) ⌝ }
+{
+    if stepper.len() < NUMBERS {
+        return 16;
+    }
+    if places.len() < 1 {
+        return 16;
+    }
+    let from = position_in(&stepper[..]);
+    let reached = steps_into(lent, from, room);
+    let position = reached.position;
+    places[0] = reached.count as u64;
+    hand_position(position, stepper)
+}
