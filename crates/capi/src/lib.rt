@@ -1,5 +1,6 @@
 // The questions of document 01 for programs in C and Rust: numbers and slices alone. Each function answers the number of a refusal, or 0, and puts
 // the values that documents 01 and 02 name into lent places, in its order. Each is one call: a function that is exported must stand in this crate.
+mod handles;
 mod moov;
 mod steps;
 

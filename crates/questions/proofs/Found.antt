@@ -1,28 +1,22 @@
 -- The answers of the sample question, from what the code has of the track and of its tables; and that a sample's bytes lie in its file.
 -- Assumes nothing.
-use Prim.Native.Nat.{ℕ, suc, _+_, _-_, _^_, _≤_, _<_, min}
+use Prim.Native.Nat.{ℕ, _+_, _-_, _^_, _≤_, _<_}
 use mathlib.Core.Path.{_≡_, refl, sym, ap, _∙_}
 use mathlib.Core.List.{List}
 use mathlib.Core.Bool.{Bool, true, false, cond}
 use native.Mathlib.Omega.{arith}
-use borrow.Author.Tests.{eq-eqb, ne-eqb, lt-ltb, le-leb, lt-leb, eqb-true, ltb-true, leb-true, not-false}
-use lib.ListN.{length, getD}
+use borrow.Author.Tests.{ne-eqb, eqb-true, ltb-true, leb-true, not-false}
+use lib.ListN.{length}
 use lib.Dec.{eqb, ltb}
-use lib.IntN.{ℤ, pos, _+ℤ_}
 use denote.Ref.{RefT, now}
-use Rattle.bigendian.specs.BigEndian.{u32At}
-use Rattle.atoms.specs.Kinds.{stts, ctts, stsc, stsz, stss}
+use Rattle.atoms.specs.Kinds.{stts, stsc, stsz}
 use Rattle.lists.specs.Lists.{holder}
-use Rattle.lists.proofs.Places.{holder-holds, holds-below, each-at, before-le}
+use Rattle.lists.proofs.Places.{holder-holds, holds-below, before-le}
 use Rattle.lists.proofs.Booleans.{and-left, and-right, cond-zero}
 use Rattle.runs.specs.Runs as runs
-use Rattle.runs.specs.declared.Timing.{Timing}
-use Rattle.words.specs.Words.{sizes, chunkOffsets, isSync}
-use Rattle.chunks.specs.Chunks.{perChunk, descriptionIds, offsetOf}
-use Rattle.chunks.specs.Computed.{locatedIn, locatedOffset}
-use Rattle.chunks.specs.declared.Located.{Located}
+use Rattle.words.specs.Words.{sizes, chunkOffsets}
+use Rattle.chunks.specs.Chunks.{perChunk}
 use Rattle.chunks.proofs.Agreed.{samples-length}
-use Rattle.chunks.proofs.Finding.{offset-located}
 use Rattle.chunk_ends.proofs.Ends.{all-within, sample-within}
 use Rattle.structure.specs.declared.source.Source.{Source}
 use Rattle.structure.specs.Source.{wholeFile, lengthOf}
@@ -33,7 +27,7 @@ use Rattle.structure.proofs.Callers.{none-else}
 use Rattle.track.specs.Track.{trackOf}
 use Rattle.track.specs.Refusals.{contradicts, totalIn, chunkPastEnd}
 use Rattle.movie.proofs.Accepted.{Accepted}
-use Rattle.movie.proofs.Answers.{gives-refused, gives-answer}
+use Rattle.movie.proofs.Answers.{gives-refused}
 use Rattle.track.proofs.Agreed.{agreed-tables}
 use Rattle.questions.specs.Asked.{askRefusal, trackAsked}
 use Rattle.questions.specs.Samples.{sampleOf, sampleRefusal, sampleAsked, sampleAnswer, sampleZeros, sampleNumbers, Samples, bytesStart, bytesLength, PartOf, SampleBytes}
@@ -53,76 +47,15 @@ module _ (t : List ℕ) (i : ℕ) (e : contradicts t ≡ false) (h : i < samples
       let q = holder-holds ps i (omega (arith, a .dealt)) in
       omega (arith, holds-below ps i (holder ps i) q .1, samples-length (tableOf stsc t) (chunksOf t) _ (a .deals))
 
-  pub chunk-fits : (o c : List ℕ) (n : ℕ) (p : Located) → o ≡ offsetTable t → c ≡ tableOf stsc t → n ≡ u32At o 12 → n < 4294967296
-      → p ≡ locatedIn (perChunk c n) (descriptionIds c n) i → p .chunk < 4294967296
-  unfolding locatedIn
-  chunk-fits o c n p eo ec en f ep =
-      let q : n ≡ chunksOf t = en ∙ rw eo in
-      let k : p .chunk ≡ holder (perChunk (tableOf stsc t) (chunksOf t)) i = ap (λ l. l .chunk) ep ∙ rw (q, ec) in
-      omega (arith, chunk-known)
-
--- it starts before the total
-pub starts-low : (t x : List ℕ) (i : ℕ) (r : Timing) → x ≡ tableOf stts t → r ≡ runs.timingOf (runs.perSample x) i → totalIn t < 4294967296 → r .start < 4294967296
-unfolding totalIn runs.timingOf
-starts-low t x i r e d h = rw (d, e) (omega (arith, before-le (runs.perSample (tableOf stts t)) i))
-
--- a sum that did not reach the largest number
-unsaturated : (n : ℕ) → n < 2 ^ 63 → min n 18446744073709551615 ≡ n
-unsaturated n h = omega arith
-
-pub sample-made : (t x y z o c w : List ℕ) (i n : ℕ) (r : Timing) (shift comp : ℤ) (p : Located) (sync : Bool) (off size : ℕ)
-    → i < samplesOf t
-    → x ≡ tableOf stts t → r ≡ runs.timingOf (runs.perSample x) i
-    → y ≡ tableOf ctts t → shift ≡ runs.compositionOffset y i → comp ≡ pos (r .start) +ℤ shift
-    → z ≡ tableOf stsz t → o ≡ offsetTable t → c ≡ tableOf stsc t → n ≡ u32At o 12
-    → p ≡ locatedIn (perChunk c n) (descriptionIds c n) i
-    → w ≡ tableOf stss t → sync ≡ isSync w (i + 1)
-    → off ≡ min (locatedOffset (chunkOffsets o) (sizes z) p i) 18446744073709551615 → size ≡ getD (sizes z) i 0 → sampleOf (trackOf t) i .offset < 2 ^ 63
-    → _≡_ {A = Sample} (record { decode = r .start; duration = r .duration; composition = comp; sync = sync; description = p .description; chunk = p .chunk + 1; offset = off; size = size }) (sampleOf (trackOf t) i)
-unfolding sampleOf trackOf runs.timingOf locatedIn
-sample-made t x y z o c w i n r shift comp p sync off size h ex er ey es ec ez eo ed en ep ew ek eq em low =
-    let u : i + 1 ≡ suc i = omega arith in
-    let y : locatedOffset (chunkOffsets o) (sizes z) p i ≡ offsetOf (perChunk c n) (chunkOffsets o) (sizes z) i = ap (λ q. locatedOffset (chunkOffsets o) (sizes z) q i) ep ∙ offset-located (perChunk c n) (descriptionIds c n) (chunkOffsets o) (sizes z) i in
-    let f : offsetOf (perChunk c n) (chunkOffsets o) (sizes z) i < 2 ^ 63 = rw (en, ed, eo, ez) low in
-    let m : off ≡ offsetOf (perChunk c n) (chunkOffsets o) (sizes z) i = eq ∙ unsaturated _ (omega (arith, y)) ∙ y in
-    let ps = perChunk (tableOf stsc t) (chunksOf t) in
-    let v : holder ps i + 1 ≡ suc (holder ps i) = omega arith in
-    rw (each-at (λ k. runs.compositionOffset (tableOf ctts t) k) (samplesOf t) i (pos 0) h, each-at (λ k. isSync (tableOf stss t) (suc k)) (samplesOf t) i false h)
-    (rw (ec, es, ey, m, em, ek, ew, ep, en, ed, eo, er, ex, ez, u, v))
-
 -- ---- the answers
 
-refused-sample : (s : List ℕ) (w : Source) (id n r : ℕ) → sampleRefusal s w id n ≡ r → (r ≡ 0 → ⊥) → Samples s w id n (Refused r)
+pub refused-sample : (s : List ℕ) (w : Source) (id n r : ℕ) → sampleRefusal s w id n ≡ r → (r ≡ 0 → ⊥) → Samples s w id n (Refused r)
 unfolding sampleNumbers
 refused-sample s w id n r e z = gives-refused sampleNumbers sampleZeros Refused (λ k. refl) (sampleAsked s id n) (sampleRefusal s w id n) r e z
 
 pub no-track : (s : List ℕ) (w : Source) (id n r : ℕ) → r ≡ askRefusal s w id → (r ≡ 0 → ⊥) → Samples s w id n (Refused r)
 unfolding sampleRefusal orElse
 no-track s w id n r e z = refused-sample s w id n r (rw (← e, ne-eqb r 0 z)) z
-
-module _ (s t : List ℕ) (w : Source) (id n r : ℕ) (e : r ≡ askRefusal s w id) (z : r ≡ 0) (d : t ≡ trackAsked s id) where
-  pub sample-zero : n ≡ 0 → Samples s w id n (Refused 15)
-  unfolding sampleRefusal orElse
-  sample-zero q = refused-sample s w id n 15 (rw (← e, eq-eqb r 0 z, q)) (λ y. omega arith)
-
-  module _ (c : ℕ) (x : List ℕ) (g : x ≡ tableOf stsz t) (f : c ≡ u32At x 16) where
-    count-is : c ≡ samplesOf (trackAsked s id)
-    count-is = f ∙ rw (g, d)
-
-    pub sample-past : (n ≡ 0 → ⊥) → c < n → Samples s w id n (Refused 15)
-    unfolding sampleRefusal orElse
-    sample-past k h =
-        refused-sample s w id n 15 (rw (← e, eq-eqb r 0 z, ← count-is, lt-ltb 0 n (omega arith), lt-leb n c h)) (λ y. omega arith)
-
-    pub sample-index : (n ≡ 0 → ⊥) → n ≤ c → n - 1 < samplesOf t
-    sample-index k h = let y : c ≡ samplesOf t = f ∙ rw g in omega arith
-
-    pub sample-found : (n ≡ 0 → ⊥) → n ≤ c → (v : Sample) → v ≡ sampleOf (trackOf t) (n - 1) → Samples s w id n (Found v)
-    unfolding sampleRefusal sampleNumbers orElse
-    sample-found k h v q =
-        let y : sampleRefusal s w id n ≡ 0 = rw (← e, eq-eqb r 0 z, ← count-is, lt-ltb 0 n (omega arith), le-leb n c h) in
-        gives-answer sampleNumbers sampleZeros Refused (λ i. refl) (sampleAsked s id n) (sampleRefusal s w id n) (Found v) y
-        (ap Found (q ∙ ap (λ (l : List ℕ). sampleOf (trackOf l) (n - 1)) d))
 
 -- ---- the bytes
 

@@ -1,3 +1,4 @@
 pub mod Asking
 pub mod Found
+pub mod Said
 pub mod Shift

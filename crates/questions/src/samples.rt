@@ -11,15 +11,12 @@ use structure::trak::table;
 use words::is_sync;
 use words::size_of;
 ghost use mathlib.Core.Path.{_≡_};
-ghost use mathlib.Core.Bool.{false};
 ghost use Prim.Native.Nat.{_+_, _≤_, _<_, _^_};
 ghost use lib.ListN.{length};
 ghost use lib.IntN.{pos, _+ℤ_};
 ghost use lib.Signed.{mag};
-ghost use Rattle.structure.specs.Track.{samplesOf};
-ghost use Rattle.track.specs.Track.{trackOf};
-ghost use Rattle.track.specs.Refusals.{contradicts, totalIn};
-ghost use Rattle.questions.specs.Samples.{sampleOf, Samples, PartOf, SampleBytes};
+ghost use Rattle.questions.specs.Said.{isLow, saidIn, sampleSaid};
+ghost use Rattle.questions.specs.Samples.{Samples, PartOf, SampleBytes};
 
 // What the tables say of a sample.
 pub struct Sample {
@@ -47,27 +44,77 @@ fn shifted(decode: u64, offset: i64) -> i64
     decode as i64 + offset
 }
 
-// What the tables of an accepted track say of the sample with an index, from 0.
-fn sample_in(trak: &[u8], index: u32) -> Sample
-    requires { ⌜ (length (now trak) < 2 ^ 32) × (totalIn (now trak) < 4294967296) × (contradicts (now trak) ≡ false) × (index < samplesOf (now trak)) × (samplesOf (now trak) ≤ 1048576) × (sampleOf (trackOf (now trak)) index .offset < 2 ^ 63) ⌝ }
-    ensures { λ r. ⌜ r ≡ sampleOf (trackOf (now (trak .entry))) index ⌝ }
+// Whether a sample's decode time, the index of its chunk and its offset are as low as those of an accepted track.
+fn is_low(decode: u64, chunk: u64, chunks: u32, offset: u64) -> bool
+    ensures { λ r. ⌜ r ≡ isLow decode chunk chunks offset ⌝ }
 {
-    let timing = timing_of(table(trak, kinds::STTS), index);
+    if 4294967295 < decode {
+        return false;
+    }
+    if chunks as u64 <= chunk {
+        return false;
+    }
+    offset < 9223372036854775808
+}
+
+// What the tables say of the sample with an index, from 0; refused where its numbers are not low, which they are in an accepted track.
+fn sample_in(
+    stts: &[u8],
+    ctts: &[u8],
+    stsc: &[u8],
+    stsz: &[u8],
+    offsets: &[u8],
+    stss: &[u8],
+    chunks: u32,
+    index: u32,
+) -> SampleAnswer
+    requires { ⌜ (length (now stsc) < 2 ^ 32) × (index < 4294967295) ⌝ }
+    ensures { λ r. ⌜ r ≡ saidIn (now (stts .entry)) (now (ctts .entry)) (now (stsc .entry)) (now (stsz .entry)) (now (offsets .entry)) (now (stss .entry)) chunks index ⌝ }
+{
+    let timing = timing_of(stts, index);
     let start = timing.start;
-    let shift = runs::composition_offset(table(trak, kinds::CTTS), index);
-    let stsz = table(trak, kinds::STSZ);
-    let offsets = offset_table(trak);
-    let place = locate(table(trak, kinds::STSC), u32_at(offsets, 12), index);
-    Sample {
+    let place = locate(stsc, chunks, index);
+    let offset = chunks::located_offset(stsz, offsets, place, index);
+    if !is_low(start, place.chunk, chunks, offset) {
+        return SampleAnswer::Refused(15);
+    }
+    let shift = runs::composition_offset(ctts, index);
+    SampleAnswer::Found(Sample {
         decode: start,
         duration: timing.duration,
         composition: shifted(start, shift),
-        sync: is_sync(table(trak, kinds::STSS), index + 1),
+        sync: is_sync(stss, index + 1),
         description: place.description,
         chunk: place.chunk + 1,
-        offset: chunks::located_offset(stsz, offsets, place, index),
+        offset,
         size: size_of(stsz, index),
+    })
+}
+
+// Sample n, numbered from 1, by the bytes of its tables and the numbers of samples and chunks, whatever these are.
+pub fn sample_of(
+    stts: &[u8],
+    ctts: &[u8],
+    stsc: &[u8],
+    stsz: &[u8],
+    offsets: &[u8],
+    stss: &[u8],
+    samples: u32,
+    chunks: u32,
+    n: u32,
+) -> SampleAnswer
+    ensures { λ r. ⌜ r ≡ sampleSaid (now (stts .entry)) (now (ctts .entry)) (now (stsc .entry)) (now (stsz .entry)) (now (offsets .entry)) (now (stss .entry)) samples chunks n ⌝ }
+{
+    if n == 0 {
+        return SampleAnswer::Refused(15);
     }
+    if samples < n {
+        return SampleAnswer::Refused(15);
+    }
+    if 4294967295 < stsc.len() {
+        return SampleAnswer::Refused(15);
+    }
+    sample_in(stts, ctts, stsc, stsz, offsets, stss, chunks, n - 1)
 }
 
 // Sample n of a track, numbered from 1.
@@ -79,13 +126,19 @@ pub fn sample_by_number(lent: &[u8], source: Source, id: u32, n: u32) -> SampleA
         return SampleAnswer::Refused(refused);
     }
     let trak = track_asked(lent, id);
-    if n == 0 {
-        return SampleAnswer::Refused(15);
-    }
-    if u32_at(table(trak, kinds::STSZ), 16) < n {
-        return SampleAnswer::Refused(15);
-    }
-    SampleAnswer::Found(sample_in(trak, n - 1))
+    let stsz = table(trak, kinds::STSZ);
+    let offsets = offset_table(trak);
+    sample_of(
+        table(trak, kinds::STTS),
+        table(trak, kinds::CTTS),
+        table(trak, kinds::STSC),
+        stsz,
+        offsets,
+        table(trak, kinds::STSS),
+        u32_at(stsz, 16),
+        u32_at(offsets, 12),
+        n,
+    )
 }
 
 // A part of the file by its start and length.

@@ -1,92 +1,26 @@
--- `host_times::hand_media_time` meets its contract, case by case of the answer.
+-- `host_times::hand_media_time` meets its contract: the answer of the question.
 -- Assumes nothing.
 use borrow.Author.Needs.{needs}
-use Rattle.hand.proofs.Answered.{handed, of-case}
-use Rattle.time_questions.specs.Times.{timeNumbers}
 use Rattle.host_times.proofs.hand_media_time.Statement.{statement}
 use Rattle.host_times.proofs.hand_media_time.Tie as tie
 
 media-time-of-requires : tie.Need-media-time-of-requires
 media-time-of-requires c κs = search needs
 
-enum-known-m : tie.Need-enum-known-m
-enum-known-m c = search needs
-
-cast-t14 : tie.Need-cast-t14
-cast-t14 c = search needs
-
-slice-aggregate-hand : tie.Need-slice-aggregate-hand
-slice-aggregate-hand c = search needs
-
-hand-requires : tie.Need-hand-requires
-hand-requires c κs = search needs
-
-enum-told : tie.Need-enum-told
-enum-told c = search needs
-
-slice-aggregate-hand-2 : tie.Need-slice-aggregate-hand-2
-slice-aggregate-hand-2 c = search needs
-
-hand-requires-2 : tie.Need-hand-requires-2
-hand-requires-2 c κs = search needs
-
-enum-known-r : tie.Need-enum-known-r
-enum-known-r c = search needs
-
-slice-aggregate-hand-3 : tie.Need-slice-aggregate-hand-3
-slice-aggregate-hand-3 c = search needs
-
-hand-requires-3 : tie.Need-hand-requires-3
-hand-requires-3 c κs = search needs
+hand-time-answer-requires : tie.Need-hand-time-answer-requires
+hand-time-answer-requires c κs = search needs
 
 same-length : tie.Need-same-length
 same-length c = search needs
 
 returns : tie.Need-returns
-unfolding timeNumbers
-returns c =
-    handed _ _ _ _ _ _
-    (of-case timeNumbers (c .before .before .before .before .before .before .before .before .before .media-time-of .ensures .answer) (c .before .before .before .before .before .before .before .m .given .1))
-    (c .before .before .hand .ensures)
-
-same-length-2 : tie.Need-same-length-2
-same-length-2 c = search needs
-
-returns-2 : tie.Need-returns-2
-unfolding timeNumbers
-returns-2 c =
-    handed _ _ _ _ _ _
-    (of-case timeNumbers (c .before .before .before .before .before .before .before .media-time-of .ensures .answer) (c .before .before .before .before .before .enum-told .given .1))
-    (c .before .before .hand2 .ensures)
-
-same-length-3 : tie.Need-same-length-3
-same-length-3 c = search needs
-
-returns-3 : tie.Need-returns-3
-unfolding timeNumbers
-returns-3 c =
-    handed _ _ _ _ _ _
-    (of-case timeNumbers (c .before .before .before .before .before .before .before .before .media-time-of .ensures .answer) (c .before .before .before .before .before .before .r .given .1))
-    (c .before .before .hand3 .ensures)
+returns c = rw (c .before .before .before .before .media-time-of .ensures .answer) at (c .before .before .hand-time-answer .ensures)
 
 pub hand-media-time-spec : {M : Type 1} → statement M
 hand-media-time-spec =
     tie.close
     (tie.spec
     media-time-of-requires
-    enum-known-m
-    cast-t14
-    slice-aggregate-hand
-    hand-requires
-    enum-told
-    slice-aggregate-hand-2
-    hand-requires-2
-    enum-known-r
-    slice-aggregate-hand-3
-    hand-requires-3
+    hand-time-answer-requires
     same-length
-    returns
-    same-length-2
-    returns-2
-    same-length-3
-    returns-3)
+    returns)

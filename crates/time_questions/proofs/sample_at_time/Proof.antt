@@ -1,61 +1,33 @@
--- `time_questions::sample_at_time` meets its contract: stts is searched where the track is accepted.
+-- `time_questions::sample_at_time` meets its contract: stts of the track that is asked is searched.
 -- Assumes nothing.
-use borrow.Author.Needs.{needs}
-use mathlib.Core.Path.{refl}
-use native.Mathlib.Omega.{arith}
-use Rattle.questions.proofs.Asking.{asked-short, table-fits}
-use Rattle.time_questions.proofs.Mapping.{no-track-at, few-at, found-at, outside-at}
+use Rattle.time_questions.proofs.Mapping.{no-track-at, number-asked}
 use Rattle.time_questions.proofs.sample_at_time.Statement.{statement}
 use Rattle.time_questions.proofs.sample_at_time.Tie as tie
 
 ask-refusal-requires : tie.Need-ask-refusal-requires
-ask-refusal-requires c κs = search needs
+ask-refusal-requires c κs = tt
 
 returns : tie.Need-returns
 returns c = no-track-at _ _ _ _ _ (c .before .ask-refusal .ensures) (c .if1 .taken)
 
 track-asked-requires : tie.Need-track-asked-requires
-track-asked-requires c κs = search needs
+track-asked-requires c κs = tt
 
 table-requires : tie.Need-table-requires
-table-requires c κs = search needs
+table-requires c κs = tt
 
-look-up-requires : tie.Need-look-up-requires
-look-up-requires c κs =
-    let k = c .before in
-    table-fits _ _ _ (c .table .ensures) (asked-short _ _ _ _ _ (k .before .before .ask-refusal .ensures) (k .before .if1 .left) (k .track-asked .ensures))
+u32-at-requires : tie.Need-u32-at-requires
+u32-at-requires c κs = tt
 
-enum-known-hit : tie.Need-enum-known-hit
-enum-known-hit c = search needs
+table-requires-2 : tie.Need-table-requires-2
+table-requires-2 c κs = tt
 
-add-t13 : tie.Need-add-t13
-add-t13 c =
-    let f = c .before .before .before .before in
-    let k = f .before .before in
-    let h = few-at _ _ _ _ _ _ _ (k .before .before .ask-refusal .ensures) (k .before .if1 .left) (k .track-asked .ensures) (f .before .table .ensures) _ (f .look-up .ensures) _ (c .before .before .hit .given .1) in
-    record { fits = omega arith }
-
-cast-t14 : tie.Need-cast-t14
-cast-t14 c =
-    let f = c .before .before .before .before in
-    let k = f .before .before in
-    let h = few-at _ _ _ _ _ _ _ (k .before .before .ask-refusal .ensures) (k .before .if1 .left) (k .track-asked .ensures) (f .before .table .ensures) _ (f .look-up .ensures) _ (c .before .before .hit .given .1) in
-    omega arith
-
-enum-told : tie.Need-enum-told
-enum-told c = search needs
+sample-number-in-requires : tie.Need-sample-number-in-requires
+sample-number-in-requires c κs = tt
 
 returns-2 : tie.Need-returns-2
 returns-2 c =
-    let f = c .before .before .before .before in
-    let k = f .before .before in
-    found-at _ _ _ _ _ _ _ (k .before .before .ask-refusal .ensures) (k .before .if1 .left) (k .track-asked .ensures) (f .before .table .ensures) _ (f .look-up .ensures) _ (c .before .before .hit .given .1) _ refl
-
-returns-3 : tie.Need-returns-3
-returns-3 c =
-    let f = c .before .before in
-    let k = f .before .before in
-    outside-at _ _ _ _ _ _ _ (k .before .before .ask-refusal .ensures) (k .before .if1 .left) (k .track-asked .ensures) (f .before .table .ensures) _ (f .look-up .ensures) (c .enum-told .given .1)
+    number-asked _ _ _ _ _ _ _ _ _ (c .before .before .before .before .before .before .ask-refusal .ensures) (c .before .before .before .before .before .if1 .left) (c .before .before .before .before .track-asked .ensures) (c .before .table2 .ensures) (c .before .before .before .table .ensures) (c .before .before .u32-at .ensures) _ (c .sample-number-in .ensures)
 
 pub sample-at-time-spec : {M : Type 1} → statement M
 sample-at-time-spec =
@@ -65,10 +37,7 @@ sample-at-time-spec =
     returns
     track-asked-requires
     table-requires
-    look-up-requires
-    enum-known-hit
-    add-t13
-    cast-t14
-    enum-told
-    returns-2
-    returns-3)
+    u32-at-requires
+    table-requires-2
+    sample-number-in-requires
+    returns-2)

@@ -1,0 +1,64 @@
+// A track opened once: its handle is 19 numbers in lent places, and the questions by it judge no film and walk over no atoms. The handle's order: place and
+// length of stts, ctts, stsc, stsz, the chunk offsets, stss and elst, then samples, chunks, media scale, movie scale and the total of the durations.
+use host_opened::hand_opened_media_time;
+use host_opened::hand_opened_sample;
+use host_opened::hand_opened_sample_at;
+use host_opened::hand_opening;
+use structure::source::Source;
+ghost use Rattle.structure.specs.Source.{wholeFile, moovAlone};
+ghost use Rattle.host_opened.specs.Hands.{HandsOpening, HandsSample, HandsNumber, HandsTime};
+
+// Opens a track: its handle in 19 places.
+#[no_mangle]
+pub extern "C" fn chaldoref_open(file: &[u8], id: u32, handle: &mut [u64]) -> u32
+    ensures { λ r. ⌜ HandsOpening (now (file .entry)) wholeFile id (now (handle .entry)) r (now (handle .exit)) ⌝ }
+{
+    hand_opening(file, Source::whole(), id, handle)
+}
+
+// The same of a film by its moov atom alone, with the length of its file.
+#[no_mangle]
+pub extern "C" fn chaldoref_moov_open(moov: &[u8], length: u64, id: u32, handle: &mut [u64]) -> u32
+    ensures { λ r. ⌜ HandsOpening (now (moov .entry)) (moovAlone length) id (now (handle .entry)) r (now (handle .exit)) ⌝ }
+{
+    hand_opening(moov, Source::of_moov(length), id, handle)
+}
+
+// Sample n by a handle, in eight places; `lent` is what the track was opened in.
+#[no_mangle]
+pub extern "C" fn chaldoref_opened_sample(
+    lent: &[u8],
+    handle: &[u64],
+    n: u32,
+    places: &mut [i64],
+) -> u32
+    ensures { λ r. ⌜ HandsSample (now (lent .entry)) (now (handle .entry)) n (now (places .entry)) r (now (places .exit)) ⌝ }
+{
+    hand_opened_sample(lent, handle, n, places)
+}
+
+// The number of the sample at media time t and the position of its entry in stts, by a handle, in two places.
+#[no_mangle]
+pub extern "C" fn chaldoref_opened_sample_at(
+    lent: &[u8],
+    handle: &[u64],
+    t: u32,
+    places: &mut [u64],
+) -> u32
+    ensures { λ r. ⌜ HandsNumber (now (lent .entry)) (now (handle .entry)) t (now (places .entry)) r (now (places .exit)) ⌝ }
+{
+    hand_opened_sample_at(lent, handle, t, places)
+}
+
+// What movie time t shows, by a handle, in two places: 1 and the media time, or 0 and 0 where nothing is shown.
+#[no_mangle]
+pub extern "C" fn chaldoref_opened_media_time(
+    lent: &[u8],
+    handle: &[u64],
+    t: u32,
+    places: &mut [u64],
+) -> u32
+    ensures { λ r. ⌜ HandsTime (now (lent .entry)) (now (handle .entry)) t (now (places .entry)) r (now (places .exit)) ⌝ }
+{
+    hand_opened_media_time(lent, handle, t, places)
+}
