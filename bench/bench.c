@@ -13,7 +13,7 @@
 #include <stdlib.h>
 #include <string.h>
 
-enum { ROUNDS = 150, AV_EVERY = 15, MOST = 32, ROOM = 2 * FILM_SAMPLES, OUT = 24 + 18 * FILM_SAMPLES, AT_ONCE = 1024 };
+enum { ROUNDS = 150, AV_EVERY = 15, MOST = 32, ROOM = 2 * FILM_SAMPLES, OUT = 24 + 18 * FILM_SAMPLES, AT_ONCE = 1024, LOOKUPS = 1000 };
 
 /* What is lent to every question; it isn't cleared between them. */
 static uint32_t room[ROOM];
@@ -146,6 +146,31 @@ static bool ask_step(const struct film *f, const struct track_facts *t, double *
         pass_sample(&all, places + 1);
     *ms = now_ms() - begin;
     return refused == 0 && is_all(&all, t);
+}
+
+/* The opening, and a thousand lookups by the handle, the last sample among them. */
+static bool ask_thousand_samples(const struct film *f, const struct track_facts *t, double *ms)
+{
+    struct chaldoref_opened track;
+    struct chaldoref_moov_sample_info s = { 0 };
+    double begin = now_ms();
+    uint32_t refused = chaldoref_open_track(f->bytes, f->len, t->id, &track);
+    for (uint32_t i = 1; i <= LOOKUPS; i++)
+        refused |= chaldoref_track_sample(f->bytes, f->len, &track, t->samples / LOOKUPS * i, &s);
+    *ms = now_ms() - begin;
+    return refused == 0 && s.chunk == t->chunks && s.offset == t->last_begin && s.size == t->last_size;
+}
+
+static bool ask_thousand_times(const struct film *f, const struct track_facts *t, double *ms)
+{
+    struct chaldoref_opened track;
+    struct chaldoref_sample_at_info at = { 0 };
+    double begin = now_ms();
+    uint32_t refused = chaldoref_open_track(f->bytes, f->len, t->id, &track);
+    for (uint32_t i = 1; i <= LOOKUPS; i++)
+        refused |= chaldoref_track_sample_at(f->bytes, f->len, &track, (uint32_t)((uint64_t)t->total * i / LOOKUPS) - 1, &at);
+    *ms = now_ms() - begin;
+    return refused == 0 && at.sample == t->samples;
 }
 
 static bool ask_sample_at(const struct film *f, const struct track_facts *t, double *ms)
@@ -296,6 +321,8 @@ static int gather(struct candidate *c, const struct film *f)
         c[n++] = (struct candidate){ .name = "whole stretch", .run = ask_stretch, .track = &f->track[i] };
     c[n++] = (struct candidate){ .name = "last sample", .run = ask_sample, .track = f->track };
     c[n++] = (struct candidate){ .name = "sample at the last time", .run = ask_sample_at, .track = f->track };
+    c[n++] = (struct candidate){ .name = "a thousand samples, opened once", .run = ask_thousand_samples, .track = f->track, .slow = true };
+    c[n++] = (struct candidate){ .name = "samples at a thousand times, opened once", .run = ask_thousand_times, .track = f->track, .slow = true };
     c[n++] = (struct candidate){ .name = "slip of the whole", .run = ask_write_slip, .track = f->track };
     c[n++] = (struct candidate){ .name = "track list, moov alone", .run = ask_moov_track_list, .track = f->track };
     c[n++] = (struct candidate){ .name = "whole stretch, moov alone", .run = ask_moov_stretch, .track = f->track };

@@ -14,7 +14,7 @@
  * then 64-bit numbers, and the bytes of a sample are not offered.
  * chaldoref_top_level_step tells where in a file its moov is.
  *
- * A slice is a pointer and a length, counted in elements. Four kinds are lent:
+ * A slice is a pointer and a length, counted in elements. Five kinds are lent:
  *
  *   file, moov,  bytes that are read
  *   slip
@@ -25,6 +25,8 @@
  *                fills the same ones with zeros (17 all but the last, which then
  *                says where the slip goes wrong), the rest is left
  *   stepper      a position in a track, which steps read and move on
+ *   handle       a track that is opened once: chaldoref_open writes it, as places, and
+ *                questions read it
  *
  * Places fewer than a function names are refused 16 as room is, and then nothing
  * at all is written. The order of refusals is: the file's (1 to 13 and 19, which is
@@ -47,7 +49,7 @@
  *   - no pointer is NULL, also where its length is 0 (the chaldoref_lend_ functions
  *     below make such a NULL a pointer that may be lent); each is aligned for its
  *     type and valid for its length, and no length is over PTRDIFF_MAX bytes;
- *   - nothing writes to file, moov or slip during a call;
+ *   - nothing writes to file, moov, slip or a handle that is read during a call;
  *   - room, out, places and stepper overlap neither each other nor what is read, and
  *     nothing else reads or writes them during a call.
  * Nothing of what is lent is kept after a call.
@@ -133,6 +135,11 @@ enum {
 /* As many numbers has a position in a track, which the caller keeps. */
 enum {
     CHALDOREF_STEPPER_NUMBERS = 29
+};
+
+/* As many numbers has a track that is opened once, which the caller keeps. */
+enum {
+    CHALDOREF_OPENED_NUMBERS = 19
 };
 
 /* As many bytes of an atom's header are read at most. */
@@ -255,6 +262,43 @@ uint32_t chaldoref_sample_at(
 uint32_t chaldoref_media_time(
     const uint8_t *file, size_t file_len,
     uint32_t id, uint32_t t,
+    uint64_t *places, size_t places_len);
+
+/*
+ * A track opened once: the film is judged here, and not again by the three questions that take the
+ * handle. Refusals: the file's but 11; 14, 16.
+ * handle: CHALDOREF_OPENED_NUMBERS numbers that the caller keeps; zeros with a refusal; with 16,
+ *         for fewer numbers, nothing is written. They hold no pointer: they say where in the lent
+ *         bytes the tables are, and what each of them is may change with the version.
+ */
+uint32_t chaldoref_open(
+    const uint8_t *file, size_t file_len,
+    uint32_t id,
+    uint64_t *handle, size_t handle_len);
+
+/*
+ * Sample n of the track that was opened, the sample at media time t, and movie time t to media
+ * time: the answers and places of chaldoref_sample, chaldoref_sample_at and chaldoref_media_time.
+ * Refusals: 15, 16. lent are the bytes that the track was opened with: the whole file, or the moov
+ * alone. With other bytes, or with numbers of any kind, a call is safe and reads only what is lent;
+ * what it answers then need not be of the film.
+ */
+uint32_t chaldoref_opened_sample(
+    const uint8_t *lent, size_t lent_len,
+    const uint64_t *handle, size_t handle_len,
+    uint32_t n,
+    int64_t *places, size_t places_len);
+
+uint32_t chaldoref_opened_sample_at(
+    const uint8_t *lent, size_t lent_len,
+    const uint64_t *handle, size_t handle_len,
+    uint32_t t,
+    uint64_t *places, size_t places_len);
+
+uint32_t chaldoref_opened_media_time(
+    const uint8_t *lent, size_t lent_len,
+    const uint64_t *handle, size_t handle_len,
+    uint32_t t,
     uint64_t *places, size_t places_len);
 
 /*
@@ -418,6 +462,12 @@ uint32_t chaldoref_moov_media_time(
     const uint8_t *moov, size_t moov_len, uint64_t length,
     uint32_t id, uint32_t t,
     uint64_t *places, size_t places_len);
+
+/* The questions by the handle are those of a whole file, with the moov as the bytes that are lent. */
+uint32_t chaldoref_moov_open(
+    const uint8_t *moov, size_t moov_len, uint64_t length,
+    uint32_t id,
+    uint64_t *handle, size_t handle_len);
 
 uint32_t chaldoref_moov_movie(
     const uint8_t *moov, size_t moov_len, uint64_t length,
@@ -814,6 +864,60 @@ static inline struct chaldoref_media_time_info chaldoref_media_time_of(
     media.shown = places[0] == 1;
     media.time = (uint32_t)places[1];
     return media;
+}
+
+/* A track that is opened once, to be kept by the caller. */
+struct chaldoref_opened {
+    uint64_t numbers[CHALDOREF_OPENED_NUMBERS];
+};
+
+/* A track of a whole file, opened. Refusals: those of chaldoref_open but 16. */
+static inline uint32_t chaldoref_open_track(
+    const uint8_t *file, size_t file_len, uint32_t id, struct chaldoref_opened *track)
+{
+    return chaldoref_open(file, file_len, id, track->numbers, CHALDOREF_OPENED_NUMBERS);
+}
+
+/* The same of a moov alone. */
+static inline uint32_t chaldoref_moov_open_track(
+    const uint8_t *moov, size_t moov_len, uint64_t length, uint32_t id, struct chaldoref_opened *track)
+{
+    return chaldoref_moov_open(moov, moov_len, length, id, track->numbers, CHALDOREF_OPENED_NUMBERS);
+}
+
+/* Sample n of the track. Refusal 15. It serves both ways in, as the next two do. */
+static inline uint32_t chaldoref_track_sample(const uint8_t *lent, size_t lent_len, const struct chaldoref_opened *track,
+                                              uint32_t n, struct chaldoref_moov_sample_info *sample)
+{
+    int64_t places[CHALDOREF_SAMPLE_PLACES];
+    uint32_t refusal = chaldoref_opened_sample(lent, lent_len, track->numbers, CHALDOREF_OPENED_NUMBERS, n, places,
+                                               CHALDOREF_SAMPLE_PLACES);
+    *sample = chaldoref_moov_sample_of(places);
+    return refusal;
+}
+
+/* The sample at media time t. Refusal 15. */
+static inline uint32_t chaldoref_track_sample_at(const uint8_t *lent, size_t lent_len,
+                                                 const struct chaldoref_opened *track, uint32_t t,
+                                                 struct chaldoref_sample_at_info *at)
+{
+    uint64_t places[CHALDOREF_SAMPLE_AT_PLACES];
+    uint32_t refusal = chaldoref_opened_sample_at(lent, lent_len, track->numbers, CHALDOREF_OPENED_NUMBERS, t, places,
+                                                  CHALDOREF_SAMPLE_AT_PLACES);
+    *at = chaldoref_sample_at_of(places);
+    return refusal;
+}
+
+/* The media time that the track shows at movie time t. Refusal 15. */
+static inline uint32_t chaldoref_track_media_time(const uint8_t *lent, size_t lent_len,
+                                                  const struct chaldoref_opened *track, uint32_t t,
+                                                  struct chaldoref_media_time_info *media)
+{
+    uint64_t places[CHALDOREF_MEDIA_TIME_PLACES];
+    uint32_t refusal = chaldoref_opened_media_time(lent, lent_len, track->numbers, CHALDOREF_OPENED_NUMBERS, t, places,
+                                                   CHALDOREF_MEDIA_TIME_PLACES);
+    *media = chaldoref_media_time_of(places);
+    return refusal;
 }
 
 /* How much of its room a stretch has filled, and its bytes. */

@@ -25,7 +25,7 @@ from dataclasses import dataclass
 from typing import Any, BinaryIO, Dict, Iterator, Optional, Tuple, Union
 
 __all__ = [
-    "FEATURES", "ByteRange", "Edit", "Header", "MalformedSlip", "Movie", "Peak", "ProfileRecord", "Refusal", "Refused",
+    "FEATURES", "ByteRange", "Edit", "Header", "MalformedSlip", "Movie", "Opened", "Peak", "ProfileRecord", "Refusal", "Refused",
     "Sample", "SampleAt", "Slip", "Stretch", "Track", "read_any_slip", "read_slip",
 ]
 
@@ -47,7 +47,7 @@ _TRACK_NUMBERS, _PAIR_NUMBERS, _RECORD_NUMBERS, _EDIT_NUMBERS = 8, 2, 3, 3
 _MAX_TRACKS, _MAX_PAIRS, _MAX_RECORDS, _MAX_EDITS = 16, 1_048_576, 64, 256
 _SLIP_HEAD_BYTES, _SLIP_PAIR_BYTES, _SLIP_WIDE_PAIR_BYTES = 24, 10, 18
 _HEADER_BYTES, _TOP_LEVEL_PLACES = 16, 6
-_STEPPER_NUMBERS, _SAMPLE_NUMBERS = 29, 8
+_STEPPER_NUMBERS, _SAMPLE_NUMBERS, _OPENED_NUMBERS = 29, 8, 19
 
 #: As many samples are had from the library at once.
 _FETCHED = 64
@@ -370,6 +370,11 @@ class Movie:
         stepper = self._ask("step_start", _STEPPER_NUMBERS, track, 1 if start is None else start)
         return _stepped(self._lent, stepper)
 
+    def opened(self, track: int) -> "Opened":
+        """A track, opened once for many questions about its samples and times: the film is judged here and not again by
+        them. Refusal 14."""
+        return Opened(self._lent, self._ask("open", _OPENED_NUMBERS, track))
+
     def sample_bytes(self, track: int, n: int) -> bytes:
         """The bytes of sample n of a track, numbered from 1. Refusals 14, 15. A ValueError where the movie was made of
         its moov alone: offset and size of the sample then tell where in the file they are."""
@@ -455,6 +460,36 @@ class Movie:
         return list(places)
 
 
+class Opened:
+    """A track that Movie.opened has opened. Its answers are those of the movie."""
+
+    def __init__(self, lent: bytes, numbers: Any) -> None:
+        self._lent = lent
+        self._handle = (ctypes.c_uint64 * _OPENED_NUMBERS)(*numbers)
+
+    def sample(self, n: int) -> Sample:
+        """Sample n, numbered from 1. Refusal 15."""
+        return _sample(self._ask("sample", 8, n, ctypes.c_int64))
+
+    def sample_at(self, t: int) -> SampleAt:
+        """The sample at media time t. Refusal 15."""
+        return SampleAt(*self._ask("sample_at", 2, t))
+
+    def media_time(self, t: int) -> Optional[int]:
+        """The media time that the track shows at movie time t; None where nothing is shown. Refusal 15."""
+        shown, media = self._ask("media_time", 2, t)
+        return media if shown else None
+
+    def _ask(self, name: str, count: int, number: int, place: Any = ctypes.c_uint64) -> Any:
+        places = (place * count)()
+        handle = self._handle
+        function = _function("opened_" + name)
+        answer = function(self._lent, len(self._lent), handle, len(handle), _number(number), places, count)
+        if answer != 0:
+            raise Refused(answer)
+        return list(places)
+
+
 def _sample(numbers: Any) -> Sample:
     """The sample of the numbers that the library answers."""
     decode, duration, composition, sync, *rest = numbers
@@ -524,7 +559,7 @@ def _read_at(film: BinaryIO, place: int, count: int) -> bytes:
 
 
 # How each function is called after its first two parameters, the bytes and their length, and before its last two, the
-# places and their number: l is the length of a file, n is a number, r is room, out or a stepper and its length.
+# places and their number: l is the length of a file, n is a number, r is room, out, a stepper or a handle and its length.
 _PARAMETERS = {
     "track_list": "r",
     "sample": "nn",
@@ -544,10 +579,14 @@ _PARAMETERS = {
     "step_start": "nn",
     "step": "r",
     "steps": "rr",
+    "open": "n",
+    "opened_sample": "rn",
+    "opened_sample_at": "rn",
+    "opened_media_time": "rn",
 }
 _MOOV = (
     "track_list", "sample", "sample_at", "media_time", "stretch", "profile", "feature", "peak", "movie", "edits",
-    "write_slip", "step_start",
+    "write_slip", "step_start", "open",
 )
 _PARAMETERS.update({"moov_" + name: "l" + _PARAMETERS[name] for name in _MOOV})
 

@@ -110,6 +110,19 @@ class FilmW(Case):
         self.assertRefused(15, self.movie.samples, 1, 5)
         self.assertRefused(14, self.movie.samples, 2)
 
+    def test_opened_once(self):
+        for movie in (self.movie, Movie.read("films/w.mov")):
+            track = movie.opened(1)
+            self.assertEqual([track.sample(n) for n in range(1, 5)], [movie.sample(1, n) for n in range(1, 5)])
+            for t in (0, 23, 24, 71, 119):
+                self.assertEqual(track.sample_at(t), movie.sample_at(1, t))
+                self.assertEqual(track.media_time(t), movie.media_time(1, t))
+            self.assertRefused(15, track.sample, 0)
+            self.assertRefused(15, track.sample, 5)
+            self.assertRefused(15, track.sample_at, 120)
+            self.assertRefused(15, track.media_time, 120)
+        self.assertRefused(14, self.movie.opened, 2)
+
     def test_sample_bytes(self):
         self.assertEqual(self.movie.sample_bytes(1, 2), W[1100:1150])
         self.assertEqual(self.movie.sample_bytes(1, 3), b"")
@@ -358,7 +371,8 @@ class Header(unittest.TestCase):
     def test_sizes(self):
         for name in ("TRACK_NUMBERS", "PAIR_NUMBERS", "RECORD_NUMBERS", "EDIT_NUMBERS", "MAX_TRACKS", "MAX_PAIRS",
                      "MAX_RECORDS", "MAX_EDITS", "SLIP_HEAD_BYTES", "SLIP_PAIR_BYTES", "SLIP_WIDE_PAIR_BYTES",
-                     "HEADER_BYTES", "TOP_LEVEL_PLACES", "STEPPER_NUMBERS", "SAMPLE_NUMBERS"):
+                     "HEADER_BYTES", "TOP_LEVEL_PLACES", "STEPPER_NUMBERS", "SAMPLE_NUMBERS",
+                     "OPENED_NUMBERS"):
             self.assertIn(f"CHALDOREF_{name} = {getattr(chaldoref, '_' + name)}", HEADER)
 
     def test_functions(self):
@@ -367,7 +381,7 @@ class Header(unittest.TestCase):
         for name, parameters in declared.items():
             # The last pointer and length are the answer's own.
             before = parameters[:parameters.rindex("*")]
-            found = re.findall(r"uint32_t (?:id|n|t|a|b|code)\b|uint64_t length\b|\*(?:room|out|stepper)\b", before)
+            found = re.findall(r"uint32_t (?:id|n|t|a|b|code)\b|uint64_t length\b|\*(?:room|out|stepper|handle)\b", before)
             letters = ("r" if "*" in letter else "l" if "64" in letter else "n" for letter in found)
             self.assertEqual("".join(letters), chaldoref._PARAMETERS[name])
 

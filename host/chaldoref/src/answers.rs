@@ -100,6 +100,11 @@ pub struct SampleAt {
 }
 
 impl SampleAt {
+    /// The sample of the numbers that the library answers.
+    pub(crate) fn of([sample, entry]: [u64; 2]) -> SampleAt {
+        SampleAt { sample: promised(sample), entry: promised(entry) }
+    }
+
     /// That sample, in that entry.
     #[must_use]
     pub fn new(sample: u32, entry: u32) -> SampleAt {
@@ -114,6 +119,16 @@ pub enum Shown {
     At(MediaTime),
     /// Nothing: the movie time falls in an empty edit.
     Nothing,
+}
+
+impl Shown {
+    /// What is shown by the numbers that the library answers.
+    pub(crate) fn of(numbers: [u64; 2]) -> Shown {
+        match numbers {
+            [0, _] => Shown::Nothing,
+            [_, media] => Shown::At(MediaTime(promised(media))),
+        }
+    }
 }
 
 /// What the movie's own header says.

@@ -245,6 +245,37 @@ pub fn steps(
     })
 }
 
+/// As many numbers has a track that is opened once.
+pub const OPENED_NUMBERS: usize = 19;
+pub type Handle = [u64; OPENED_NUMBERS];
+
+/// A track, opened.
+pub fn open(film: Film, id: u32) -> Result<Handle, Refusal> {
+    ask(|handle, len| of_film!(film, chaldoref_open, chaldoref_moov_open, id, handle, len))
+}
+
+/// Asks by a handle, in the same way of both ways in: it says where the tables are in what was lent.
+macro_rules! by_handle {
+    ($function:ident, $lent:expr, $handle:expr, $number:expr) => {
+        // SAFETY: slices' own pointers and lengths, as the module says.
+        ask(|places, len| unsafe {
+            raw::$function($lent.as_ptr(), $lent.len(), $handle.as_ptr(), $handle.len(), $number, places, len)
+        })
+    };
+}
+
+pub fn opened_sample(lent: &[u8], handle: &Handle, n: u32) -> Result<[i64; 8], Refusal> {
+    by_handle!(chaldoref_opened_sample, lent, handle, n)
+}
+
+pub fn opened_sample_at(lent: &[u8], handle: &Handle, t: u32) -> Result<[u64; 2], Refusal> {
+    by_handle!(chaldoref_opened_sample_at, lent, handle, t)
+}
+
+pub fn opened_media_time(lent: &[u8], handle: &Handle, t: u32) -> Result<[u64; 2], Refusal> {
+    by_handle!(chaldoref_opened_media_time, lent, handle, t)
+}
+
 /// A step over the atoms at top level. The places are those of the step before, or the file's length and zeros.
 pub fn top_level(header: &[u8], mut places: [u64; 6]) -> Result<[u64; 6], Refusal> {
     // SAFETY: slices' own pointers and lengths, as the module says.

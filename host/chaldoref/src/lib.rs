@@ -38,8 +38,8 @@
 //! The library keeps no state and allocates nothing. Each question judges the whole file again before it answers, in
 //! time that grows with the movie's tables (the `moov` atom) and not with the film's own bytes: for a million samples
 //! half a millisecond to some hundredths of a second. A question about one sample so costs as much as [`Movie::open`]; to have the bytes of
-//! many samples ask for one [`Movie::stretch`], and not for each sample; [`Movie::samples`] goes through a track in one
-//! judging, at some nanoseconds a sample.
+//! many samples ask for one [`Movie::stretch`], and not for each sample. [`Movie::samples`] goes through a track in one
+//! judging, at some nanoseconds a sample, and [`Movie::opened`] keeps a track for many questions after one judging.
 //!
 //! # Memory
 //!
@@ -64,6 +64,7 @@ mod ffi;
 mod film;
 mod moov;
 mod movie;
+mod opened;
 #[allow(missing_docs)]
 pub mod raw;
 mod refusal;
@@ -77,6 +78,7 @@ pub use feature::{Feature, UnknownFeature};
 pub use film::Film;
 pub use moov::{Moov, ReadError};
 pub use movie::{strict_refusal, Movie, MAX_FILE_BYTES, MAX_LENGTH};
+pub use opened::Opened;
 pub use refusal::{Refusal, UnknownRefusal};
 pub use samples::Samples;
 pub use slip::{AnySlip, MalformedSlip, Slip};

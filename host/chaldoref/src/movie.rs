@@ -2,6 +2,7 @@
 use crate::answers::{Edit, Header, Peak, ProfileRecord, Sample, SampleAt, Shown, Stretch, StretchSize, Track};
 use crate::ffi::{self, broken, promised};
 use crate::film::Film;
+use crate::opened::Opened;
 use crate::refusal::Refusal;
 use crate::room::room;
 use crate::samples::Samples;
@@ -84,6 +85,15 @@ impl<'a> Movie<'a> {
     #[must_use]
     pub fn track(&self, id: TrackId) -> Option<&Track> {
         self.tracks().iter().find(|track| track.id == id)
+    }
+
+    /// A track, opened once for many questions about its samples and times: the film is judged here and not again by them.
+    ///
+    /// # Errors
+    ///
+    /// [`Refusal::NoTrack`].
+    pub fn opened(&self, id: TrackId) -> Result<Opened<'a>, Refusal> {
+        ffi::open(self.film, id.0).map(|handle| Opened::new(self.film.lent(), id, handle))
     }
 
     /// The movie's time scale and the duration that it stores.
@@ -219,8 +229,7 @@ impl<'a> Movie<'a> {
     ///
     /// [`Refusal::NoTrack`]; [`Refusal::Outside`] where `t` is not below the track's total.
     pub fn sample_at(&self, id: TrackId, t: MediaTime) -> Result<SampleAt, Refusal> {
-        let [sample, entry] = ffi::sample_at(self.film, id.0, t.0)?;
-        Ok(SampleAt { sample: promised(sample), entry: promised(entry) })
+        ffi::sample_at(self.film, id.0, t.0).map(SampleAt::of)
     }
 
     /// What a track shows at a movie time, which goes through the track's edit list if it has one.
@@ -240,10 +249,7 @@ impl<'a> Movie<'a> {
     /// [`Refusal::NoTrack`]; [`Refusal::Outside`] at or past the end: that of the last edit, or without an edit list
     /// that of the media.
     pub fn media_time(&self, id: TrackId, t: MovieTime) -> Result<Shown, Refusal> {
-        match ffi::media_time(self.film, id.0, t.0)? {
-            [0, _] => Ok(Shown::Nothing),
-            [_, media] => Ok(Shown::At(MediaTime(promised(media)))),
-        }
+        ffi::media_time(self.film, id.0, t.0).map(Shown::of)
     }
 
     /// The bytes of a track from one media time up to another: all samples from the one at the start to the one just
@@ -362,7 +368,7 @@ impl<'a> Movie<'a> {
     /// Where a track has its highest bit rate over one second, by
     /// [`Feature::HighestVideoBitRate`](crate::Feature::HighestVideoBitRate) or
     /// [`Feature::HighestAudioBitRate`](crate::Feature::HighestAudioBitRate): the first second that has the greatest.
-    /// It costs three questions.
+    /// It costs two judgings.
     ///
     /// ```
     /// use chaldoref::{Feature, MediaTime, Movie, TrackId};
@@ -382,8 +388,9 @@ impl<'a> Movie<'a> {
     pub fn peak(&self, id: TrackId, code: impl Into<FourCC>) -> Result<Peak, Refusal> {
         let [first, count] = ffi::peak(self.film, id.0, code.into().0)?;
         let samples: RangeInclusive<u32> = promised(first)..=promised(first + count - 1);
-        let start = self.sample(id, *samples.start())?.decode;
-        let last = self.sample(id, *samples.end())?;
+        let track = self.opened(id)?;
+        let start = track.sample(*samples.start())?.decode;
+        let last = track.sample(*samples.end())?;
         let end = MediaTime(promised(u64::from(last.decode.0) + u64::from(last.duration)));
         Ok(Peak { samples, time: start..end })
     }

@@ -289,4 +289,45 @@ extern "C" {
         places: *mut u64,
         places_len: usize,
     ) -> u32;
+
+    pub fn chaldoref_open(file: *const u8, file_len: usize, id: u32, handle: *mut u64, handle_len: usize) -> u32;
+
+    pub fn chaldoref_moov_open(
+        moov: *const u8,
+        moov_len: usize,
+        length: u64,
+        id: u32,
+        handle: *mut u64,
+        handle_len: usize,
+    ) -> u32;
+
+    pub fn chaldoref_opened_sample(
+        lent: *const u8,
+        lent_len: usize,
+        handle: *const u64,
+        handle_len: usize,
+        n: u32,
+        places: *mut i64,
+        places_len: usize,
+    ) -> u32;
+
+    pub fn chaldoref_opened_sample_at(
+        lent: *const u8,
+        lent_len: usize,
+        handle: *const u64,
+        handle_len: usize,
+        t: u32,
+        places: *mut u64,
+        places_len: usize,
+    ) -> u32;
+
+    pub fn chaldoref_opened_media_time(
+        lent: *const u8,
+        lent_len: usize,
+        handle: *const u64,
+        handle_len: usize,
+        t: u32,
+        places: *mut u64,
+        places_len: usize,
+    ) -> u32;
 }

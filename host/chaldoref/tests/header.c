@@ -93,6 +93,29 @@ static void print_steps(const struct film *film, uint32_t n)
     print_step(3, sample);
 }
 
+/* By the handle, of the whole film and of its moov alone. */
+static void print_opened(const struct film *film, uint32_t n, uint32_t t)
+{
+    struct chaldoref_opened track;
+    struct chaldoref_moov_sample_info sample;
+    struct chaldoref_sample_at_info at;
+    struct chaldoref_media_time_info media;
+    size_t moov = (size_t)film->bytes[2] << 8 | film->bytes[3], lent[2] = {film->len, moov};
+    int i;
+    for (i = 0; i < 2; i++) {
+        uint32_t none = chaldoref_open_track(film->bytes, film->len, 7, &track);
+        uint32_t opened = i == 0 ? chaldoref_open_track(film->bytes, film->len, ONE, &track)
+                                 : chaldoref_moov_open_track(film->bytes, moov, film->len, ONE, &track);
+        uint32_t outside = chaldoref_track_sample(film->bytes, lent[i], &track, 5, &sample);
+        uint32_t answered = chaldoref_track_sample(film->bytes, lent[i], &track, n, &sample)
+            + chaldoref_track_sample_at(film->bytes, lent[i], &track, t, &at)
+            + chaldoref_track_media_time(film->bytes, lent[i], &track, t, &media);
+        printf("opened %" PRIu32 " %" PRIu32 " %" PRIu32 " %" PRIu32 ": at %" PRIu32 " %" PRIu32 ", media %d %" PRIu32 "\n",
+               none, opened, outside, answered, at.sample, at.entry, media.shown, media.time);
+        print_step(4, sample);
+    }
+}
+
 static void print_media_time(const struct film *film, uint32_t t)
 {
     uint64_t places[CHALDOREF_MEDIA_TIME_PLACES];
@@ -209,6 +232,7 @@ static void print_all(struct film *film)
     print_sample(film, 5);
     print_steps(film, 1);
     print_steps(film, 4);
+    print_opened(film, 4, 71);
     print_media_time(film, 0);
     print_media_time(film, 60);
     print_sample_at(film, 71);

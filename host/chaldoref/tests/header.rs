@@ -82,6 +82,14 @@ fn steps(movie: &Movie, n: u32) -> String {
     format!("start 15 0\n{}{}{}{}", all(1), step(0, Sample::default()), all(2), step(3, samples[0]))
 }
 
+/// By the handle, by both ways.
+fn opened(movie: &Movie, n: u32, t: u32) -> String {
+    let at = movie.sample_at(ONE, MediaTime(t)).unwrap();
+    let Shown::At(media) = movie.media_time(ONE, MovieTime(t)).unwrap() else { panic!("nothing is shown") };
+    let line = format!("opened 14 0 15 0: at {} {}, media 1 {media}\n", at.sample, at.entry);
+    (line + &step(4, movie.sample(ONE, n).unwrap())).repeat(2)
+}
+
 fn media_time(movie: &Movie, t: u32) -> String {
     match movie.media_time(ONE, MovieTime(t)).unwrap() {
         Shown::At(media) => format!("media time 1 {media}\n"),
@@ -121,7 +129,9 @@ fn records_and_peak(movie: &Movie) -> String {
 /// What the program has to print about the film.
 fn expected(film: &[u8]) -> String {
     let movie = Movie::open(film).unwrap();
-    let samples = [1, 4, 5].map(|n| sample(&movie, n)).concat() + &[1, 4].map(|n| steps(&movie, n)).concat();
+    let samples = [1, 4, 5].map(|n| sample(&movie, n)).concat()
+        + &[1, 4].map(|n| steps(&movie, n)).concat()
+        + &opened(&movie, 4, 71);
     let times = [0, 60].map(|t| media_time(&movie, t)).concat() + &[71, 72].map(|t| sample_at(&movie, t)).concat();
     let [stretch, slips] = stretch_and_slips(&movie);
     // A file and a slip of no bytes are refused as such; then come room, bytes and places that are too few.

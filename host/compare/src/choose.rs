@@ -146,6 +146,16 @@ pub fn peaks(film: &Result<Movie, u32>) -> Vec<Question> {
     questions
 }
 
+/// The questions that a track answers that is opened once: samples by their numbers and by their times, and movie times.
+pub fn lookups(random: &mut Random, track: &Track, movie_scale: u64) -> [Question; 3] {
+    let id = own_id(Some(track));
+    [
+        Question::Sample { id, n: sample_number(random, Some(track)) },
+        Question::SampleAt { id, t: media_time(random, Some(track)) },
+        Question::MediaTime { id, t: movie_time(random, Some(track), movie_scale) },
+    ]
+}
+
 /// One question of each kind but the reading of a slip, to a film as the reference reads it.
 pub fn questions(random: &mut Random, film: &Result<Movie, u32>) -> Vec<Question> {
     let scale = film.as_ref().map_or(1, |movie| movie.scale);

@@ -13,7 +13,6 @@ fn way_of(way: Way) -> usize {
     usize::from(way != Way::Whole)
 }
 
-#[derive(Default)]
 pub struct Counts {
     questions: [[u64; NUMBERS]; KINDS.len()],
     /// Films of each way by the number with which they are refused by default.
@@ -26,6 +25,19 @@ pub struct Counts {
     slips: [u64; 2],
     /// Malformed slips of the two kinds by what is at fault.
     faults: [[u64; FAULTS.len()]; 2],
+}
+
+impl Default for Counts {
+    fn default() -> Counts {
+        Counts {
+            questions: [[0; NUMBERS]; KINDS.len()],
+            films: [[0; NUMBERS]; WAYS.len()],
+            strict: [[0; NUMBERS]; WAYS.len()],
+            accepted: [0; KINDS.len()],
+            slips: [0; 2],
+            faults: [[0; FAULTS.len()]; 2],
+        }
+    }
 }
 
 /// Whether a file can be refused with that number by default; 0 is accepted.
@@ -45,13 +57,16 @@ fn can_meet(number: usize, kind: &str) -> bool {
     if ["step", "steps"].contains(&kind) {
         return [0, 16].contains(&number);
     }
+    if kind.starts_with("opened_") {
+        return [0, 15, 16].contains(&number);
+    }
     match number {
         0 | 16 => true,
         17 => reads,
         _ if reads => false,
         11 => kind == "write_slip",
         14 => !["track_list", "movie"].contains(&kind),
-        15 => !["track_list", "movie", "edits", "profile", "feature", "peak"].contains(&kind),
+        15 => !["track_list", "movie", "edits", "profile", "feature", "peak", "open"].contains(&kind),
         18 => ["feature", "peak"].contains(&kind),
         _ => true,
     }

@@ -14,6 +14,8 @@ pub struct Comparison {
     pub counts: Counts,
     /// Positions in the films before.
     pub kept: Vec<Kept>,
+    /// Handles of their tracks.
+    pub handles: Vec<Vec<u64>>,
 }
 
 /// What is asked about: a film or a slip as it is lent.
@@ -139,7 +141,7 @@ impl Comparison {
     }
 
     /// Puts so many rounds of every question about a film, and once the questions about the highest rates of each track; then its tracks are stepped
-    /// through.
+    /// through and opened.
     pub fn film(&mut self, random: &mut Random, bytes: &Bytes, way: Way, rounds: usize) -> Result<(), Box<Difference>> {
         let asked = Asked::of(bytes, way);
         let film = &asked.film;
@@ -156,6 +158,7 @@ impl Comparison {
             self.question(random, &asked, question)?;
         }
         self.steps(random, bytes.lent(), way, film)?;
+        self.opened(random, bytes.lent(), way, film)?;
         if !bytes.are_unchanged() {
             return Err(steps::difference(way, "stepping", "the film was written to"));
         }

@@ -114,3 +114,38 @@ pub fn steps(lent: &[u8], stepper: &mut Lent<u64>, room: &mut Lent<u64>, places:
         chaldoref_steps(lent.as_ptr(), lent.len(), stepper, stepper_len, room.cast(), room_len, places, places_len)
     }
 }
+
+/// A track, opened once.
+pub fn open(lent: &[u8], way: Way, id: u32, handle: &mut Lent<u64>) -> u32 {
+    let (f, len) = (lent.as_ptr(), lent.len());
+    let (handle, handle_len) = (handle.pointer(), handle.len());
+    // SAFETY: as for a whole file.
+    unsafe {
+        match way {
+            Way::Whole => chaldoref_open(f, len, id, handle, handle_len),
+            Way::Moov(length) => chaldoref_moov_open(f, len, length, id, handle, handle_len),
+        }
+    }
+}
+
+/// One of the three questions that a handle answers.
+pub fn ask_opened(lent: &[u8], question: Question, handle: &mut Lent<u64>, places: &mut Lent<u64>) -> u32 {
+    let (f, len) = (lent.as_ptr(), lent.len());
+    let (handle, handle_len) = (handle.pointer().cast_const(), handle.len());
+    let (places, places_len) = (places.pointer(), places.len());
+    // SAFETY: as for a whole file.
+    unsafe {
+        match question {
+            Question::Sample { n, .. } => {
+                chaldoref_opened_sample(f, len, handle, handle_len, n, places.cast(), places_len)
+            }
+            Question::SampleAt { t, .. } => {
+                chaldoref_opened_sample_at(f, len, handle, handle_len, t, places, places_len)
+            }
+            Question::MediaTime { t, .. } => {
+                chaldoref_opened_media_time(f, len, handle, handle_len, t, places, places_len)
+            }
+            _ => unreachable!("no question by a handle"),
+        }
+    }
+}

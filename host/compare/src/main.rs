@@ -10,6 +10,7 @@ mod films;
 mod lent;
 mod library;
 mod mapped;
+mod opened;
 mod options;
 mod question;
 mod run;

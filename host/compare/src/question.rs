@@ -48,8 +48,8 @@ const FUNCTIONS: [(&str, usize); 14] = [
     ("edits", 1),
 ];
 
-/// Every function of include/chaldoref.h but the step at top level: those of a whole file and of slips, then those of a moov alone, then the steps.
-pub const KINDS: [&str; 2 * FUNCTIONS.len() - 3 + 4] = [
+/// Every function of include/chaldoref.h but the step at top level: those of a whole file and of slips, then those of a moov alone, then the steps and those of a track that is opened once.
+pub const KINDS: [&str; 2 * FUNCTIONS.len() - 3 + 9] = [
     "track_list",
     "sample",
     "sample_bytes",
@@ -79,6 +79,11 @@ pub const KINDS: [&str; 2 * FUNCTIONS.len() - 3 + 4] = [
     "moov_step_start",
     "step",
     "steps",
+    "open",
+    "moov_open",
+    "opened_sample",
+    "opened_sample_at",
+    "opened_media_time",
 ];
 
 /// The place of a function among `KINDS`.
