@@ -189,7 +189,7 @@ uint32_t chaldoref_sample_bytes(
 
 /*
  * Stepping through a track, from any of its samples to the last one. The film is judged once, by
- * chaldoref_step_start; each step costs the same, wherever in the track it is:
+ * chaldoref_step_start; no step begins a table again:
  *
  *     uint64_t stepper[CHALDOREF_STEPPER_NUMBERS];
  *     int64_t places[CHALDOREF_STEP_PLACES];
@@ -204,15 +204,16 @@ uint32_t chaldoref_sample_bytes(
  * A position is CHALDOREF_STEPPER_NUMBERS numbers that the caller keeps, may copy and may step from
  * as often as wanted; what each of them is may change with the version. It holds no pointer: it
  * says where in the lent bytes the tables are. Step with the bytes that it was started with. With
- * other bytes, or from numbers of any kind, a step is safe and reads only what is lent; what it
- * answers then need not be a sample of the film, and after as many steps as the position has
- * samples left, or fewer, it answers that there is none.
+ * other bytes, or from numbers of any kind, a step is safe and reads only what is lent. What it
+ * answers then need not be a sample of the film, and its offset and size may lie outside of it:
+ * do not read there. After as many steps as the position has samples left, or fewer, it answers
+ * that there is none.
  */
 
 /*
  * The position before sample n of a track, numbered from 1. Refusals: the file's but 11; 14, 15, 16.
- * stepper: CHALDOREF_STEPPER_NUMBERS numbers: the position; zeros with a refusal; with 16, for
- *          fewer numbers, nothing is written.
+ * stepper: CHALDOREF_STEPPER_NUMBERS numbers: the position; zeros with a refusal. Where they are
+ *          fewer nothing is written, and the result is the refusal of the other numbers, or else 16.
  */
 uint32_t chaldoref_step_start(
     const uint8_t *file, size_t file_len,
@@ -234,10 +235,11 @@ uint32_t chaldoref_step(
 /*
  * The next samples, as many as the room takes. Refusal 16 only, as for chaldoref_step; a room may
  * have any length.
- * stepper: the position, which is moved past them.
+ * stepper: the position, which is moved past them, and is written also where no sample is put.
  * room: for each sample CHALDOREF_SAMPLE_NUMBERS numbers, its values in the order of
  *       chaldoref_sample; room_len / CHALDOREF_SAMPLE_NUMBERS samples are the most.
- * places: 1: the number of samples; fewer than the room takes only at the track's end.
+ * places: 1: the number of samples: as many as the room takes, or, from a position of the same
+ *         bytes, as the track has left. It is 0 too where the room takes none.
  */
 uint32_t chaldoref_steps(
     const uint8_t *lent, size_t lent_len,
@@ -823,7 +825,7 @@ static inline int chaldoref_stepper_next(
 
 /*
  * The next samples, as many as the room of room_len numbers takes: how many they are, 0 past the
- * last one. Sample i of them is chaldoref_moov_sample_of(room + CHALDOREF_SAMPLE_NUMBERS * i).
+ * last one and where the room is too short for one. Sample i of them is chaldoref_moov_sample_of(room + CHALDOREF_SAMPLE_NUMBERS * i).
  */
 static inline size_t chaldoref_stepper_fill(
     const uint8_t *lent, size_t lent_len, struct chaldoref_stepper *stepper, int64_t *room, size_t room_len)
