@@ -1,6 +1,6 @@
 -- The promises of stepping for a caller in another language, from what the code has of the position, the steps and the places.
 -- Assumes nothing.
-use Prim.Native.Nat.{ℕ, _*_, _≤_, _<_}
+use Prim.Native.Nat.{ℕ, _≤_, _<_}
 use mathlib.Core.Path.{_≡_, refl, sym, ap, _∙_}
 use mathlib.Core.List.{List, [], _∷_, _++_}
 use mathlib.Core.Logic.{_⊎_, ⊎-elim}
@@ -14,13 +14,13 @@ use Rattle.structure.specs.Rows.{orElse}
 use Rattle.movie.specs.Rooms.{noRoom, filledRoom, roomAfter}
 use Rattle.questions.specs.Samples.{sampleValues}
 use Rattle.questions.specs.declared.samples.Sample.{Sample}
-use Rattle.stepping.specs.Stepping.{startNumber, Starts, stepNumbers, Steps, Chain}
+use Rattle.stepping.specs.Stepping.{startNumber, Starts, stepNumbers, Steps}
 use Rattle.stepping.specs.declared.Stepper.{Stepper}
 use Rattle.stepping.specs.declared.Start.{Start}
 use Rattle.stepping.specs.declared.Start.the-variants.{At, Refused}
 use Rattle.stepping.specs.declared.Step.{Step}
 use Rattle.stepping.specs.declared.Step.the-variants.{Next, Done}
-use Rattle.steps_into.specs.Into.{flatSamples, StepsInto}
+use Rattle.steps_into.specs.Into.{StepsInto}
 use Rattle.steps_into.specs.declared.Reached.{Reached}
 use Rattle.hand.specs.Places.{Hands}
 use Rattle.position_numbers.specs.Position.{stepperNumbers, stepperIn, HandsPosition}
@@ -113,14 +113,10 @@ unfolding stepperNumbers filledRoom
 filled-steps s stepper room places r p y after room′ placed d g j k f h = record {
   short = λ o. absurd (⊎-elim (λ l. omega arith) (λ l. omega arith) o);
   filled = λ _ _. record {
-    samples = g .samples;
-    position = y .position;
-    chain = rw d at (g .chain);
-    within = g .within;
-    ends = g .ends;
+    reached = y;
+    steps = rw d at g;
     result = handed-none (stepperNumbers (y .position)) stepper r after (h .handed) j;
-    values = g .filled;
-    count = f ∙ ap (λ (v : ℕ). set places 0 v) (g .count) ∙ sets-eq (length (g .samples) ∷ []) places 0 k;
+    count = f ∙ sets-eq (y .count ∷ []) places 0 k;
     numbers = handed-all (stepperNumbers (y .position)) stepper r after (h .handed) j;
     again = h .again j;
   };

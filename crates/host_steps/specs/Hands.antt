@@ -1,6 +1,6 @@
 -- What stepping hands to a caller in another language. Document 02: "a stepper that holds its position in each table by value and hands back the
 -- next sample with the new position": the position is 29 numbers in lent places.
-use Prim.Native.Nat.{ℕ, suc, _*_, _≤_, _<_}
+use Prim.Native.Nat.{ℕ, _≤_, _<_}
 use mathlib.Core.Path.{_≡_}
 use mathlib.Core.List.{List, [], _∷_}
 use mathlib.Core.Logic.{_⊎_}
@@ -9,13 +9,14 @@ use lib.IntN.{ℤ}
 use Rattle.structure.specs.declared.source.Source.{Source}
 use Rattle.movie.specs.Rooms.{filledRoom}
 use Rattle.questions.specs.declared.samples.Sample.{Sample}
-use Rattle.stepping.specs.Stepping.{startNumber, Starts, stepNumbers, Steps, Chain}
+use Rattle.stepping.specs.Stepping.{startNumber, Starts, stepNumbers, Steps}
 use Rattle.stepping.specs.declared.Stepper.{Stepper}
 use Rattle.stepping.specs.declared.Start.{Start}
 use Rattle.stepping.specs.declared.Start.the-variants.{At, Refused}
 use Rattle.stepping.specs.declared.Step.{Step}
 use Rattle.stepping.specs.declared.Step.the-variants.{Next, Done}
-use Rattle.steps_into.specs.Into.{flatSamples}
+use Rattle.steps_into.specs.Into.{StepsInto}
+use Rattle.steps_into.specs.declared.Reached.{Reached}
 use Rattle.hand.specs.Places.{Hands}
 use Rattle.position_numbers.specs.Position.{stepperNumbers, stepperIn}
 
@@ -57,18 +58,14 @@ pub record HandsStep (s stepper : List ℕ) (places : List ℤ) (r : ℕ) (stepp
 
 -- ---- the next samples
 
--- steps one after the other from the position in the places: as many as the room holds; or fewer, and the next one is done
+-- the samples of steps one after the other from the position in the places, in the room: how many, and the position past them
 pub record Filled (s stepper : List ℕ) (room : List ℤ) (places : List ℕ) (r : ℕ) (stepper′ : List ℕ) (room′ : List ℤ) (places′ : List ℕ) : Type 0 where
-  pub samples : List Sample
-  pub position : Stepper
-  pub chain : Chain s (stepperIn stepper) samples position
-  pub within : 8 * length samples ≤ length room
-  pub ends : (length room < 8 * suc (length samples)) ⊎ Steps s position Done
+  pub reached : Reached
+  pub steps : StepsInto s (stepperIn stepper) room reached room′
   pub result : r ≡ 0
-  pub values : room′ ≡ filledRoom (flatSamples samples) room
-  pub count : places′ ≡ filledRoom (length samples ∷ []) places
-  pub numbers : stepper′ ≡ filledRoom (stepperNumbers position) stepper
-  pub again : stepperIn stepper′ ≡ position
+  pub count : places′ ≡ filledRoom (reached .count ∷ []) places
+  pub numbers : stepper′ ≡ filledRoom (stepperNumbers (reached .position)) stepper
+  pub again : stepperIn stepper′ ≡ reached .position
 
 -- the promise of `hand_sample_steps`
 pub record HandsSteps (s stepper : List ℕ) (room : List ℤ) (places : List ℕ) (r : ℕ) (stepper′ : List ℕ) (room′ : List ℤ) (places′ : List ℕ) : Type 0 where

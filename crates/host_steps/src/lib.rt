@@ -44,7 +44,7 @@ pub fn hand_sample_step(lent: &[u8], stepper: &mut [u64], places: &mut [i64]) ->
     }
 }
 
-// The next samples in the room, eight values each, as many as it holds or as are left; in one place how many, and the position past them.
+// The next samples in the room, eight values each, as `steps_into` has them; in one place how many, and the position past them.
 pub fn hand_sample_steps(
     lent: &[u8],
     stepper: &mut [u64],

@@ -83,9 +83,8 @@ module _ (s : List ℕ) (w : Source) (id : ℕ) where
   steps-from : (k : ℕ) (p : Stepper) → Stands s w id k p → StepsThrough s w id (suc k) p
   steps-from k p a =
       let z : suc k - 1 ≡ k = omega arith in
-      let y : suc (samplesOf (trackAsked s id)) - suc k ≡ samplesOf (trackAsked s id) - k = omega arith in
       record {
-        to-end = λ f g. rw y (ends f g (samplesOf (trackAsked s id) - k) k p a (omega (arith, a .upto)));
+        to-end = λ f g. ends f g (suc (samplesOf (trackAsked s id)) - suc k) k p a (omega (arith, a .upto));
         answers = λ xs q c. walks k p xs q a c .0;
         stands = λ xs q c. rw z (walks k p xs q a c .1);
         done = λ xs q c e r g. let d : k + length xs ≡ samplesOf (trackAsked s id) = omega (arith, e) in g .done w id (rw d at (walks k p xs q a c .1));

@@ -41,7 +41,8 @@ pub struct Reached {
     pub position: Stepper,
 }
 
-// Puts the next samples into the first places of the room: as many as it holds, or as are left.
+// Puts the next samples into the first places of the room: as many as it holds, or fewer where a step is done. Of a position of its own film those
+// are all that are left.
 pub fn steps_into(lent: &[u8], from: Stepper, room: &mut [i64]) -> Reached
     ensures { λ r. ⌜ StepsInto (now (lent .entry)) from (now (room .entry)) r (now (room .exit)) ⌝ }
 {
