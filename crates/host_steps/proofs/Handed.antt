@@ -1,13 +1,13 @@
 -- The promises of stepping for a caller in another language, from what the code has of the position, the steps and the places.
 -- Assumes nothing.
-use Prim.Native.Nat.{ℕ, _≤_, _<_}
+use Prim.Native.Nat.{ℕ, suc, _*_, _≤_, _<_}
 use mathlib.Core.Path.{_≡_, refl, sym, ap, _∙_}
 use mathlib.Core.List.{List, [], _∷_, _++_}
 use mathlib.Core.Logic.{_⊎_, ⊎-elim}
 use native.Mathlib.Omega.{arith}
 use borrow.Author.Tests.{le-ltb}
-use lib.ListN.{length, drop, set, replicate}
-use lib.Seq.{sets, sets-eq}
+use lib.ListN.{length, getD, drop, set, replicate}
+use lib.Seq.{sets-eq}
 use lib.IntN.{ℤ, pos}
 use Rattle.structure.specs.declared.source.Source.{Source}
 use Rattle.structure.specs.Rows.{orElse}
@@ -69,16 +69,16 @@ module _ (s stepper : List ℕ) (places : List ℤ) (r : ℕ) (p : Stepper) (y :
   enough : {A : Type 0} → (length stepper < 29) ⊎ (length places < 9) → A
   enough h = absurd (⊎-elim (λ l. omega arith) (λ l. omega arith) h)
 
-  pub step-next : (x : Sample) (q : Stepper) (placed : List ℤ) (after : List ℕ) → y ≡ Next x q → placed ≡ sets (set places 0 (pos 1)) 1 (sampleValues x)
+  pub step-next : (x : Sample) (q : Stepper) (o : ℕ) (values placed : List ℤ) (after : List ℕ) → y ≡ Next x q → Hands 0 values places o placed → values ≡ pos 1 ∷ sampleValues x
       → HandsPosition q stepper r after → HandsStep s stepper places r after placed
-  unfolding stepNumbers stepperAfter stepperNumbers filledRoom
-  step-next x q placed after e f h = record {
+  unfolding stepNumbers stepperAfter stepperNumbers
+  step-next x q o values placed after e i f h = record {
     short = enough;
     stepped = λ _ _. record {
       step = Next x q;
       steps = rw (e, d) at g;
       result = handed-none (stepperNumbers q) stepper r after (h .handed) j;
-      numbers = f ∙ sets-eq (pos 1 ∷ sampleValues x) places 0 k;
+      numbers = handed-all (pos 1 ∷ sampleValues x) places o placed (rw f at i) k;
       position = handed-all (stepperNumbers q) stepper r after (h .handed) j;
       again = λ z v c. let o : q ≡ v = cc in h .again j ∙ o;
     };
@@ -97,6 +97,41 @@ module _ (s stepper : List ℕ) (places : List ℤ) (r : ℕ) (p : Stepper) (y :
       again = λ z v c. let o : _≡_ {A = ℕ} 0 1 = cc in absurd (omega arith);
     };
   }
+
+-- ---- one step, in room for one sample
+
+module _ (s : List ℕ) (p q : Stepper) where
+  none-left : (xs : List Sample) → Chain s p xs q → length xs ≡ 0 → (8 < 8 * suc (length xs)) ⊎ Steps s q Done → Steps s p Done
+  none-left [] c e h = ⊎-elim (λ l. absurd (omega arith)) (λ g. rw c g) h
+  none-left (x ∷ xs) c e h = absurd (omega arith)
+
+  -- the sample, and its values alone
+  pub record One (values : List ℤ) : Type 0 where
+    pub sample : Sample
+    pub steps : Steps s p (Next sample q)
+    pub same : values ≡ sampleValues sample
+
+  one : (xs : List Sample) → Chain s p xs q → (length xs ≡ 0 → ⊥) → 8 * length xs ≤ 8 → One (flatSamples xs)
+  one [] c n h = absurd (n refl)
+  one (x ∷ []) c n h = record { sample = x; steps = rw (c .2) at (c .1); same = refl }
+  one (x ∷ y ∷ zs) c n h = absurd (omega arith)
+
+module _ (s : List ℕ) (p : Stepper) (y : Reached) (room : List ℤ) (g : StepsInto s p (replicate 8 (pos 0)) y room) where
+  pub no-step : y .count ≡ 0 → Steps s p Done
+  no-step e = none-left s p (y .position) (g .samples) (g .chain) (sym (g .count) ∙ e) (g .ends)
+
+  pub one-step : (y .count ≡ 0 → ⊥) → One s p (y .position) room
+  unfolding filledRoom
+  one-step n =
+      let o = one s p (y .position) (g .samples) (g .chain) (λ e. n (g .count ∙ e)) (g .within) in
+      record { sample = o .sample; steps = o .steps; same = g .filled ∙ ap (λ (l : List ℤ). l ++ drop (length l) (replicate 8 (pos 0))) (o .same) }
+
+-- the sample's numbers, copied out of that room
+pub copied : (l : List ℤ) (x : Sample) → l ≡ sampleValues x → (a b c d e f g h : ℤ)
+    → a ≡ getD l 0 (pos 0) → b ≡ getD l 1 (pos 0) → c ≡ getD l 2 (pos 0) → d ≡ getD l 3 (pos 0)
+    → e ≡ getD l 4 (pos 0) → f ≡ getD l 5 (pos 0) → g ≡ getD l 6 (pos 0) → h ≡ getD l 7 (pos 0)
+    → pos 1 ∷ a ∷ b ∷ c ∷ d ∷ e ∷ f ∷ g ∷ h ∷ [] ≡ pos 1 ∷ sampleValues x
+copied l x s a b c d e f g h ea eb ec ed ee ef eg eh = rw (ea, eb, ec, ed, ee, ef, eg, eh, s)
 
 -- ---- the next samples
 

@@ -5,10 +5,8 @@ use position_numbers::NUMBERS;
 use position_numbers::hand_position;
 use position_numbers::position_in;
 use stepping::Start;
-use stepping::Step;
 use stepping::Stepper;
 use steps_into::SAMPLE;
-use steps_into::put_sample;
 use steps_into::steps_into;
 use structure::source::Source;
 ghost use Rattle.host_steps.specs.Hands.{HandsStart, HandsStep, HandsSteps};
@@ -33,15 +31,20 @@ pub fn hand_sample_step(lent: &[u8], stepper: &mut [u64], places: &mut [i64]) ->
     if places.len() <= SAMPLE {
         return 16;
     }
-    let p = position_in(&stepper[..]);
-    match p.step(lent) {
-        Step::Next(x, q) => {
-            places[0] = 1;
-            put_sample(x, places, 1);
-            hand_position(q, stepper)
-        }
-        Step::Done => hand_signed(0, &[0i64; 9], places),
+    let from = position_in(&stepper[..]);
+    let mut v = [0i64; 8];
+    let reached = steps_into(lent, from, &mut v);
+    let n = reached.count;
+    if n == 0 {
+        return hand_signed(0, &[0i64; 9], places);
     }
+    hand_signed(
+        0,
+        &[1, v[0], v[1], v[2], v[3], v[4], v[5], v[6], v[7]],
+        places,
+    );
+    let next = reached.position;
+    hand_position(next, stepper)
 }
 
 // The next samples in the room, eight values each, as `steps_into` has them; in one place how many, and the position past them.

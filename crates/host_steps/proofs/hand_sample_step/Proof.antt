@@ -1,12 +1,13 @@
--- `host_steps::hand_sample_step` meets its contract: too few numbers or places, or case by case of the step.
+-- `host_steps::hand_sample_step` meets its contract: too few numbers or places, or the one sample put in room for it, or none.
 -- Assumes nothing.
 use borrow.Author.Needs.{needs}
+use mathlib.Core.Path.{refl}
 use mathlib.Core.Logic.{inl, inr}
 use native.Mathlib.Omega.{arith}
-use lib.ListN.{length, length-set}
-use lib.Seq.{length-sets}
-use mathlib.Core.Path.{ap, _∙_}
-use Rattle.host_steps.proofs.Handed.{short-step, step-next, step-done}
+use mir.Syntax.{w64}
+use mir.ValLaws.{toZ-ofZ}
+use Rattle.stepping.specs.declared.Step.the-variants.{Done}
+use Rattle.host_steps.proofs.Handed.{short-step, step-next, step-done, no-step, one-step, copied}
 use Rattle.host_steps.proofs.hand_sample_step.Statement.{statement}
 use Rattle.host_steps.proofs.hand_sample_step.Tie as tie
 
@@ -19,26 +20,11 @@ returns-2 c = short-step _ _ _ (inr (omega (arith, c .if2 .taken)))
 position-in-requires : tie.Need-position-in-requires
 position-in-requires c κs = search needs
 
-step-requires : tie.Need-step-requires
-step-requires c κs = search needs
+slice-aggregate-steps-into : tie.Need-slice-aggregate-steps-into
+slice-aggregate-steps-into c = search needs
 
-enum-known-x : tie.Need-enum-known-x
-enum-known-x c = search needs
-
-slice-set-of-places : tie.Need-slice-set-of-places
-slice-set-of-places c = search needs
-
-put-sample-requires : tie.Need-put-sample-requires
-put-sample-requires c κs =
-    let x = c .before .before in
-    let low = x .before .before .step .ensures .elsewhere .low _ _ (x .x .given .1) in
-    (low .0, low .1, low .2, simp length-set (omega (arith, x .before .before .before .before .before .if2 .left)))
-
-hand-position-requires : tie.Need-hand-position-requires
-hand-position-requires c κs = search needs
-
-enum-told : tie.Need-enum-told
-enum-told c = search needs
+steps-into-requires : tie.Need-steps-into-requires
+steps-into-requires c κs = search needs
 
 slice-aggregate-hand-signed : tie.Need-slice-aggregate-hand-signed
 slice-aggregate-hand-signed c = search needs
@@ -50,13 +36,46 @@ same-length : tie.Need-same-length
 same-length c = search needs
 
 same-length-2 : tie.Need-same-length-2
-same-length-2 c = ap length (c .before .before .before .before .before .put-sample .ensures) ∙ simp (length-sets, length-set)
+same-length-2 c = search needs
 
 returns-3 : tie.Need-returns-3
 returns-3 c =
-    let x = c .before .before .before .before .before .before .before .before in
-    step-next _ _ _ _ _ _ (x .before .before .before .position-in .ensures) (x .before .before .step .ensures) (x .before .before .before .before .before .before .if1 .left) (omega (arith, x .before .before .before .before .before .if2 .left)) _ _ _ _ (x .x .given .1)
-    (c .before .before .before .before .before .put-sample .ensures) (c .before .before .hand-position .ensures)
+    let i = c .before .before .before .before .before .before in
+    step-done _ _ _ _ _ Done (c .before .before .before .before .before .before .before .before .position-in .ensures) (no-step _ _ _ _ (i .steps-into .ensures) (c .before .before .before .before .if3 .taken)) (c .before .before .before .before .before .before .before .before .before .before .before .if1 .left) (omega (arith, c .before .before .before .before .before .before .before .before .before .before .if2 .left)) _ refl
+    (c .before .hand-signed .ensures)
+
+array-copy-out-t24 : tie.Need-array-copy-out-t24
+array-copy-out-t24 c = search needs
+
+array-copy-out-t27 : tie.Need-array-copy-out-t27
+array-copy-out-t27 c = search needs
+
+array-copy-out-t30 : tie.Need-array-copy-out-t30
+array-copy-out-t30 c = search needs
+
+array-copy-out-t33 : tie.Need-array-copy-out-t33
+array-copy-out-t33 c = search needs
+
+array-copy-out-t36 : tie.Need-array-copy-out-t36
+array-copy-out-t36 c = search needs
+
+array-copy-out-t39 : tie.Need-array-copy-out-t39
+array-copy-out-t39 c = search needs
+
+array-copy-out-t42 : tie.Need-array-copy-out-t42
+array-copy-out-t42 c = search needs
+
+array-copy-out-t45 : tie.Need-array-copy-out-t45
+array-copy-out-t45 c = search needs
+
+slice-aggregate-hand-signed-2 : tie.Need-slice-aggregate-hand-signed-2
+slice-aggregate-hand-signed-2 c = search needs
+
+hand-signed-requires-2 : tie.Need-hand-signed-requires-2
+hand-signed-requires-2 c κs = search needs
+
+hand-position-requires : tie.Need-hand-position-requires
+hand-position-requires c κs = search needs
 
 same-length-3 : tie.Need-same-length-3
 same-length-3 c = search needs
@@ -66,9 +85,19 @@ same-length-4 c = search needs
 
 returns-4 : tie.Need-returns-4
 returns-4 c =
-    let d = c .before .before .before .before in
-    step-done _ _ _ _ _ _ (d .before .before .before .position-in .ensures) (d .before .before .step .ensures) (d .before .before .before .before .before .before .if1 .left) (omega (arith, d .before .before .before .before .before .if2 .left)) _ (d .enum-told .given .1)
-    (c .before .hand-signed .ensures)
+    let h = c .before .before .before .before .before .before .hand-signed2 .ensures in
+    let o = one-step _ _ _ _ (c .before .before .before .before .before .before .before .before .before .before .before .before .before .before .before .before .before .before .before .steps-into .ensures) (c .before .before .before .before .before .before .before .before .before .before .before .before .before .before .before .before .before .if3 .left) in
+    step-next _ _ _ _ _ _ (c .before .before .before .before .before .before .before .before .before .before .before .before .before .before .before .before .before .before .before .before .before .position-in .ensures) (o .steps) (c .before .before .before .before .before .before .before .before .before .before .before .before .before .before .before .before .before .before .before .before .before .before .before .before .if1 .left) (omega (arith, c .before .before .before .before .before .before .before .before .before .before .before .before .before .before .before .before .before .before .before .before .before .before .before .if2 .left)) _ _ _ _ _ _ refl h
+    (copied _ (o .sample) (o .same) _ _ _ _ _ _ _ _
+    (toZ-ofZ w64 _ (record { sfits = c .before .before .before .before .before .before .before .before .before .before .before .before .before .before .before .before .t24 .given }))
+    (toZ-ofZ w64 _ (record { sfits = c .before .before .before .before .before .before .before .before .before .before .before .before .before .before .before .t27 .given }))
+    (toZ-ofZ w64 _ (record { sfits = c .before .before .before .before .before .before .before .before .before .before .before .before .before .before .t30 .given }))
+    (toZ-ofZ w64 _ (record { sfits = c .before .before .before .before .before .before .before .before .before .before .before .before .before .t33 .given }))
+    (toZ-ofZ w64 _ (record { sfits = c .before .before .before .before .before .before .before .before .before .before .before .before .t36 .given }))
+    (toZ-ofZ w64 _ (record { sfits = c .before .before .before .before .before .before .before .before .before .before .before .t39 .given }))
+    (toZ-ofZ w64 _ (record { sfits = c .before .before .before .before .before .before .before .before .before .before .t42 .given }))
+    (toZ-ofZ w64 _ (record { sfits = c .before .before .before .before .before .before .before .before .before .t45 .given })))
+    (c .before .before .hand-position .ensures)
 
 pub hand-sample-step-spec : {M : Type 1} → statement M
 hand-sample-step-spec =
@@ -77,17 +106,24 @@ hand-sample-step-spec =
     returns
     returns-2
     position-in-requires
-    step-requires
-    enum-known-x
-    slice-set-of-places
-    put-sample-requires
-    hand-position-requires
-    enum-told
+    slice-aggregate-steps-into
+    steps-into-requires
     slice-aggregate-hand-signed
     hand-signed-requires
     same-length
     same-length-2
     returns-3
+    array-copy-out-t24
+    array-copy-out-t27
+    array-copy-out-t30
+    array-copy-out-t33
+    array-copy-out-t36
+    array-copy-out-t39
+    array-copy-out-t42
+    array-copy-out-t45
+    slice-aggregate-hand-signed-2
+    hand-signed-requires-2
+    hand-position-requires
     same-length-3
     same-length-4
     returns-4)
