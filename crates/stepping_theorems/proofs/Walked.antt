@@ -16,7 +16,7 @@ use Rattle.questions.specs.Samples.{sampleOf, sampleRefusal, sampleAnswer}
 use Rattle.questions.specs.declared.samples.Sample.{Sample}
 use Rattle.questions.specs.declared.samples.SampleAnswer.{SampleAnswer}
 use Rattle.questions.specs.declared.samples.SampleAnswer.the-variants.{Found}
-use Rattle.stepping.specs.Stepping.{Stands, Starts, Steps, Onward, Chain}
+use Rattle.stepping.specs.Stepping.{Stands, Starts, Forward, Steps, Onward, Chain}
 use Rattle.stepping.specs.declared.Stepper.{Stepper}
 use Rattle.stepping.specs.declared.Start.{Start}
 use Rattle.stepping.specs.declared.Start.the-variants.{At}
@@ -114,9 +114,23 @@ module _ (s : List ℕ) where
       let f = goes (c .0) xs q (c .2) in
       (omega arith, f .1 ∙ c .1 .elsewhere .same x (c .0) refl, omega arith)
 
+  forwards : (p : Stepper) (xs : List Sample) (q : Stepper) → Chain s p xs q → Forward (p .moving) (q .moving)
+  forwards p [] q c = rw c (record { stts = omega arith; ctts = omega arith; stsc = omega arith; offsets = omega arith; stss = omega arith })
+  forwards p (x ∷ xs) q c =
+      let a = c .1 .elsewhere .forward x (c .0) refl in
+      let b = forwards (c .0) xs q (c .2) in
+      record {
+        stts = omega (arith, a .stts, b .stts);
+        ctts = omega (arith, a .ctts, b .ctts);
+        stsc = omega (arith, a .stsc, b .stsc);
+        offsets = omega (arith, a .offsets, b .offsets);
+        stss = omega (arith, a .stss, b .stss);
+      }
+
   pub steps-anywhere : (p : Stepper) → StepsAnywhere s p
   steps-anywhere p = record {
     moves = λ xs q c. goes p xs q c .0;
     tables = λ xs q c. goes p xs q c .1;
+    forward = forwards p;
     ends = λ xs q c. goes p xs q c .2;
   }

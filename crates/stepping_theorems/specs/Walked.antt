@@ -11,7 +11,7 @@ use Rattle.questions.specs.Samples.{sampleAnswer}
 use Rattle.questions.specs.declared.samples.Sample.{Sample}
 use Rattle.questions.specs.declared.samples.SampleAnswer.{SampleAnswer}
 use Rattle.questions.specs.declared.samples.SampleAnswer.the-variants.{Found}
-use Rattle.stepping.specs.Stepping.{Stands, Starts, Steps, Chain}
+use Rattle.stepping.specs.Stepping.{Stands, Starts, Forward, Steps, Chain}
 use Rattle.stepping.specs.declared.Stepper.{Stepper}
 use Rattle.stepping.specs.declared.Start.{Start}
 use Rattle.stepping.specs.declared.Start.the-variants.{At}
@@ -57,5 +57,7 @@ pub record StepsAnywhere (s : List ℕ) (p : Stepper) : Type 0 where
   -- each step moves the position on by one sample, in the same tables
   pub moves : (xs : List Sample) (q : Stepper) → Chain s p xs q → q .moving .index ≡ p .moving .index + length xs
   pub tables : (xs : List Sample) (q : Stepper) → Chain s p xs q → q .tables ≡ p .tables
+  -- none of its places goes back
+  pub forward : (xs : List Sample) (q : Stepper) → Chain s p xs q → Forward (p .moving) (q .moving)
   -- so the steps end
   pub ends : (xs : List Sample) (q : Stepper) → Chain s p xs q → length xs ≤ p .samples - p .moving .index
