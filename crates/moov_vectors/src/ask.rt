@@ -59,29 +59,37 @@ pub fn profile(moov: &[u8], length: u64, id: u32) {
     show::text(b"\n");
 }
 
-// A stretch, with room for three pairs of 64 bits.
-pub fn stretch(moov: &[u8], length: u64, id: u32, a: u32, b: u32) {
+fn stretch_in(moov: &[u8], length: u64, id: u32, a: u32, b: u32, room: &mut [u64]) {
     let mut places = [PLACE; 2];
-    let mut room = [PLACE; 6];
-    let r = hand_wide_stretch(
-        moov,
-        Source::of_moov(length),
-        id,
-        a,
-        b,
-        &mut room,
-        &mut places,
-    );
+    let r = hand_wide_stretch(moov, Source::of_moov(length), id, a, b, room, &mut places);
     show::between(b"  stretch", id, a, b, r);
     show::numbers(&places);
-    show::numbers(&room);
+    show::numbers(room);
     show::text(b"\n");
 }
 
-// A slip, with room for 40 bytes.
+// A stretch, with room for eight pairs of 64 bits.
+pub fn stretch(moov: &[u8], length: u64, id: u32, a: u32, b: u32) {
+    let mut room = [PLACE; 16];
+    stretch_in(moov, length, id, a, b, &mut room);
+}
+
+// W's whole stretch with just the room for its two pairs, and for seven, and with one place less than each.
+pub fn rooms(moov: &[u8], length: u64, id: u32) {
+    let mut two = [PLACE; 4];
+    stretch_in(moov, length, id, 0, 120, &mut two);
+    let mut below_two = [PLACE; 3];
+    stretch_in(moov, length, id, 0, 120, &mut below_two);
+    let mut seven = [PLACE; 14];
+    stretch_in(moov, length, id, 0, 120, &mut seven);
+    let mut below_seven = [PLACE; 13];
+    stretch_in(moov, length, id, 0, 120, &mut below_seven);
+}
+
+// A slip, with room for 64 bytes.
 pub fn slip(moov: &[u8], length: u64, id: u32, a: u32, b: u32) {
     let mut places = [PLACE; 1];
-    let mut room = [0xEEu8; 40];
+    let mut room = [0xEEu8; 64];
     let r = hand_written_slip(
         moov,
         Source::of_moov(length),

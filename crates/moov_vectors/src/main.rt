@@ -44,6 +44,7 @@ fn stretches(moov: &[u8], length: u64, id: u32) {
     between(moov, length, id, 24, 73);
     between(moov, length, id, 0, 120);
     between(moov, length, id, 24, 24);
+    ask::rooms(moov, length, id);
 }
 
 fn features(moov: &[u8], length: u64, id: u32) {
@@ -70,14 +71,17 @@ fn each(moov: &[u8], length: u64, id: u32) {
     ask::profile(moov, length, id);
 }
 
-// Every question of the tracks that a list has; its places after the last track were left.
-fn tracks(moov: &[u8], length: u64, list: &[u32]) {
+// Every question of the first tracks of a list, as many as are counted.
+fn tracks(moov: &[u8], length: u64, list: &[u32], count: u64) {
     let mut t = list;
+    let mut left = count;
     while LINE <= t.len() {
-        if t[0] != ask::GUARD {
-            track(moov, length, t[0]);
+        if left == 0 {
+            return;
         }
+        track(moov, length, t[0]);
         t = &t[LINE..];
+        left -= 1;
     }
 }
 
@@ -90,7 +94,7 @@ fn film(moov: &[u8], length: u64) {
     show::numbers(&places);
     show::words(&room);
     show::text(b"\n");
-    tracks(moov, length, &room);
+    tracks(moov, length, &room, places[0]);
     each(moov, length, 0);
     each(moov, length, 1);
     each(moov, length, STRANGER);

@@ -3,10 +3,14 @@ pub fn text(s: &[u8]) {
     io::write_all(libc::STDOUT_FILENO, s);
 }
 
+fn number(n: u64) {
+    io::print_decimal(libc::STDOUT_FILENO, n);
+}
+
 // A blank, and a number after it.
 pub fn next(n: u64) {
     text(b" ");
-    io::print_decimal(libc::STDOUT_FILENO, n);
+    number(n);
 }
 
 // The question, the track asked, and the result: 0 or the refusal.
@@ -25,13 +29,14 @@ pub fn between(words: &[u8], id: u32, a: u32, b: u32, result: u32) {
     asked(b"", a, b, result);
 }
 
-// Of what is below 0 only that it is.
+// What is below 0 is counted from -1 on, so that the least number has its place too.
 fn signed(n: i64) {
     if n >= 0 {
         next(n as u64);
-    } else {
-        text(b" negative");
+        return;
     }
+    text(b" -");
+    number((-1 - n) as u64 + 1);
 }
 
 pub fn signed_numbers(s: &[i64]) {

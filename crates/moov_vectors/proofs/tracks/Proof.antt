@@ -6,16 +6,16 @@ use Rattle.moov_vectors.proofs.tracks.Statement.{statement}
 use Rattle.moov_vectors.proofs.tracks.Tie as tie
 
 abbrev Inv-loop : tie.InvT-loop
-Inv-loop moov file list t₀ t = Unit {0}
+Inv-loop moov file list count t₀ left₀ t left = Unit {0}
 
 abbrev μ-loop : tie.MeasureT-loop
-μ-loop moov file list t₀ t = length t
+μ-loop moov file list count t₀ left₀ t left = length t
 
 loop-holds : tie.Need-loop-holds Inv-loop μ-loop
 loop-holds c = search needs
 
-shared-slice-read-if1 : tie.Need-shared-slice-read-if1 Inv-loop μ-loop
-shared-slice-read-if1 c = search needs
+returns : tie.Need-returns Inv-loop μ-loop
+returns c = search needs
 
 shared-slice-read-track : tie.Need-shared-slice-read-track Inv-loop μ-loop
 shared-slice-read-track c = search needs
@@ -32,14 +32,17 @@ part-t-start c = search needs
 part-t-end : tie.Need-part-t-end Inv-loop μ-loop
 part-t-end c = search needs
 
+sub-left : tie.Need-sub-left Inv-loop μ-loop
+sub-left c = search needs
+
 loop-less : tie.Need-loop-less Inv-loop μ-loop
 loop-less c = search needs
 
 loop-again : tie.Need-loop-again Inv-loop μ-loop
 loop-again c = search needs
 
-returns : tie.Need-returns Inv-loop μ-loop
-returns c = search needs
+returns-2 : tie.Need-returns-2 Inv-loop μ-loop
+returns-2 c = search needs
 
 pub tracks-spec : {M : Type 1} → statement M
 tracks-spec =
@@ -48,12 +51,13 @@ tracks-spec =
     Inv-loop
     μ-loop
     loop-holds
-    shared-slice-read-if1
+    returns
     shared-slice-read-track
     track-requires
     sub-t
     part-t-start
     part-t-end
+    sub-left
     loop-less
     loop-again
-    returns)
+    returns-2)

@@ -16,8 +16,7 @@ fn numbers<N: ToString>(places: &[N]) -> String {
 
 fn sample_line(film: &Moov, id: u32, n: u32) -> String {
     let (result, s) = sample(film, id, n);
-    let composition = if s.composition_time < 0 { "negative".to_string() } else { s.composition_time.to_string() };
-    let times = format!("{} {} {composition} {}", s.decode_time, s.duration, u32::from(s.is_sync));
+    let times = format!("{} {} {} {}", s.decode_time, s.duration, s.composition_time, u32::from(s.is_sync));
     format!("  sample {id} {n}: {result} {times} {} {} {} {}\n", s.description_id, s.chunk, s.offset, s.size)
 }
 
@@ -47,14 +46,14 @@ fn profile_line(film: &Moov, id: u32) -> String {
     format!("  profile {id} 6: {result} {count}{}\n", numbers(&room))
 }
 
-fn stretch_line(film: &Moov, id: u32, a: u32, b: u32) -> String {
-    let mut room = [u64::from(PLACE); 6];
+fn stretch_line(film: &Moov, id: u32, a: u32, b: u32, places: usize) -> String {
+    let mut room = vec![u64::from(PLACE); places];
     let (result, (count, bytes)) = stretch(film, id, a, b, &mut room);
     format!("  stretch {id} {a} {b}: {result} {count} {bytes}{}\n", numbers(&room))
 }
 
 fn slip_line(film: &Moov, id: u32, a: u32, b: u32) -> String {
-    let mut room = [BYTE; 40];
+    let mut room = [BYTE; 64];
     let (result, length) = write_slip(film, id, a, b, &mut room);
     let hex: String = room.iter().map(|byte| format!("{byte:02x}")).collect();
     format!("  slip {id} {a} {b}: {result} {length} {hex}\n")
@@ -65,16 +64,18 @@ fn time(film: &Moov, id: u32, t: u32) -> String {
 }
 
 fn between(film: &Moov, id: u32, a: u32, b: u32) -> String {
-    stretch_line(film, id, a, b) + &slip_line(film, id, a, b)
+    stretch_line(film, id, a, b, 16) + &slip_line(film, id, a, b)
 }
 
 fn track(film: &Moov, id: u32) -> String {
     let samples: String = (0..=5).map(|n| sample_line(film, id, n)).collect();
     let times: String = [0, 24, 72, 119, 120].iter().map(|t| time(film, id, *t)).collect();
     let stretches: String = [(24, 73), (0, 120), (24, 24)].iter().map(|(a, b)| between(film, id, *a, *b)).collect();
+    // W's whole stretch with just the room for its two pairs, and for seven, and with one place less than each.
+    let rooms: String = [4, 3, 14, 13].iter().map(|places| stretch_line(film, id, 0, 120, *places)).collect();
     let codes = [b"avvb", b"tvsz", b"vfps", b"mvbr"];
     let features: String = codes.iter().map(|code| feature_line(film, id, code)).collect();
-    samples + &times + &stretches + &features + &profile_line(film, id)
+    samples + &times + &stretches + &rooms + &features + &profile_line(film, id)
 }
 
 /// Each question once.

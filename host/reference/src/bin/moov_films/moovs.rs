@@ -91,6 +91,26 @@ fn offsets(moovs: &mut Moovs) {
     moovs.bytes(0, "mdhd-121-and-co64", lent.bytes(), 1 << 42);
 }
 
+/// W's track with these samples in a chunk for each offset.
+fn chunked(moovs: &mut Moovs, name: &str, stts: &[(u32, u32)], stsc: &[(u32, u32, u32)], offsets: &[u64]) {
+    let samples = stts.iter().map(|(count, _)| count).sum();
+    let track = w_with(|track| {
+        (track.stts, track.stsc) = (stts.to_vec(), stsc.to_vec());
+        track.stsz = Sizes::Each((1..=samples).collect());
+    });
+    let mut lent = movie(&[track]).file();
+    lent.replace(STCO, co64(offsets));
+    moovs.bytes(0, name, lent.bytes(), LONGEST);
+}
+
+/// "One pair (offset, length) for each chunk touched, in chunk order": as many as a room of 16 places has place for, and about as many.
+fn chunks(moovs: &mut Moovs) {
+    let offsets: Vec<u64> = (0..9).map(|chunk| (1 << 62) >> (7 * chunk)).collect();
+    chunked(moovs, "seven-chunks", &[(7, 10), (10, 5)], &[(1, 2, 1), (3, 1, 1), (4, 3, 1)], &offsets[..7]);
+    chunked(moovs, "eight-chunks", &[(8, 15)], &[(1, 1, 1)], &offsets[..8]);
+    chunked(moovs, "nine-chunks", &[(6, 15), (3, 10)], &[(1, 1, 1)], &offsets);
+}
+
 /// "1 there for lent bytes above their limit, or a length above 2^63-1 or below theirs"
 fn lengths(moovs: &mut Moovs) {
     let small = movie(&[w_with(|track| track.stco = vec![0, 8])]).file().bytes();
@@ -130,6 +150,7 @@ fn atoms(moovs: &mut Moovs) {
 pub fn films(moovs: &mut Moovs) {
     tables(moovs);
     offsets(moovs);
+    chunks(moovs);
     lengths(moovs);
     atoms(moovs);
 }
