@@ -59,7 +59,8 @@ pub record HandsStep (s stepper : List ℕ) (places : List ℤ) (r : ℕ) (stepp
 -- ---- the next samples
 
 -- the samples of steps one after the other from the position in the places, in the room: how many, and the position past them
-pub record Filled (s stepper : List ℕ) (room : List ℤ) (places : List ℕ) (r : ℕ) (stepper′ : List ℕ) (room′ : List ℤ) (places′ : List ℕ) : Type 0 where
+pub record Filled (s stepper : List ℕ) (room : List ℤ) (places : List ℕ) (r : ℕ)
+    (stepper′ : List ℕ) (room′ : List ℤ) (places′ : List ℕ) : Type 0 where
   pub reached : Reached
   pub steps : StepsInto s (stepperIn stepper) room reached room′
   pub result : r ≡ 0
@@ -68,6 +69,7 @@ pub record Filled (s stepper : List ℕ) (room : List ℤ) (places : List ℕ) (
   pub again : stepperIn stepper′ ≡ reached .position
 
 -- the promise of `hand_sample_steps`
-pub record HandsSteps (s stepper : List ℕ) (room : List ℤ) (places : List ℕ) (r : ℕ) (stepper′ : List ℕ) (room′ : List ℤ) (places′ : List ℕ) : Type 0 where
+pub record HandsSteps (s stepper : List ℕ) (room : List ℤ) (places : List ℕ) (r : ℕ)
+    (stepper′ : List ℕ) (room′ : List ℤ) (places′ : List ℕ) : Type 0 where
   pub short : (length stepper < 29) ⊎ (length places < 1) → (r ≡ 16) × (stepper′ ≡ stepper) × (room′ ≡ room) × (places′ ≡ places)
   pub filled : 29 ≤ length stepper → 1 ≤ length places → Filled s stepper room places r stepper′ room′ places′

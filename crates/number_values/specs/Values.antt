@@ -1,5 +1,5 @@
--- The values of numbers that stand one after the other, as the code reads them. Nobody has to believe these definitions: they are between the crates' own
--- functions, and `slip/proofs/Found.antt` shows that they come to what `slip/specs/Slip.antt` says.
+-- The values of numbers that stand one after the other, as the code reads them. Nobody has to believe these definitions: they are between the
+-- crates' own functions, and `slip/proofs/Found.antt` shows that they come to what `slip/specs/Slip.antt` says.
 use mathlib.Core.List.{List, [], _∷_}
 use Prim.Native.Nat.{ℕ, zero, suc}
 use Rattle.leb128.specs.Reading.{readAt}

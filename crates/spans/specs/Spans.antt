@@ -1,5 +1,5 @@
--- The samples of a stretch of a track by their indices, between the functions of the questions. These need not be believed: a proof shows that they come
--- to the definitions of the crates stretch and slip_writing.
+-- The samples of a stretch of a track by their indices, between the functions of the questions. These need not be believed: a proof shows that
+-- they come to the definitions of the crates stretch and slip_writing.
 use Prim.Native.Nat.{ℕ, suc, _*_, _-_, _^_, _≤_, _<_}
 use mathlib.Core.Path.{_≡_}
 use mathlib.Core.Bool.{false, cond, _&&_}

@@ -1,5 +1,6 @@
--- Stepping through a track. Document 02: "Started at any sample, its answers equal the sample question's from there to the end, and each step itself
--- moves the position on. A step after sample N answers done". The claim is `StepsFromAny`; it goes by the promises of `Stepper::at` and `step` alone.
+-- Stepping through a track. Document 02: "Started at any sample, its answers equal the sample question's from there to the end, and each step
+-- itself moves the position on. A step after sample N answers done". The claim is `StepsFromAny`; it goes by the promises of `Stepper::at` and
+-- `step` alone.
 use Prim.Native.Nat.{ℕ, zero, suc, _+_, _-_, _≤_}
 use mathlib.Core.Path.{_≡_}
 use mathlib.Core.List.{List, [], _∷_, map}
@@ -42,7 +43,8 @@ pub record StepsThrough (s : List ℕ) (w : Source) (id n : ℕ) (p : Stepper) :
   -- q is before the sample past them, or past sample N
   pub stands : (xs : List Sample) (q : Stepper) → Chain s p xs q → Stands s w id (n - 1 + length xs) q
   -- past sample N a step is done, and before it none is
-  pub done : (xs : List Sample) (q : Stepper) → Chain s p xs q → n - 1 + length xs ≡ samplesOf (trackAsked s id) → (r : Step) → Steps s q r → r ≡ Done
+  pub done : (xs : List Sample) (q : Stepper) → Chain s p xs q → n - 1 + length xs ≡ samplesOf (trackAsked s id)
+      → (r : Step) → Steps s q r → r ≡ Done
   pub all : (xs : List Sample) (q : Stepper) → Chain s p xs q → Steps s q Done → n - 1 + length xs ≡ samplesOf (trackAsked s id)
 
 -- "Started at any sample": where neither the film nor the ID is refused and n is in 1 to N, an answer that keeps the promise of `Stepper::at` is a

@@ -18,8 +18,8 @@ abbrev pub flatSamples : List Sample → List ℤ
 flatSamples [] = []
 flatSamples (x ∷ xs) = sampleValues x ++ flatSamples xs
 
--- the promise of `steps_into`: the samples of steps one after the other fill the first places, as many as the room holds; or fewer, where a step that
--- is done keeps the promise of `step`. Of a position of its own film and track that is so only past sample N, so that none is left
+-- the promise of `steps_into`: the samples of steps one after the other fill the first places, as many as the room holds; or fewer, where a step
+-- that is done keeps the promise of `step`. Of a position of its own film and track that is so only past sample N, so that none is left
 pub record StepsInto (s : List ℕ) (p : Stepper) (room : List ℤ) (r : Reached) (after : List ℤ) : Type 0 where
   pub samples : List Sample
   pub chain : Chain s p samples (r .position)

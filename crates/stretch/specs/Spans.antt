@@ -1,5 +1,5 @@
--- What a stretch of a film asks for, between the functions of the questions. This need not be believed: a proof shows that it comes to the definitions of
--- Stretches.
+-- What a stretch of a film asks for, between the functions of the questions. This need not be believed: a proof shows that it comes to the
+-- definitions of Stretches.
 use Prim.Native.Nat.{ℕ}
 use mathlib.Core.Bool.{cond}
 use mathlib.Core.List.{List}
