@@ -14,13 +14,13 @@ use Rattle.structure.specs.Rows.{orElse}
 use Rattle.movie.specs.Rooms.{noRoom, filledRoom, roomAfter}
 use Rattle.questions.specs.Samples.{sampleValues}
 use Rattle.questions.specs.declared.samples.Sample.{Sample}
-use Rattle.stepping.specs.Stepping.{startNumber, Starts, stepNumbers, Steps}
+use Rattle.stepping.specs.Stepping.{startNumber, Starts, stepNumbers, Steps, Chain}
 use Rattle.stepping.specs.declared.Stepper.{Stepper}
 use Rattle.stepping.specs.declared.Start.{Start}
 use Rattle.stepping.specs.declared.Start.the-variants.{At, Refused}
 use Rattle.stepping.specs.declared.Step.{Step}
 use Rattle.stepping.specs.declared.Step.the-variants.{Next, Done}
-use Rattle.steps_into.specs.Into.{StepsInto}
+use Rattle.steps_into.specs.Into.{flatSamples, StepsInto}
 use Rattle.steps_into.specs.declared.Reached.{Reached}
 use Rattle.hand.specs.Places.{Hands}
 use Rattle.position_numbers.specs.Position.{stepperNumbers, stepperIn, HandsPosition}
