@@ -22,7 +22,8 @@ pub struct Moving {
 }
 
 impl Moving {
-    // Document 01: "header and entry sizes as associated constants": the head of stts, ctts and stss, and their entries.
+    // Document 01: "header and entry sizes as associated constants": the head of stss, an entry of stts or ctts, and one of stss. What `runs`, `chunks`
+    // and `words` read goes by the numbers there.
     pub const HEAD: usize = 16;
 
     pub const RUN: usize = 8;

@@ -39,7 +39,8 @@ pub enum Step {
 }
 
 impl Stepper {
-    // Document 01: "header and entry sizes as associated constants": the head of stts, ctts and stss, and their entries.
+    // Document 01: "header and entry sizes as associated constants": the head of stss, an entry of stts or ctts, and one of stss. What `runs`, `chunks`
+    // and `words` read goes by the numbers there.
     pub const HEAD: usize = Moving::HEAD;
 
     pub const RUN: usize = Moving::RUN;
