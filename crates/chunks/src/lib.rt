@@ -18,7 +18,7 @@ ghost use Rattle.chunks.specs.Cursors.{startCursor, readied, past, sough
 pub fn first_of(part: &[u8], chunks: u32) -> u64
     ensures { λ r. ⌜ (r ≡ firstOf chunks (dealsIn (now (part .entry)))) × (r ≤ 2 ^ 32) ⌝ }
 {
-    if 12 <= part.len() {
+    if ChunkCursor::ENTRY <= part.len() {
         return u32_at(part, 0) as u64;
     }
     chunks as u64 + 1
@@ -39,12 +39,19 @@ pub struct ChunkCursor {
     pub description: u32,
 }
 
+impl ChunkCursor {
+    // The bytes of stsc before its entries, and of an entry.
+    pub const HEAD: usize = 16;
+
+    pub const ENTRY: usize = 12;
+}
+
 // Before the first entry.
 pub fn start_cursor() -> ChunkCursor
     ensures { λ r. ⌜ r ≡ startCursor ⌝ }
 {
     ChunkCursor {
-        at: 16,
+        at: ChunkCursor::HEAD,
         remaining: 0,
         per: 0,
         description: 0,
@@ -62,13 +69,13 @@ pub fn ready(stsc: &[u8], chunks: u32, c: ChunkCursor) -> ChunkCursor
             return r;
         }
         let t = &stsc[at..];
-        if t.len() < 12 {
+        if t.len() < ChunkCursor::ENTRY {
             return r;
         }
         let first = u32_at(t, 0);
-        let next = first_of(&t[12..], chunks);
+        let next = first_of(&t[ChunkCursor::ENTRY..], chunks);
         r = ChunkCursor {
-            at: at + 12,
+            at: at + ChunkCursor::ENTRY,
             remaining: span(first as u64, next),
             per: u32_at(t, 4),
             description: u32_at(t, 8),

@@ -22,13 +22,12 @@ pub struct Moving {
 }
 
 impl Moving {
-    // Document 01: "header and entry sizes as associated constants": the head of stss, an entry of stts or ctts, and one of stss. What `runs`, `chunks`
-    // and `words` read goes by the numbers there.
-    pub const HEAD: usize = 16;
+    // Document 01: "header and entry sizes as associated constants": the head of stss, an entry of stts or ctts, and one of stss.
+    pub const HEAD: usize = words::HEAD;
 
-    pub const RUN: usize = 8;
+    pub const RUN: usize = RunCursor::ENTRY;
 
-    pub const WORD: usize = 4;
+    pub const WORD: usize = words::WORD;
 }
 
 // Whether an entry is to be read before the sample is known; `ctts` is the length of that table.

@@ -12,12 +12,19 @@ pub struct RunCursor {
     pub each: u32,
 }
 
+impl RunCursor {
+    // The bytes of a table before its entries, and of an entry.
+    pub const HEAD: usize = 16;
+
+    pub const ENTRY: usize = 8;
+}
+
 // Before the first entry.
 pub fn run_start() -> RunCursor
     ensures { λ r. ⌜ r ≡ startRun ⌝ }
 {
     RunCursor {
-        at: 16,
+        at: RunCursor::HEAD,
         count: 0,
         each: 0,
     }
@@ -31,11 +38,11 @@ pub fn run_ready(table: &[u8], c: RunCursor) -> RunCursor
     while r.count == 0 {
         let at = r.at;
         let t = after(table, at);
-        if t.len() < 8 {
+        if t.len() < RunCursor::ENTRY {
             return r;
         }
         r = RunCursor {
-            at: at + 8,
+            at: at + RunCursor::ENTRY,
             count: u32_at(t, 0),
             each: u32_at(t, 4),
         };

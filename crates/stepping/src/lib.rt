@@ -5,6 +5,7 @@ pub mod parts;
 
 use asked::track_part;
 use bigendian::u32_at;
+use chunks::ChunkCursor;
 use moves::Move;
 use moves::moved;
 use parts::entries_read;
@@ -39,13 +40,19 @@ pub enum Step {
 }
 
 impl Stepper {
-    // Document 01: "header and entry sizes as associated constants": the head of stss, an entry of stts or ctts, and one of stss. What `runs`, `chunks`
-    // and `words` read goes by the numbers there.
+    // Document 01: "header and entry sizes as associated constants": the head of every table but stsz, and that of stsz; an entry of stts or ctts, of
+    // stsc, of stsz, stco or stss, and of co64. They are those of the crates that step through the tables.
     pub const HEAD: usize = Moving::HEAD;
+
+    pub const SIZES_HEAD: usize = words::SIZES_HEAD;
 
     pub const RUN: usize = Moving::RUN;
 
+    pub const DEAL: usize = ChunkCursor::ENTRY;
+
     pub const WORD: usize = Moving::WORD;
+
+    pub const LONG: usize = words::LONG;
 
     // Before sample n of a track, numbered from 1.
     pub fn at(lent: &[u8], source: Source, id: u32, n: u32) -> Start

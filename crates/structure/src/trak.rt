@@ -6,7 +6,7 @@ use atoms::child_body;
 use atoms::kinds;
 use bigendian::u32_at;
 ghost use mathlib.Core.Path.{_≡_};
-ghost use Rattle.structure.specs.Track.{mdiaOf, minfOf, stblOf, drefOf, tableOf, offsetTable, elstOf, idOf, scaleOf, durationOf, subtypeOf, profileOf};
+ghost use Rattle.structure.specs.Track.{mdiaOf, minfOf, stblOf, tableOf, offsetTable, elstOf, idOf, scaleOf, subtypeOf, profileOf};
 
 fn mdia_body<'a>(trak: &'a [u8]) -> &'a [u8]
     ensures { λ r. ⌜ now r ≡ mdiaOf (now (trak .entry)) ⌝ }
@@ -54,14 +54,6 @@ pub fn edit_list<'a>(trak: &'a [u8]) -> &'a [u8]
     child(edts, kinds::EDTS, kinds::ELST, 0)
 }
 
-// The data references, as a dref, its header included; empty where it is absent.
-pub fn data_references<'a>(trak: &'a [u8]) -> &'a [u8]
-    ensures { λ r. ⌜ now r ≡ drefOf (now (trak .entry)) ⌝ }
-{
-    let dinf = child_body(minf_body(trak), kinds::MINF, kinds::DINF, 0);
-    child(dinf, kinds::DINF, kinds::DREF, 0)
-}
-
 pub fn track_id(trak: &[u8]) -> u32
     ensures { λ r. ⌜ r ≡ idOf (now (trak .entry)) ⌝ }
 {
@@ -72,13 +64,6 @@ pub fn media_scale(trak: &[u8]) -> u32
     ensures { λ r. ⌜ r ≡ scaleOf (now (trak .entry)) ⌝ }
 {
     u32_at(child(mdia_body(trak), kinds::MDIA, kinds::MDHD, 0), 20)
-}
-
-// The duration that mdhd states.
-pub fn stored_duration(trak: &[u8]) -> u32
-    ensures { λ r. ⌜ r ≡ durationOf (now (trak .entry)) ⌝ }
-{
-    u32_at(child(mdia_body(trak), kinds::MDIA, kinds::MDHD, 0), 24)
 }
 
 pub fn subtype(trak: &[u8]) -> u32

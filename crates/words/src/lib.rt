@@ -14,6 +14,15 @@ ghost use Rattle.atoms.specs.Atoms.{kindOf};
 ghost use Rattle.atoms.specs.Kinds.{co64};
 ghost use Rattle.words.specs.Words.{numbersIn, wordsIn, sizes, widthOf, chunkOffsets, syncsAgree, isSync};
 
+// The bytes of a table of offsets or of sync samples before its entries, of stsz before its sizes, and of a number of 32 and of 64 bits.
+pub const HEAD: usize = 16;
+
+pub const SIZES_HEAD: usize = 20;
+
+pub const WORD: usize = 4;
+
+pub const LONG: usize = 8;
+
 // The first n bytes; all where there are fewer.
 fn front(s: &[u8], n: usize) -> &[u8]
     ensures { λ r. ⌜ now r ≡ take n (now (s .entry)) ⌝ }
@@ -81,7 +90,7 @@ pub fn size_of(stsz: &[u8], index: u32) -> u32
 {
     let common = u32_at(stsz, 12);
     if common == 0 {
-        return word_at(after(stsz, 20), index as usize);
+        return word_at(after(stsz, SIZES_HEAD), index as usize);
     }
     if index < u32_at(stsz, 16) { common } else { 0 }
 }
@@ -92,7 +101,7 @@ pub fn bytes_between(stsz: &[u8], from: u32, to: u32) -> u64
 {
     let each = u32_at(stsz, 12);
     if each == 0 {
-        return listed_between(after(stsz, 20), from, to);
+        return listed_between(after(stsz, SIZES_HEAD), from, to);
     }
     let end = smaller(to, u32_at(stsz, 16));
     span(from, end) as u64 * each as u64
@@ -105,7 +114,7 @@ pub fn all_bytes(stsz: &[u8]) -> u64
 {
     let every = u32_at(stsz, 12);
     if every == 0 {
-        return sum_words(after(stsz, 20));
+        return sum_words(after(stsz, SIZES_HEAD));
     }
     u32_at(stsz, 16) as u64 * every as u64
 }
@@ -131,15 +140,15 @@ pub fn is_long(table: &[u8]) -> bool
 pub fn width_of(long: bool) -> usize
     ensures { λ r. ⌜ r ≡ widthOf long ⌝ }
 {
-    if long { 8 } else { 4 }
+    if long { LONG } else { WORD }
 }
 
 // The number of 64 bits of a part with an index.
 fn long_at(part: &[u8], index: usize) -> u64
     ensures { λ r. ⌜ r ≡ getD (numbersIn 8 (now (part .entry))) index 0 ⌝ }
 {
-    if index < part.len() / 8 {
-        return whole64(part, index * 8);
+    if index < part.len() / LONG {
+        return whole64(part, index * LONG);
     }
     0
 }
@@ -158,14 +167,14 @@ pub fn number_in(part: &[u8], long: bool, index: usize) -> u64
 pub fn chunk_offset(table: &[u8], index: u64) -> u64
     ensures { λ r. ⌜ r ≡ getD (chunkOffsets (now (table .entry))) index 0 ⌝ }
 {
-    number_in(after(table, 16), is_long(table), index as usize)
+    number_in(after(table, HEAD), is_long(table), index as usize)
 }
 
 // Whether the numbers of stss rise strictly within 1 to the number of samples.
 pub fn syncs_agree(stss: &[u8], samples: u32) -> bool
     ensures { λ r. ⌜ r ≡ syncsAgree (now (stss .entry)) samples ⌝ }
 {
-    let part = after(stss, 16);
+    let part = after(stss, HEAD);
     let mut t = part;
     let mut last: u32 = 0;
     while 4 <= t.len() {
@@ -186,7 +195,7 @@ pub fn is_sync(stss: &[u8], number: u32) -> bool
     if stss.len() == 0 {
         return true;
     }
-    let part = after(stss, 16);
+    let part = after(stss, HEAD);
     let mut t = part;
     while 4 <= t.len() {
         if u32_at(t, 0) == number {
