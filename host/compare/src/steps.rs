@@ -1,5 +1,5 @@
-//! Tracks stepped through, from the first sample, from the middle and from the last, against the reference; and positions of other films, which are safe
-//! and end.
+//! Tracks stepped through, from the first sample, from the middle and from the last, against the reference and the sample question; and positions of
+//! other films, which are safe and end.
 use crate::case::{Difference, Lengths};
 use crate::films::Comparison;
 use crate::lent::Lent;
@@ -19,6 +19,9 @@ const NO_ROOM: u32 = 16;
 /// As many positions of earlier films are kept, and as many steps are taken from one at most.
 const KEPT: usize = 8;
 const MOST_STEPS: u64 = 2000;
+
+/// As many of the samples stepped through are also put to the sample question, which judges the film each time.
+const SAME_AS_SAMPLE: usize = 16;
 
 /// A position in a film, and how many samples are left there from it on.
 pub struct Kept {
@@ -299,7 +302,9 @@ impl Comparison {
             self.one_by_one(random, film, &position, samples)?;
             self.several(random, film, &position, samples)?;
             self.too_few(random, film, &position)?;
-            self.same_as_sample(film, n, &samples[0])?;
+            for (number, sample) in (n..).zip(samples).take(SAME_AS_SAMPLE) {
+                self.same_as_sample(film, number, sample)?;
+            }
             self.keep(random, Kept { numbers: position, left: u64::from(all - n + 1) });
         }
         Ok(())
