@@ -13,7 +13,7 @@ ghost use Rattle.steps_into.specs.Into.{StepsInto};
 pub const SAMPLE: usize = 8;
 
 // Puts the sample's numbers into the room, from the place `at` on.
-pub fn put_sample(x: Sample, room: &mut [i64], at: usize)
+fn put_sample(x: Sample, room: &mut [i64], at: usize)
     requires { ⌜ (x .decode < 2 ^ 32) × (x .chunk < 2 ^ 32) × (x .offset < 2 ^ 63) × (at + 8 ≤ length (now room)) ⌝ }
     ensures { λ _. ⌜ now (room .exit) ≡ sets (now (room .entry)) at (sampleValues x) ⌝ }
 {

@@ -1,4 +1,5 @@
--- How the two ways in agree: the film is refused with the same number, and every question gets the same answer and leaves the same in lent room.
+-- How the two ways in agree: the film is refused with the same number, and each question below gets the same answer and leaves the same in lent
+-- room. Stepping and handles answer as the sample question does, by either way.
 -- Sample bytes "aren't offered" by the second way.
 use Prim.Native.Nat.{ℕ}
 use mathlib.Core.Path.{_≡_}

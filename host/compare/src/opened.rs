@@ -5,7 +5,7 @@ use crate::films::Comparison;
 use crate::lent::Lent;
 use crate::library::{ask_opened, open};
 use crate::question::{kind_of, Film, Question, Way};
-use crate::steps::difference;
+use crate::steps::{alter, difference, keep};
 use reference::maker::Random;
 
 /// As include/chaldoref.h has it.
@@ -14,8 +14,7 @@ const HANDLE: usize = 19;
 const OUTSIDE: u32 = 15;
 const NO_ROOM: u32 = 16;
 
-/// As many handles of earlier films are kept, and so often the three questions are put by a handle.
-const KEPT: usize = 8;
+/// So often the three questions are put by a handle.
 const ROUNDS: usize = 3;
 
 /// How the function is called that puts the question by a handle.
@@ -134,7 +133,7 @@ impl Comparison {
                     self.by_handle(random, (lent, way), &other, question, None)?;
                 }
             }
-            self.keep_handle(random, handle);
+            keep(&mut self.handles, random, handle);
         }
         if film.strict != film.number() {
             for name in [open_name(way), "opened_sample", "opened_sample_at", "opened_media_time"] {
@@ -144,14 +143,6 @@ impl Comparison {
         Ok(())
     }
 
-    fn keep_handle(&mut self, random: &mut Random, handle: Vec<u64>) {
-        if self.handles.len() < KEPT {
-            self.handles.push(handle);
-        } else {
-            self.handles[random.below(KEPT)] = handle;
-        }
-    }
-
     /// The handle of another film, or numbers of any kind.
     fn any_handle(&self, random: &mut Random) -> Vec<u64> {
         let mut numbers = match self.handles.len() {
@@ -159,9 +150,7 @@ impl Comparison {
             kept => self.handles[random.below(kept)].clone(),
         };
         if random.once_in(2) {
-            let place = random.below(HANDLE);
-            let (near, any) = (numbers[place].wrapping_add(random.one(&[1, 8, u64::MAX])), random.bits());
-            numbers[place] = random.one(&[0, near, near, any >> 40, any, 1 << 31, 1 << 32, 1 << 63, u64::MAX]);
+            alter(&mut numbers, random);
         }
         numbers
     }

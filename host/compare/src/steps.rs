@@ -16,7 +16,7 @@ const SAMPLE: usize = 8;
 
 const NO_ROOM: u32 = 16;
 
-/// As many positions of earlier films are kept, and as many steps are taken from one at most.
+/// As many positions, and handles, of earlier films are kept, and as many steps are taken from a position at most.
 const KEPT: usize = 8;
 const MOST_STEPS: u64 = 2000;
 
@@ -76,9 +76,20 @@ fn long(n: usize) -> u64 {
     u64::try_from(n).unwrap()
 }
 
-/// The numbers of a sample where it is the track's n-th, counted from 0.
-fn numbers(samples: &[Sample], n: usize) -> Option<[u64; SAMPLE]> {
-    samples.get(n).map(sample_places)
+/// Keeps a position or a handle for the films to come.
+pub fn keep<T>(kept: &mut Vec<T>, random: &mut Random, next: T) {
+    if kept.len() < KEPT {
+        kept.push(next);
+    } else {
+        kept[random.below(KEPT)] = next;
+    }
+}
+
+/// Puts another number, near the one there or of any kind, into some place.
+pub fn alter(numbers: &mut [u64], random: &mut Random) {
+    let place = random.below(numbers.len());
+    let (near, any) = (numbers[place].wrapping_add(random.one(&[1, 8, u64::MAX])), random.bits());
+    numbers[place] = random.one(&[0, near, near, any >> 40, any, 1 << 31, 1 << 32, 1 << 63, u64::MAX]);
 }
 
 impl Comparison {
@@ -199,35 +210,26 @@ impl Comparison {
         Ok(())
     }
 
-    /// From a sample to the end, one by one.
-    fn one_by_one(
+    /// From a sample to the end: one by one, or several at once with rooms of any length.
+    fn to_the_end(
         &mut self,
         random: &mut Random,
         film: Stepped,
         at: &[u64],
         samples: &[Sample],
-    ) -> Result<(), Box<Difference>> {
-        let mut position = at.to_vec();
-        for n in 0..samples.len() {
-            self.one_step(random, film, &mut position, numbers(samples, n))?;
-        }
-        self.done(random, film, &mut position)
-    }
-
-    /// From a sample to the end, several at once, with rooms of any length.
-    fn several(
-        &mut self,
-        random: &mut Random,
-        film: Stepped,
-        at: &[u64],
-        samples: &[Sample],
+        one_by_one: bool,
     ) -> Result<(), Box<Difference>> {
         let mut position = at.to_vec();
         let mut rest = samples;
         let most = 2 + samples.len() / 4;
-        while !rest.is_empty() {
-            let room = SAMPLE * random.below(most + 1) + random.below(SAMPLE);
-            let count = self.some_steps(random, film, &mut position, room, Some(rest))?;
+        while let Some(next) = rest.first() {
+            let count = if one_by_one {
+                self.one_step(random, film, &mut position, Some(sample_places(next)))?;
+                1
+            } else {
+                let room = SAMPLE * random.below(most + 1) + random.below(SAMPLE);
+                self.some_steps(random, film, &mut position, room, Some(rest))?
+            };
             rest = &rest[usize::try_from(count).unwrap()..];
         }
         self.done(random, film, &mut position)
@@ -299,24 +301,16 @@ impl Comparison {
             self.start(random, film, fewer, 0)?;
             let position = self.start(random, film, STEPPER + more, 0)?.expect("it is answered");
             let samples = &track.samples[usize::try_from(n - 1).unwrap()..];
-            self.one_by_one(random, film, &position, samples)?;
-            self.several(random, film, &position, samples)?;
+            for one_by_one in [true, false] {
+                self.to_the_end(random, film, &position, samples, one_by_one)?;
+            }
             self.too_few(random, film, &position)?;
             for (number, sample) in (n..).zip(samples).take(SAME_AS_SAMPLE) {
                 self.same_as_sample(film, number, sample)?;
             }
-            self.keep(random, Kept { numbers: position, left: u64::from(all - n + 1) });
+            keep(&mut self.kept, random, Kept { numbers: position, left: u64::from(all - n + 1) });
         }
         Ok(())
-    }
-
-    /// Keeps a position for the films to come.
-    fn keep(&mut self, random: &mut Random, position: Kept) {
-        if self.kept.len() < KEPT {
-            self.kept.push(position);
-        } else {
-            self.kept[random.below(KEPT)] = position;
-        }
     }
 
     /// Numbers of any kind: a position some of whose numbers are others.
@@ -326,9 +320,7 @@ impl Comparison {
             kept => self.kept[random.below(kept)].numbers.clone(),
         };
         for _ in 0..1 + random.below(4) {
-            let place = random.below(STEPPER);
-            let (near, any) = (numbers[place].wrapping_add(random.one(&[1, 8, u64::MAX])), random.bits());
-            numbers[place] = random.one(&[0, near, near, any >> 40, any, 1 << 31, 1 << 32, 1 << 63, u64::MAX]);
+            alter(&mut numbers, random);
         }
         numbers
     }

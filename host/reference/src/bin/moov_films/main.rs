@@ -4,6 +4,8 @@
 //! Writes each film to the folder that is its first argument, the length of its file in 64 bits before its moov, and the names, one to a line, to the
 //! file that is its second. The lines go to standard output. A film's name begins with the number that its maker means it to be refused with: the
 //! reference must agree.
+#[path = "../question_films/all.rs"]
+mod all;
 #[allow(dead_code)]
 #[path = "../question_films/asks.rs"]
 mod asks;
@@ -29,23 +31,13 @@ mod times;
 #[path = "../question_films/tracks.rs"]
 mod tracks;
 
-use base::Films;
 use moovs::Moovs;
 use reference::maker::alone::moov_of;
 use reference::movie::refusal;
 
 /// The films that are asked questions as whole files; without those that have no moov, which are refused there before anything is asked.
 fn whole(moovs: &mut Moovs) {
-    let mut films = Films::new();
-    paper::films(&mut films);
-    samples::films(&mut films);
-    times::films(&mut films);
-    features::films(&mut films);
-    peaks::films(&mut films);
-    profiles::films(&mut films);
-    tracks::films(&mut films);
-    refused::films(&mut films);
-    for film in &films.list {
+    for film in &all::films().list {
         if let Some(alone) = moov_of(&film.bytes) {
             moovs.bytes(film.number, &film.name, alone.moov.to_vec(), alone.length);
         }

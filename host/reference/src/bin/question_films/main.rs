@@ -4,6 +4,7 @@
 //! each film with its questions after it. The lines go to standard output. A question is three big-endian 32-bit numbers: its kind, a track ID
 //! and the number asked. A film's name begins with the number that its maker means it to be refused with, and its maker may say some of its
 //! lines by hand: the reference must agree with both, so that a film which tests another thing than its name says is not kept by mistake.
+mod all;
 mod asks;
 mod base;
 mod features;
@@ -16,7 +17,6 @@ mod samples;
 mod times;
 mod tracks;
 
-use base::Films;
 use reference::made::Kept;
 
 fn main() {
@@ -24,18 +24,8 @@ fn main() {
     let [_, folder, names] = &arguments[..] else {
         panic!("question_films FOLDER NAMES");
     };
-    let mut films = Films::new();
-    paper::films(&mut films);
-    samples::films(&mut films);
-    times::films(&mut films);
-    features::films(&mut films);
-    peaks::films(&mut films);
-    profiles::films(&mut films);
-    tracks::films(&mut films);
-    refused::films(&mut films);
-
     let mut args = String::new();
-    for film in films.list {
+    for film in all::films().list {
         let name = format!("{}-{}", film.number, film.name);
         let lines = film.asks.iter().map(|ask| lines::line(&film.bytes, ask)).collect();
         let asks: Vec<u8> = film.asks.iter().flat_map(|ask| ask.bytes()).collect();
