@@ -1,4 +1,6 @@
 // What the lines are made of.
+use signs::absolute;
+
 pub fn text(s: &[u8]) {
     io::write_all(libc::STDOUT_FILENO, s);
 }
@@ -31,12 +33,11 @@ pub fn between(words: &[u8], id: u32, a: u32, b: u32, result: u32) {
 
 // What is below 0 is counted from -1 on, so that the least number has its place too.
 fn signed(n: i64) {
-    if n >= 0 {
-        next(n as u64);
-        return;
+    text(b" ");
+    if n < 0 {
+        text(b"-");
     }
-    text(b" -");
-    number((-1 - n) as u64 + 1);
+    number(absolute(n));
 }
 
 pub fn signed_numbers(s: &[i64]) {

@@ -1,4 +1,6 @@
 // What the lines are made of.
+use signs::absolute;
+
 pub fn text(s: &[u8]) {
     io::write_all(libc::STDOUT_FILENO, s);
 }
@@ -32,12 +34,10 @@ pub fn hex(n: u32) {
 
 // What is below 0 is counted from -1 on, so that the least number has its place too.
 pub fn signed(n: i64) {
-    if n >= 0 {
-        number(n as u64);
-        return;
+    if n < 0 {
+        text(b"-");
     }
-    text(b"-");
-    number((-1 - n) as u64 + 1);
+    number(absolute(n));
 }
 
 // Each number with a blank before it.

@@ -4,8 +4,7 @@ use edits::Mapped;
 use lists::Total;
 use runs::Lookup;
 use runs::Timing;
-ghost use Prim.Native.Nat.{_<_, _^_};
-ghost use lib.Signed.{mag};
+use signs::absolute;
 
 pub fn text(s: &[u8]) {
     io::write_all(libc::STDOUT_FILENO, s);
@@ -25,15 +24,11 @@ pub fn field(words: &[u8], n: u32) {
     number_32(n);
 }
 
-pub fn signed(n: i64)
-    requires { ⌜ mag n < 2 ^ 31 ⌝ }
-{
-    if n >= 0 {
-        number(n as u64);
-        return;
+pub fn signed(n: i64) {
+    if n < 0 {
+        text(b"-");
     }
-    text(b"-");
-    number((0 - n) as u64);
+    number(absolute(n));
 }
 
 pub fn truth(b: bool) {
