@@ -2,7 +2,6 @@
 use leb128::NumberRead;
 use leb128::number_at;
 use quick_numbers::quick_at;
-use quick_numbers::quick_len;
 ghost use mathlib.Core.Path.{_≡_};
 ghost use mathlib.Core.List.{_++_};
 ghost use Prim.Native.Nat.{_≤_};
@@ -40,10 +39,9 @@ pub fn fill_numbers(bytes: &[u8], at: usize, room: &mut [u32], n: usize)
     let mut p = at;
     while j < n {
         let q = quick_at(bytes, p);
-        if 0 < q {
-            let len = quick_len(bytes, p);
-            room[j] = (q / 8) as u32;
-            p += len;
+        if 0 < q.len {
+            room[j] = q.value as u32;
+            p += q.len;
             j += 1;
             continue;
         }
@@ -63,10 +61,9 @@ pub fn fill_wide(bytes: &[u8], at: usize, room: &mut [u64], n: usize)
     let mut p = at;
     while j < n {
         let q = quick_at(bytes, p);
-        if 0 < q {
-            let len = quick_len(bytes, p);
-            room[j] = q / 8;
-            p += len;
+        if 0 < q.len {
+            room[j] = q.value;
+            p += q.len;
             j += 1;
             continue;
         }

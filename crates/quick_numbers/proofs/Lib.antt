@@ -1,2 +1,1 @@
 pub mod Quick
-mod Lengths

@@ -1,4 +1,7 @@
 // The numbers of a slip, checked one after the other by document 01's rules for them.
+mod ends;
+
+use ends::are_numbers;
 use leb128::NumberRead;
 use leb128::number_at;
 use number_cursor::Cursor;
@@ -77,16 +80,16 @@ pub fn check_numbers(bytes: &[u8], c: usize, from: Cursor) -> Checked
     Checked::All(end)
 }
 
-// Checks c numbers of pairs from a place. They have no rule but that they are there, so that their count is not looked at.
-pub fn check_pairs(bytes: &[u8], c: usize, from: usize, wide: bool) -> Checked
+// Checks c numbers of pairs from a place, one after the other. They have no rule but that they are there, so that their count is not looked at.
+fn check_each(bytes: &[u8], c: usize, from: usize, wide: bool) -> Checked
     ensures { λ r. ⌜ r ≡ checkedOf (run (moreOf wide) (topOf wide) (now (bytes .entry)) c 6 0 from) ⌝ }
 {
     let mut rest = c;
     let mut at = from;
     while 0 < rest {
         let q = quick_at(bytes, at);
-        if 0 < q {
-            at += (q % 8) as usize;
+        if 0 < q.len {
+            at += q.len;
             rest -= 1;
             continue;
         }
@@ -104,4 +107,17 @@ pub fn check_pairs(bytes: &[u8], c: usize, from: usize, wide: bool) -> Checked
         rest -= 1;
     }
     Checked::All(at)
+}
+
+// The same. Most slips have numbers below 2^32, all good and as many as asked up to the end: that is found out without a walk from number to number.
+pub fn check_pairs(bytes: &[u8], c: usize, from: usize, wide: bool) -> Checked
+    ensures { λ r. ⌜ r ≡ checkedOf (run (moreOf wide) (topOf wide) (now (bytes .entry)) c 6 0 from) ⌝ }
+{
+    if wide {
+        return check_each(bytes, c, from, wide);
+    }
+    if are_numbers(bytes, c, from) {
+        return Checked::All(bytes.len());
+    }
+    check_each(bytes, c, from, wide)
 }

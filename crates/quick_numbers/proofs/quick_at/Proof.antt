@@ -26,12 +26,6 @@ returns-2 c = sym (quick-few _ _ (omega (arith, c .if2 .taken, c .before .if1 .l
 byte-at-requires : tie.Need-byte-at-requires
 byte-at-requires c κs = search needs
 
-mul-result : tie.Need-mul-result
-mul-result c = search needs
-
-add-result : tie.Need-add-result
-add-result c = search needs
-
 returns-3 : tie.Need-returns-3
 returns-3 c = sym (quick-one _ _ (four (c .before .before)) _ (c .before .byte-at .ensures .0) (c .if3 .taken))
 
@@ -47,17 +41,11 @@ returns-4 c =
     let a₁ = a₂ .before .before in
     sym (quick-two-padded _ _ (four (a₁ .before)) _ _ (a₁ .byte-at .ensures .0) (a₂ .before .if3 .left) (a₂ .byte-at2 .ensures .0) (c .if4 .taken))
 
-mul-result-2 : tie.Need-mul-result-2
-mul-result-2 c = search needs
+mul-t11 : tie.Need-mul-t11
+mul-t11 c = search needs
 
-add-result-2 : tie.Need-add-result-2
-add-result-2 c = search needs
-
-mul-result-3 : tie.Need-mul-result-3
-mul-result-3 c = search needs
-
-add-result-3 : tie.Need-add-result-3
-add-result-3 c = search needs
+add-t12 : tie.Need-add-t12
+add-t12 c = search needs
 
 returns-5 : tie.Need-returns-5
 returns-5 c =
@@ -78,23 +66,17 @@ returns-6 c =
     let a₁ = a₂ .before .before in
     sym (quick-three-padded _ _ (four (a₁ .before)) _ _ (a₁ .byte-at .ensures .0) (a₂ .before .if3 .left) (a₂ .byte-at2 .ensures .0) _ (a₃ .before .if5 .left) (a₃ .byte-at3 .ensures .0) (c .if6 .taken))
 
-mul-result-4 : tie.Need-mul-result-4
-mul-result-4 c = search needs
+mul-t15 : tie.Need-mul-t15
+mul-t15 c = search needs
 
-add-result-4 : tie.Need-add-result-4
-add-result-4 c = search needs
+add-t16 : tie.Need-add-t16
+add-t16 c = search needs
 
-mul-result-5 : tie.Need-mul-result-5
-mul-result-5 c = search needs
+mul-t17 : tie.Need-mul-t17
+mul-t17 c = search needs
 
-add-result-5 : tie.Need-add-result-5
-add-result-5 c = search needs
-
-mul-result-6 : tie.Need-mul-result-6
-mul-result-6 c = search needs
-
-add-result-6 : tie.Need-add-result-6
-add-result-6 c = search needs
+add-t18 : tie.Need-add-t18
+add-t18 c = search needs
 
 returns-7 : tie.Need-returns-7
 returns-7 c =
@@ -117,29 +99,23 @@ returns-8 c =
     let a₁ = a₂ .before .before in
     sym (quick-four-padded _ _ (four (a₁ .before)) _ _ (a₁ .byte-at .ensures .0) (a₂ .before .if3 .left) (a₂ .byte-at2 .ensures .0) _ (a₃ .before .if5 .left) (a₃ .byte-at3 .ensures .0) _ (a₄ .before .if7 .left) (a₄ .byte-at4 .ensures .0) (c .if8 .taken))
 
-mul-result-7 : tie.Need-mul-result-7
-mul-result-7 c = search needs
+mul-t22 : tie.Need-mul-t22
+mul-t22 c = search needs
 
-add-result-7 : tie.Need-add-result-7
-add-result-7 c = search needs
+add-t23 : tie.Need-add-t23
+add-t23 c = search needs
 
-mul-result-8 : tie.Need-mul-result-8
-mul-result-8 c = search needs
+mul-t24 : tie.Need-mul-t24
+mul-t24 c = search needs
 
-add-result-8 : tie.Need-add-result-8
-add-result-8 c = search needs
+add-t25 : tie.Need-add-t25
+add-t25 c = search needs
 
-mul-result-9 : tie.Need-mul-result-9
-mul-result-9 c = search needs
+mul-t26 : tie.Need-mul-t26
+mul-t26 c = search needs
 
-add-result-9 : tie.Need-add-result-9
-add-result-9 c = search needs
-
-mul-result-10 : tie.Need-mul-result-10
-mul-result-10 c = search needs
-
-add-result-10 : tie.Need-add-result-10
-add-result-10 c = search needs
+add-t27 : tie.Need-add-t27
+add-t27 c = search needs
 
 returns-9 : tie.Need-returns-9
 returns-9 c =
@@ -165,37 +141,29 @@ quick-at-spec =
     sub-if2
     returns-2
     byte-at-requires
-    mul-result
-    add-result
     returns-3
     add-byte-at
     byte-at-requires-2
     returns-4
-    mul-result-2
-    add-result-2
-    mul-result-3
-    add-result-3
+    mul-t11
+    add-t12
     returns-5
     add-byte-at-2
     byte-at-requires-3
     returns-6
-    mul-result-4
-    add-result-4
-    mul-result-5
-    add-result-5
-    mul-result-6
-    add-result-6
+    mul-t15
+    add-t16
+    mul-t17
+    add-t18
     returns-7
     add-byte-at-3
     byte-at-requires-4
     returns-8
-    mul-result-7
-    add-result-7
-    mul-result-8
-    add-result-8
-    mul-result-9
-    add-result-9
-    mul-result-10
-    add-result-10
+    mul-t22
+    add-t23
+    mul-t24
+    add-t25
+    mul-t26
+    add-t27
     returns-9
     returns-10)
