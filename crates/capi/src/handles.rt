@@ -4,9 +4,11 @@ use host_opened::hand_opened_media_time;
 use host_opened::hand_opened_sample;
 use host_opened::hand_opened_sample_at;
 use host_opened::hand_opening;
+use host_opened_stretches::hand_opened_stretch;
 use structure::source::Source;
 ghost use Rattle.structure.specs.Source.{wholeFile, moovAlone};
 ghost use Rattle.host_opened.specs.Hands.{HandsOpening, HandsSample, HandsNumber, HandsTime};
+ghost use Rattle.host_opened_stretches.specs.Hands.{HandsStretch};
 
 // Opens a track: its handle in 19 places.
 #[no_mangle]
@@ -61,4 +63,19 @@ pub extern "C" fn chaldoref_opened_media_time(
     ensures { λ r. ⌜ HandsTime (now (lent .entry)) (now (handle .entry)) t (now (places .entry)) r (now (places .exit)) ⌝ }
 {
     hand_opened_media_time(lent, handle, t, places)
+}
+
+// The stretch from a to b by a handle: a pair (offset, length) for each chunk touched in the room, and in two places how many pairs and the total of bytes.
+#[no_mangle]
+pub extern "C" fn chaldoref_opened_stretch(
+    lent: &[u8],
+    handle: &[u64],
+    a: u32,
+    b: u32,
+    room: &mut [u64],
+    places: &mut [u64],
+) -> u32
+    ensures { λ r. ⌜ HandsStretch (now (lent .entry)) (now (handle .entry)) a b (now (room .entry)) (now (places .entry)) r (now (room .exit)) (now (places .exit)) ⌝ }
+{
+    hand_opened_stretch(lent, handle, a, b, room, places)
 }

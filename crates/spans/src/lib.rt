@@ -11,12 +11,9 @@ ghost use lib.ListN.{length};
 ghost use lib.Seq.{sets};
 ghost use Rattle.lists.specs.Lists.{sum, holder};
 ghost use Rattle.runs.specs.Runs.{perSample};
-ghost use Rattle.atoms.specs.Kinds.{stts};
-ghost use Rattle.structure.specs.Track.{tableOf, samplesOf};
-ghost use Rattle.track.specs.Refusals.{totalIn};
 ghost use Rattle.pairs.specs.Pairs.{flat};
-ghost use Rattle.pairs.specs.Walks.{pairsBetween, lengthsOf};
-ghost use Rattle.spans.specs.Spans.{Usable, spanIn, spanPairs, MayPut};
+ghost use Rattle.pairs.specs.Walks.{lengthsOf};
+ghost use Rattle.spans.specs.Spans.{Usable, spanIn, spanSaid, spanPairs};
 
 // Samples by their indices: from the first up to, not including, `stop`.
 pub struct Span {
@@ -31,33 +28,47 @@ pub enum Asked {
 }
 
 // The index of the sample at a media time.
-fn index_at(trak: &[u8], t: u32) -> u32
-    requires { ⌜ Usable (2 ^ 64) (now trak) × (t < totalIn (now trak)) ⌝ }
-    ensures { λ r. ⌜ (r ≡ holder (perSample (tableOf stts (now (trak .entry)))) t) × (r < 1048576) ⌝ }
+fn index_at(stts: &[u8], t: u32) -> u32
+    requires { ⌜ (length (now stts) < 2 ^ 32) × (t < sum (perSample (now stts))) × (holder (perSample (now stts)) t < 2 ^ 32) ⌝ }
+    ensures { λ r. ⌜ r ≡ holder (perSample (now (stts .entry))) t ⌝ }
 {
-    match runs::sample_at(table(trak, kinds::STTS), t) {
+    match runs::sample_at(stts, t) {
         Lookup::At(index) => index as u32,
         Lookup::Outside => 0,
     }
 }
 
-// The samples of the stretch from a to b of a track; 15 where it lies outside. That b is not above the total is known by the sample at b - 1, so that the
-// total need not be added first.
-pub fn span_in(trak: &[u8], a: u32, b: u32) -> Asked
-    requires { ⌜ Usable (2 ^ 64) (now trak) ⌝ }
-    ensures { λ r. ⌜ r ≡ spanIn (now (trak .entry)) a b ⌝ }
+// The samples of the stretch from a to b, by the bytes of stts and the number of samples, whatever these are; 15 where it lies outside. That b is not above
+// the total is known by the sample at b - 1, so that the total need not be added first.
+pub fn span_of(stts: &[u8], samples: u32, a: u32, b: u32) -> Asked
+    ensures { λ r. ⌜ r ≡ spanSaid (now (stts .entry)) samples a b ⌝ }
 {
     if b <= a {
         return Asked::Refused(15);
     }
-    match runs::sample_at(table(trak, kinds::STTS), b - 1) {
+    if 4294967295 < stts.len() {
+        return Asked::Refused(15);
+    }
+    match runs::sample_at(stts, b - 1) {
         Lookup::At(last) => {
-            let from = index_at(trak, a);
+            if samples as u64 <= last {
+                return Asked::Refused(15);
+            }
+            let from = index_at(stts, a);
             let stop = last as u32 + 1;
             Asked::Samples(Span { from, stop })
         }
         Lookup::Outside => Asked::Refused(15),
     }
+}
+
+// The samples of the stretch from a to b of a track; 15 where it lies outside.
+pub fn span_in(trak: &[u8], a: u32, b: u32) -> Asked
+    requires { ⌜ Usable (2 ^ 64) (now trak) ⌝ }
+    ensures { λ r. ⌜ r ≡ spanIn (now (trak .entry)) a b ⌝ }
+{
+    let samples = u32_at(table(trak, kinds::STSZ), 16);
+    span_of(table(trak, kinds::STTS), samples, a, b)
 }
 
 // How many chunks some samples of a track touch.
@@ -87,23 +98,4 @@ pub fn put_in(trak: &[u8], s: Span, room: &mut [u32]) -> u64
         s.stop,
         room,
     )
-}
-
-// Puts the pairs of some samples into a room of 64-bit numbers.
-fn put_wide(stsc: &[u8], stsz: &[u8], offsets: &[u8], chunks: u32, s: Span, room: &mut [u64]) -> u64
-    requires { ⌜ MayPut (now stsc) (now stsz) (now offsets) chunks s (length (now room)) ⌝ }
-    ensures { λ r. ⌜ (r ≡ sum (lengthsOf (pairsBetween (now (stsc .entry)) (now (stsz .entry)) (now (offsets .entry)) chunks (s .from) (s .stop)))) × (now (room .exit) ≡ sets (now (room .entry)) 0 (flat (pairsBetween (now (stsc .entry)) (now (stsz .entry)) (now (offsets .entry)) chunks (s .from) (s .stop)))) ⌝ }
-{
-    wide_pairs::put_pairs(stsc, stsz, offsets, chunks, s.from, s.stop, room)
-}
-
-// The same of a track.
-pub fn put_wide_in(trak: &[u8], s: Span, room: &mut [u64]) -> u64
-    requires { ⌜ Usable (2 ^ 64) (now trak) × (s .from ≤ s .stop) × (s .stop ≤ samplesOf (now trak)) × (2 * length (spanPairs (now trak) s) ≤ length (now room)) ⌝ }
-    ensures { λ r. ⌜ (r ≡ sum (lengthsOf (spanPairs (now (trak .entry)) s))) × (now (room .exit) ≡ sets (now (room .entry)) 0 (flat (spanPairs (now (trak .entry)) s))) ⌝ }
-{
-    let stsc = table(trak, kinds::STSC);
-    let stsz = table(trak, kinds::STSZ);
-    let offsets = offset_table(trak);
-    put_wide(stsc, stsz, offsets, u32_at(offsets, 12), s, room)
 }

@@ -1,15 +1,14 @@
 -- The stretch question, from what the code has of the track: its samples, its pairs, and each of its answers.
 -- Assumes nothing.
-use Prim.Native.Nat.{ℕ, zero, suc, _+_, _*_, _-_, _/_, _^_, _≤_, _<_, max}
+use Prim.Native.Nat.{ℕ, zero, suc, _-_, _/_, _^_, _≤_, _<_, max}
 use mathlib.Core.Path.{_≡_, refl, sym, ap, subst, _∙_}
-use mathlib.Core.List.{List, _++_}
+use mathlib.Core.List.{List}
 use mathlib.Core.Bool.{Bool, true, false, cond, _&&_}
 use native.Mathlib.Omega.{arith}
-use native.Mathlib.Nat.{zero-add, div-lt-iff-lt-mul}
-use borrow.Author.Tests.{eq-eqb, ne-eqb, lt-ltb, le-ltb, ltb-true, leb-true}
-use lib.ListN.{length, drop}
-use lib.Dec.{eqb, ltb, leb, lit<}
-use lib.Seq.{sets, sets-eq}
+use borrow.Author.Tests.{ne-eqb, ltb-true, leb-true}
+use lib.ListN.{length}
+use lib.Dec.{eqb, ltb, leb}
+use lib.Seq.{sets}
 use Rattle.atoms.specs.Kinds.{stts, stsc, stsz}
 use Rattle.lists.specs.Lists.{sum, holder}
 use Rattle.lists.proofs.Places.{holder-holds, holds-below, holder-mono}
@@ -25,13 +24,12 @@ use Rattle.structure.proofs.Callers.{none-else}
 use Rattle.track.specs.Track.{trackOf}
 use Rattle.track.specs.Refusals.{totalIn}
 use Rattle.track.proofs.Agreed.{agreed-tables}
-use Rattle.movie.specs.Rooms.{noRoom, filledRoom, refusedWith}
-use Rattle.movie.proofs.Answers.{puts-refused, puts-answer}
+use Rattle.movie.specs.Rooms.{noRoom, refusedWith}
+use Rattle.movie.proofs.Answers.{puts-refused}
 use Rattle.pairs.specs.Pairs.{flat}
 use Rattle.pairs.specs.Walks.{lengthsOf}
 use Rattle.pairs.specs.declared.Pair.{Pair}
 use Rattle.pairs.proofs.Touched.{touched-sum}
-use Rattle.pairs.proofs.Filling.{flat-length}
 use Rattle.spans.specs.Spans.{Usable, Spans, spanIn, spanPairs}
 use Rattle.spans.specs.declared.Span.{Span}
 use Rattle.spans.specs.declared.Asked.{Asked}
@@ -42,8 +40,10 @@ use Rattle.questions.proofs.Asking.{asked}
 use Rattle.edits.specs.declared.MediaTime.{MediaTime}
 use Rattle.stretch.specs.Spans.{spanAsked}
 use Rattle.stretch.specs.Stretches.{firstIn, pastIn, pairsIn, bytesIn, stretchPairs, spanAt, spanRefusal, stretchRefusal, stretchAsked, stretchNumbers, Stretches}
+use Rattle.stretch.specs.Said.{PutsPairs}
 use Rattle.stretch.specs.declared.StretchAnswer.{StretchAnswer}
 use Rattle.stretch.specs.declared.StretchAnswer.the-variants.{Pairs, Refused}
+use Rattle.stretch.proofs.Puts.{pairs-no-room, pairs-put}
 
 -- ---- the refusal
 
@@ -171,6 +171,12 @@ no-span s w id a b room r e n = answered s w id a b room r (first-of (spanAt s w
     first-of : (x : ℕ) → x ≡ r → orElse x (noRoom (flat (stretchPairs s id a b)) room) ≡ r
     first-of x q = rw (q, ne-eqb r 0 n)
 
+-- by its pairs, where the refusal before the room is looked at is known
+pub as-stretches : (s : List ℕ) (w : Source) (id : ℕ) (a b : MediaTime) (room : List ℕ) (k : ℕ) (qs : List Pair) → spanRefusal s w id a b ≡ k → qs ≡ stretchPairs s id a b
+    → sum (lengthsOf qs) ≡ bytesIn (trackOf (trackAsked s id)) a b → (r : StretchAnswer) (after : List ℕ) → PutsPairs k qs room r after → Stretches s w id a b room r after
+unfolding stretchRefusal
+as-stretches s w id a b room k qs ek eq eb r after p = rw (ek, ← eb, ← eq) p
+
 module _ (s t room : List ℕ) (w : Source) (id : ℕ) (a b : MediaTime) (r : ℕ) (e : r ≡ spanAt s w id (a .0) (b .0)) (z : r ≡ 0) (d : t ≡ trackAsked s id) (p : Span)
     (q : Spans t (a .0) (b .0) p) (n : ℕ) (c : n ≡ length (spanPairs t p)) where
   spans : InSpan s w id (a .0) (b .0)
@@ -179,31 +185,16 @@ module _ (s t room : List ℕ) (w : Source) (id : ℕ) (a b : MediaTime) (r : �
   same-pairs : spanPairs t p ≡ stretchPairs s id a b
   same-pairs = pairs-are s t w id a b spans d p q
 
-  numbers-are : length (flat (stretchPairs s id a b)) ≡ 2 * n
-  numbers-are = omega (arith, flat-length (stretchPairs s id a b), ap length same-pairs, c)
-
-  then-room : stretchRefusal s w id a b room ≡ noRoom (flat (stretchPairs s id a b)) room
-  unfolding stretchRefusal spanRefusal orElse
-  then-room = rw (← e, eq-eqb r 0 z)
+  as-asked : (x : StretchAnswer) (after : List ℕ) → PutsPairs 0 (spanPairs t p) room x after → Stretches s w id a b room x after
+  unfolding spanRefusal
+  as-asked = as-stretches s w id a b room 0 (spanPairs t p) (sym e ∙ z) same-pairs (bytes-are s t w id a b spans d p q)
 
   pub no-room : length room / 2 < n → Stretches s w id a b room (Refused 16) room
-  unfolding noRoom
-  no-room h =
-      let k = div-lt-iff-lt-mul {x = length room} {y = n} (lit< tt) .0 h in
-      answered s w id a b room 16 (then-room ∙ rw (lt-ltb (length room) (length (flat (stretchPairs s id a b))) (omega (arith, numbers-are)))) (λ y. omega arith)
+  no-room h = as-asked (Refused 16) room (pairs-no-room (spanPairs t p) room n c h)
 
   pub whole-stretch : (bytes : ℕ) (after : List ℕ) → n ≤ length room / 2 → bytes ≡ sum (lengthsOf (spanPairs t p)) → after ≡ sets room 0 (flat (spanPairs t p))
       → Stretches s w id a b room (Pairs n bytes) after
-  unfolding noRoom stretchNumbers filledRoom
-  whole-stretch bytes after h f g =
-      let k : stretchRefusal s w id a b room ≡ 0 = then-room ∙ rw (le-ltb (length room) (length (flat (stretchPairs s id a b))) (omega (arith, numbers-are))) in
-      let m : n ≡ length (stretchPairs s id a b) = c ∙ ap length same-pairs in
-      let y : bytes ≡ bytesIn (trackOf (trackAsked s id)) a b = f ∙ bytes-are s t w id a b spans d p q in
-      let l = flat (stretchPairs s id a b) in
-      let v : sets room 0 l ≡ l ++ drop (length l) room = rw (zero-add) at (sets-eq l room 0 (omega (arith, numbers-are))) in
-      puts-answer stretchNumbers (refusedWith 2) Refused (λ j. refl) (stretchAsked s id a b) l room (stretchRefusal s w id a b room) (Pairs n bytes) after k
-      (rw (m, y))
-      (g ∙ ap (λ (x : List Pair). sets room 0 (flat x)) same-pairs ∙ v)
+  whole-stretch bytes after h f g = as-asked (Pairs n bytes) after (pairs-put (spanPairs t p) room n c bytes after h f g)
 
 -- of a whole file, by the source that the code makes
 pub of-whole : (s : List ℕ) (w : Source) (id : ℕ) (a b : MediaTime) (room : List ℕ) (r : StretchAnswer) (after : List ℕ) → w ≡ wholeFile

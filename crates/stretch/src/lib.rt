@@ -1,13 +1,18 @@
 // The byte ranges of a stretch of media time, in lent numbers of 32 or 64 bits.
+pub mod tables;
+
+use bigendian::u32_at;
 use edits::MediaTime;
+use places::part_of;
+use places::trak::parts_of;
 use questions::ask_refusal;
 use questions::track_asked;
 use spans::Asked;
 use spans::count_in;
 use spans::put_in;
-use spans::put_wide_in;
 use spans::span_in;
 use structure::source::Source;
+use tables::stretch_in;
 ghost use mathlib.Core.Path.{_≡_};
 ghost use Rattle.structure.specs.Source.{wholeFile};
 ghost use Rattle.stretch.specs.Spans.{spanAsked};
@@ -80,18 +85,23 @@ pub fn stretch_wide(
 ) -> StretchAnswer
     ensures { λ r. ⌜ Stretches (now (lent .entry)) source id a b (now (room .entry)) r (now (room .exit)) ⌝ }
 {
-    let first = a.0;
-    let last = b.0;
-    match span_asked(lent, source, id, first, last) {
-        Asked::Refused(r) => StretchAnswer::Refused(r),
-        Asked::Samples(span) => {
-            let trak = track_asked(lent, id);
-            let many = count_in(trak, span) as usize;
-            if room.len() / 2 < many {
-                return StretchAnswer::Refused(16);
-            }
-            let bytes = put_wide_in(trak, span, room);
-            StretchAnswer::Pairs(many, bytes)
-        }
+    let refused = ask_refusal(lent, source, id);
+    if refused != 0 {
+        return StretchAnswer::Refused(refused);
     }
+    let trak = track_asked(lent, id);
+    let p = parts_of(trak);
+    let stsz = part_of(trak, p.stsz);
+    let offsets = part_of(trak, p.offsets);
+    stretch_in(
+        part_of(trak, p.stts),
+        part_of(trak, p.stsc),
+        stsz,
+        offsets,
+        u32_at(stsz, 16),
+        u32_at(offsets, 12),
+        a,
+        b,
+        room,
+    )
 }

@@ -1,7 +1,7 @@
 -- `stretch::span_asked` meets its contract.
 -- Assumes nothing.
 use borrow.Author.Needs.{needs}
-use mathlib.Core.Path.{sym, ap, _∙_}
+use mathlib.Core.Path.{sym, _∙_}
 use borrow.Author.Tests.{eq-eqb, ne-eqb}
 use Rattle.stretch.specs.Spans.{spanAsked}
 use Rattle.stretch.proofs.Spanning.{usable}

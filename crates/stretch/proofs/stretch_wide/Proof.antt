@@ -1,68 +1,67 @@
--- `stretch::stretch_wide` meets its contract: each way out is one of the answers of the question.
+-- `stretch::stretch_wide` meets its contract: the film's refusal, or what the track's tables say.
 -- Assumes nothing.
 use borrow.Author.Needs.{needs}
-use mathlib.Core.Path.{refl, sym, _∙_}
-use native.Mathlib.Omega.{arith}
-use Rattle.stretch.proofs.Spanning.{asked-refused, asked-samples, no-span, usable, span-order, span-ends, no-room, whole-stretch}
+use Rattle.stretch.proofs.Saying.{film-refused, said-asked}
+use mathlib.Core.Path.{_∙_}
 use Rattle.stretch.proofs.stretch_wide.Statement.{statement}
 use Rattle.stretch.proofs.stretch_wide.Tie as tie
 
-span-asked-requires : tie.Need-span-asked-requires
-span-asked-requires c κs = search needs
+ask-refusal-requires : tie.Need-ask-refusal-requires
+ask-refusal-requires c κs = search needs
 
-enum-known-r : tie.Need-enum-known-r
-enum-known-r c = search needs
-
-enum-known-span : tie.Need-enum-known-span
-enum-known-span c = search needs
+returns : tie.Need-returns
+returns c = film-refused _ _ _ _ _ _ _ (c .before .ask-refusal .ensures) (c .if1 .taken)
 
 track-asked-requires : tie.Need-track-asked-requires
 track-asked-requires c κs = search needs
 
-count-in-requires : tie.Need-count-in-requires
-count-in-requires c κs =
-    let w = asked-samples _ _ _ _ _ _ (sym (c .before .before .span .given .1) ∙ c .before .before .before .before .span-asked .ensures) in
-    usable _ _ _ _ (w .2 .asks) (c .track-asked .ensures)
+parts-of-requires : tie.Need-parts-of-requires
+parts-of-requires c κs = search needs
 
-returns : tie.Need-returns
-returns c =
-    let w = asked-samples _ _ _ _ _ _ (sym (c .before .before .before .before .span .given .1) ∙ c .before .before .before .before .before .before .span-asked .ensures) in
-    let d = c .before .before .track-asked .ensures in
-    no-room _ _ _ _ _ _ _ _ (w .0) refl d _ (rw d (w .1)) _ (c .before .count-in .ensures) (c .if1 .taken)
+part-of-requires : tie.Need-part-of-requires
+part-of-requires c κs = search needs
 
-put-wide-in-requires : tie.Need-put-wide-in-requires
-put-wide-in-requires c κs =
-    let w = asked-samples _ _ _ _ _ _ (sym (c .before .before .before .before .before .span .given .1) ∙ c .before .before .before .before .before .before .before .span-asked .ensures) in
-    let d = c .before .before .before .track-asked .ensures in
-    let p = c .before .before .before .before .before .span .given .0 .0 in
-    (usable _ _ _ _ (w .2 .asks) d, span-order _ _ _ _ _ _ (w .2) d p (rw d (w .1)), span-ends _ _ _ _ _ _ (w .2) d p (rw d (w .1)), rw (← c .before .before .count-in .ensures) (omega (arith, c .before .if1 .left)))
+part-of-requires-2 : tie.Need-part-of-requires-2
+part-of-requires-2 c κs = search needs
 
-returns-2 : tie.Need-returns-2
-returns-2 c =
-    let w = asked-refused _ _ _ _ _ _ (sym (c .before .r .given .1) ∙ c .before .before .before .span-asked .ensures) in
-    no-span _ _ _ _ _ _ _ (w .0) (w .1)
+part-of-requires-3 : tie.Need-part-of-requires-3
+part-of-requires-3 c κs = search needs
+
+part-of-requires-4 : tie.Need-part-of-requires-4
+part-of-requires-4 c κs = search needs
+
+u32-at-requires : tie.Need-u32-at-requires
+u32-at-requires c κs = search needs
+
+u32-at-requires-2 : tie.Need-u32-at-requires-2
+u32-at-requires-2 c κs = search needs
+
+stretch-in-requires : tie.Need-stretch-in-requires
+stretch-in-requires c κs = search needs
 
 same-length : tie.Need-same-length
 same-length c = search needs
 
-returns-3 : tie.Need-returns-3
-returns-3 c =
-    let w = asked-samples _ _ _ _ _ _ (sym (c .before .before .before .before .before .before .before .before .span .given .1) ∙ c .before .before .before .before .before .before .before .before .before .before .span-asked .ensures) in
-    let d = c .before .before .before .before .before .before .track-asked .ensures in
-    let q = c .before .before in
-    whole-stretch _ _ _ _ _ _ _ _ (w .0) refl d _ (rw d (w .1)) _ (c .before .before .before .before .before .count-in .ensures) _ _ (c .before .before .before .before .if1 .left) (q .put-wide-in .ensures .0) (q .put-wide-in .ensures .1)
+returns-2 : tie.Need-returns-2
+returns-2 c =
+    let p = c .before .before .before .before .before .before .before .before .before .before .parts-of .ensures in
+    said-asked _ _ _ _ _ _ _ (c .before .before .before .before .before .before .before .before .before .before .before .before .before .ask-refusal .ensures) (c .before .before .before .before .before .before .before .before .before .before .before .before .if1 .left) (c .before .before .before .before .before .before .before .before .before .before .before .track-asked .ensures) _ _ _ _ _ _ (c .before .before .before .before .before .before .before .part-of3 .ensures ∙ p .stts) (c .before .before .before .before .before .before .part-of4 .ensures ∙ p .stsc) (c .before .before .before .before .before .before .before .before .before .part-of .ensures ∙ p .stsz)
+    (c .before .before .before .before .before .before .before .before .part-of2 .ensures ∙ p .offsets) (c .before .before .before .before .before .u32-at .ensures) (c .before .before .before .before .u32-at2 .ensures) _ _ _ (c .before .before .stretch-in .ensures)
 
 pub stretch-wide-spec : {M : Type 1} → statement M
 stretch-wide-spec =
     tie.close
     (tie.spec
-    span-asked-requires
-    enum-known-r
-    enum-known-span
-    track-asked-requires
-    count-in-requires
+    ask-refusal-requires
     returns
-    put-wide-in-requires
-    returns-2
+    track-asked-requires
+    parts-of-requires
+    part-of-requires
+    part-of-requires-2
+    part-of-requires-3
+    part-of-requires-4
+    u32-at-requires
+    u32-at-requires-2
+    stretch-in-requires
     same-length
-    returns-3)
+    returns-2)
