@@ -29,7 +29,7 @@ use Rattle.track.specs.Track.{trackOf}
 use Rattle.track.specs.Refusals.{totalIn}
 use Rattle.movie.proofs.Answers.{gives-answer}
 use Rattle.questions.specs.Asked.{askRefusal, trackAsked}
-use Rattle.questions.specs.Said.{sampleIn, isLow, saidIn, isAsked, sampleSaid}
+use Rattle.questions.specs.Said.{sampleIn, isLow, foundAs, saidIn, isAsked, sampleSaid}
 use Rattle.questions.specs.Samples.{sampleOf, sampleRefusal, sampleAsked, sampleZeros, sampleNumbers, Samples}
 use Rattle.questions.specs.declared.samples.Sample.{Sample}
 use Rattle.questions.specs.declared.samples.SampleAnswer.{SampleAnswer}
@@ -59,50 +59,32 @@ module _ (d c k o : ℕ) where
       let b = and-both (ltb c k) _ (a .1) in
       (ltb-true _ _ (a .0), ltb-true _ _ (b .0), ltb-true _ _ (b .1))
 
--- ---- the ways out of `sample_in`
+-- ---- the ways out of `sample_found`
 
-module _ (a y c z o k : List ℕ) (n i : ℕ) (r : Timing) (p : Located) (off : ℕ) (b : Bool) (er : r ≡ timingOf (perSample a) i) (ep : p ≡ locatedIn (perChunk c n) (descriptionIds c n) i)
-    (eo : off ≡ min (locatedOffset (chunkOffsets o) (sizes z) p i) 18446744073709551615) (eb : b ≡ isLow (r .start) (p .chunk) n off) where
-  offset-is : off ≡ sampleIn a y c z o k n i .offset
-  unfolding sampleIn
-  offset-is =
-      eo ∙ ap (λ m. min m 18446744073709551615) (ap (λ q. locatedOffset (chunkOffsets o) (sizes z) q i) ep ∙ offset-located (perChunk c n) (descriptionIds c n) (chunkOffsets o) (sizes z) i)
+module _ (r : Timing) (shift : ℤ) (p : Located) (sync : Bool) (z o : List ℕ) (n i off : ℕ) (b : Bool) (eo : off ≡ min (locatedOffset (chunkOffsets o) (sizes z) p i) 18446744073709551615)
+    (eb : b ≡ isLow (r .start) (p .chunk) n off) where
+  low-is : isLow (r .start) (p .chunk) n (min (locatedOffset (chunkOffsets o) (sizes z) p i) 18446744073709551615) ≡ b
+  low-is = rw (← eo) (sym eb)
 
-  start-is : r .start ≡ before (perSample a) i
-  unfolding timingOf
-  start-is = ap (λ (t : Timing). t .start) er
+  pub found-refused : b ≡ false → Refused 15 ≡ foundAs r shift p sync z o n i
+  unfolding foundAs
+  found-refused q = rw (low-is ∙ q)
 
-  chunk-is : p .chunk ≡ holder (perChunk c n) i
-  unfolding locatedIn
-  chunk-is = ap (λ (l : Located). l .chunk) ep
+  pub found-is : b ≡ true → (comp : ℤ) (size : ℕ) → comp ≡ pos (r .start) +ℤ shift → size ≡ getD (sizes z) i 0
+      → Found (record { decode = r .start; duration = r .duration; composition = comp; sync = sync; description = p .description; chunk = p .chunk + 1; offset = off; size = size })
+      ≡ foundAs r shift p sync z o n i
+  unfolding foundAs
+  found-is q comp size ec em = rw (low-is ∙ q, eo, ec, em)
 
-  low-is : isLow (sampleIn a y c z o k n i .decode) (holder (perChunk c n) i) n (sampleIn a y c z o k n i .offset) ≡ b
-  unfolding sampleIn
-  low-is = sym (eb ∙ (λ j. isLow (start-is j) (chunk-is j) n (offset-is j)))
-
-  pub said-refused : b ≡ false → Refused 15 ≡ saidIn a y c z o k n i
-  unfolding saidIn
-  said-refused q = rw (low-is ∙ q)
-
-  pub said-found : b ≡ true → (shift comp : ℤ) (sync : Bool) (size : ℕ) → shift ≡ compositionOffset y i → comp ≡ pos (r .start) +ℤ shift → sync ≡ isSync k (i + 1) → size ≡ getD (sizes z) i 0
-      → Found (record { decode = r .start; duration = r .duration; composition = comp; sync = sync; description = p .description; chunk = p .chunk + 1; offset = off; size = size }) ≡ saidIn a y c z o k n i
-  unfolding saidIn sampleIn timingOf locatedIn
-  said-found q shift comp sync size es ec ek em =
-      let u : i + 1 ≡ suc i = omega arith in
-      let v : p .chunk + 1 ≡ suc (holder (perChunk c n) i) = omega (arith, chunk-is) in
-      let x : _≡_ {A = Sample} (record { decode = r .start; duration = r .duration; composition = comp; sync = sync; description = p .description; chunk = p .chunk + 1; offset = off; size = size }) (sampleIn a y c z o k n i) =
-      λ j. record {
-        decode = start-is j;
-        duration = ap (λ (t : Timing). t .duration) er j;
-        composition = (ec ∙ (λ l. pos (start-is l) +ℤ es l)) j;
-        sync = (ek ∙ ap (isSync k) u) j;
-        description = ap (λ (l : Located). l .description) ep j;
-        chunk = v j;
-        offset = offset-is j;
-        size = em j;
-      }
-      in
-      rw (low-is ∙ q) (ap Found x)
+-- by what the tables say
+pub found-said : (a y c z o k : List ℕ) (n i : ℕ) (r : Timing) (shift : ℤ) (p : Located) (sync : Bool) → r ≡ timingOf (perSample a) i → shift ≡ compositionOffset y i
+    → p ≡ locatedIn (perChunk c n) (descriptionIds c n) i → sync ≡ isSync k (i + 1) → foundAs r shift p sync z o n i ≡ saidIn a y c z o k n i
+unfolding foundAs saidIn sampleIn timingOf locatedIn
+found-said a y c z o k n i r shift p sync er es ep ek =
+    let u : i + 1 ≡ suc i = omega arith in
+    let v : holder (perChunk c n) i + 1 ≡ suc (holder (perChunk c n) i) = omega arith in
+    let w = offset-located (perChunk c n) (descriptionIds c n) (chunkOffsets o) (sizes z) i in
+    rw (er, es, ep, ek, u, v) (rw w refl)
 
 -- ---- the ways out of `sample_of`, of any tables
 

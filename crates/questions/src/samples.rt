@@ -2,8 +2,11 @@
 use super::ask_refusal;
 use super::track_asked;
 use bigendian::u32_at;
+use chunks::Located;
 use chunks::locate;
 use places::trak::parts_of;
+use runs::Timing;
+use runs::composition_offset;
 use runs::timing_of;
 use structure::source::Source;
 use words::is_sync;
@@ -13,7 +16,7 @@ ghost use Prim.Native.Nat.{_+_, _≤_, _<_, _^_};
 ghost use lib.ListN.{length};
 ghost use lib.IntN.{pos, _+ℤ_};
 ghost use lib.Signed.{mag};
-ghost use Rattle.questions.specs.Said.{isLow, saidIn, sampleSaid};
+ghost use Rattle.questions.specs.Said.{isLow, foundAs, saidIn, sampleSaid};
 ghost use Rattle.questions.specs.Samples.{Samples, PartOf, SampleBytes};
 
 // What the tables say of a sample.
@@ -55,7 +58,38 @@ fn is_low(decode: u64, chunk: u64, chunks: u32, offset: u64) -> bool
     offset < 9223372036854775808
 }
 
-// What the tables say of the sample with an index, from 0; refused where its numbers are not low, which they are in an accepted track.
+// The sample with an index, from 0, by what was looked up of it; refused where its numbers are not low, which they are in an accepted track.
+pub fn sample_found(
+    timing: Timing,
+    shift: i64,
+    place: Located,
+    sync: bool,
+    stsz: &[u8],
+    offsets: &[u8],
+    chunks: u32,
+    index: u32,
+) -> SampleAnswer
+    requires { ⌜ mag shift < 2 ^ 31 ⌝ }
+    ensures { λ r. ⌜ r ≡ foundAs timing shift place sync (now (stsz .entry)) (now (offsets .entry)) chunks index ⌝ }
+{
+    let start = timing.start;
+    let offset = chunks::located_offset(stsz, offsets, place, index);
+    if !is_low(start, place.chunk, chunks, offset) {
+        return SampleAnswer::Refused(15);
+    }
+    SampleAnswer::Found(Sample {
+        decode: start,
+        duration: timing.duration,
+        composition: shifted(start, shift),
+        sync,
+        description: place.description,
+        chunk: place.chunk + 1,
+        offset,
+        size: size_of(stsz, index),
+    })
+}
+
+// What the tables say of the sample with an index, from 0.
 fn sample_in(
     stts: &[u8],
     ctts: &[u8],
@@ -69,24 +103,16 @@ fn sample_in(
     requires { ⌜ (length (now stsc) < 2 ^ 32) × (index < 4294967295) ⌝ }
     ensures { λ r. ⌜ r ≡ saidIn (now (stts .entry)) (now (ctts .entry)) (now (stsc .entry)) (now (stsz .entry)) (now (offsets .entry)) (now (stss .entry)) chunks index ⌝ }
 {
-    let timing = timing_of(stts, index);
-    let start = timing.start;
-    let place = locate(stsc, chunks, index);
-    let offset = chunks::located_offset(stsz, offsets, place, index);
-    if !is_low(start, place.chunk, chunks, offset) {
-        return SampleAnswer::Refused(15);
-    }
-    let shift = runs::composition_offset(ctts, index);
-    SampleAnswer::Found(Sample {
-        decode: start,
-        duration: timing.duration,
-        composition: shifted(start, shift),
-        sync: is_sync(stss, index + 1),
-        description: place.description,
-        chunk: place.chunk + 1,
-        offset,
-        size: size_of(stsz, index),
-    })
+    sample_found(
+        timing_of(stts, index),
+        composition_offset(ctts, index),
+        locate(stsc, chunks, index),
+        is_sync(stss, index + 1),
+        stsz,
+        offsets,
+        chunks,
+        index,
+    )
 }
 
 // Sample n, numbered from 1, by the bytes of its tables and the numbers of samples and chunks, whatever these are.
