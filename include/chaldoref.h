@@ -145,10 +145,10 @@ enum {
     CHALDOREF_OPENED_NUMBERS = 19
 };
 
-/* An index has a checkpoint for each so many samples, the first and what follows it, and as many numbers for each checkpoint. */
+/* From one checkpoint of an index to the next are as many samples, and each has as many numbers. */
 enum {
-    CHALDOREF_CHECKPOINT_SAMPLES = 128,
-    CHALDOREF_CHECKPOINT_NUMBERS = 17
+    CHALDOREF_CHECKPOINT_SAMPLES = 64,
+    CHALDOREF_CHECKPOINT_NUMBERS = 6
 };
 
 /* As many bytes of an atom's header are read at most. */
@@ -326,9 +326,10 @@ uint32_t chaldoref_opened_stretch(
 /*
  * The index of a track that was opened, with which a lookup takes no more time late in a track
  * than at its beginning: it starts at the checkpoint before what is asked, and not at the first
- * entry. Refusal 16.
- * index: chaldoref_index_numbers of the track's number of samples, which the caller keeps; as a
- *        handle they hold no pointer, and what each of them is may change with the version.
+ * entry. Refusal 16, whatever the bytes and the handle.
+ * index: as many numbers as chaldoref_index_numbers says of the track's samples, which the caller
+ *        keeps. As a handle they hold no pointer, and what each of them is may change with the
+ *        version. A longer one is filled so far and left from there on.
  * places: 1: how many numbers of the index are filled.
  */
 uint32_t chaldoref_index(
@@ -339,9 +340,10 @@ uint32_t chaldoref_index(
 
 /*
  * Sample n of the track, and the sample at media time t, by its index: the answers and places of
- * chaldoref_opened_sample and chaldoref_opened_sample_at. Refusals: 15, 16. lent and handle are
- * those that the index was filled with; with others, or with an index of any numbers, a call is
- * safe as with a handle of any numbers.
+ * chaldoref_opened_sample and chaldoref_opened_sample_at. Refusals: 15, 16; an index that is shorter
+ * than chaldoref_index fills it is refused 16 before 15 is judged. lent and handle are those that
+ * the index was filled with; with others, or with an index of any numbers, a call is as safe as
+ * with a handle of any numbers.
  */
 uint32_t chaldoref_indexed_sample(
     const uint8_t *lent, size_t lent_len,

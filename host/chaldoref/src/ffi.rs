@@ -241,9 +241,9 @@ pub fn opened_stretch(
     by_handle!(chaldoref_opened_stretch, lent, [handle], a, b, room, room_len)
 }
 
-/// As many samples have one checkpoint, and as many numbers it has.
-pub const CHECKPOINT_SAMPLES: usize = 128;
-pub const CHECKPOINT_NUMBERS: usize = 17;
+/// From one checkpoint of an index to the next are as many samples, and each has as many numbers.
+pub const CHECKPOINT_SAMPLES: usize = 64;
+pub const CHECKPOINT_NUMBERS: usize = 6;
 
 /// Fills the index of an opened track; answers how many numbers it has.
 pub fn index(lent: &[u8], handle: &Handle, index: &mut [u64]) -> Result<[u64; 1], Refusal> {

@@ -95,7 +95,7 @@ impl<'a> Opened<'a> {
     ///
     /// # Errors
     ///
-    /// [`Refusal::NoRoom`] where there is no memory for it: about a byte a sample.
+    /// [`Refusal::NoRoom`] where there is no memory for it: three quarters of a byte a sample.
     pub fn indexed(&self) -> Result<Indexed<'a>, Refusal> {
         let checkpoints = (self.track.samples as usize).div_ceil(CHECKPOINT_SAMPLES);
         let mut index = room::<u64>(CHECKPOINT_NUMBERS * checkpoints).unwrap_or_default();

@@ -90,7 +90,7 @@ fn opened(movie: &Movie, n: u32, t: u32) -> String {
     (line + &step(4, movie.sample(ONE, n).unwrap())).repeat(2)
 }
 
-/// The stretch and the lookups by the index, by both ways. An index of up to so many samples has one checkpoint.
+/// The stretch, and the lookups by the index, by both ways.
 fn indexed(movie: &Movie) -> String {
     let stretch = movie.stretch(ONE, MediaTime(24)..MediaTime(73)).unwrap();
     let at = movie.sample_at(ONE, MediaTime(71)).unwrap();
@@ -98,7 +98,7 @@ fn indexed(movie: &Movie) -> String {
         + &pairs(&stretch.pairs)
         + &format!("indexed 0 0: at {} {}\n", at.sample, at.entry)
         + &step(5, movie.sample(ONE, 4).unwrap());
-    lines.repeat(2) + "index of 0, 1, 4 and of more samples: 0 17 17 1\n"
+    lines.repeat(2) + "index of 0, 1, 4 and of more samples: 0 6 6 1\n"
 }
 
 fn media_time(movie: &Movie, t: u32) -> String {
