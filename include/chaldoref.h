@@ -14,7 +14,7 @@
  * then 64-bit numbers, and the bytes of a sample are not offered.
  * chaldoref_top_level_step tells where in a file its moov is.
  *
- * A slice is a pointer and a length, counted in elements. Five kinds are lent:
+ * A slice is a pointer and a length, counted in elements. Six kinds are lent:
  *
  *   file, moov,  bytes that are read
  *   slip
@@ -27,6 +27,8 @@
  *   stepper      a position in a track, which steps read and move on
  *   handle       a track that is opened once: chaldoref_open writes it, as places, and
  *                questions read it
+ *   index        where in the tables of an opened track some of its samples are:
+ *                chaldoref_index writes it, as room, and lookups read it
  *
  * Places fewer than a function names are refused 16 as room is, and then nothing
  * at all is written. The order of refusals is: the file's (1 to 13 and 19, which is
@@ -43,15 +45,15 @@
  *
  * Threads. The functions keep no state: any number of threads may call any of them
  * at once, also on the same file, as long as no two calls are lent the same room,
- * out, places or stepper.
+ * out, places or stepper, and none a handle or an index that another writes.
  *
  * What the host keeps to (the proofs assume it: docs/TRUST.md):
  *   - no pointer is NULL, also where its length is 0 (the chaldoref_lend_ functions
  *     below make such a NULL a pointer that may be lent); each is aligned for its
  *     type and valid for its length, and no length is over PTRDIFF_MAX bytes;
- *   - nothing writes to file, moov, slip or a handle that is read during a call;
- *   - room, out, places and stepper overlap neither each other nor what is read, and
- *     nothing else reads or writes them during a call.
+ *   - nothing writes to file, moov, slip or a handle or an index that is read during a call;
+ *   - room, out, places, stepper, and a handle or an index that is written, overlap neither
+ *     each other nor what is read, and nothing else reads or writes them during a call.
  * Nothing of what is lent is kept after a call.
  *
  * What is proved are the functions that are only declared here. The static inline
@@ -70,9 +72,9 @@ extern "C" {
 
 /* The version of this header, and of the library that it belongs to. */
 #define CHALDOREF_VERSION_MAJOR 0
-#define CHALDOREF_VERSION_MINOR 4
+#define CHALDOREF_VERSION_MINOR 5
 #define CHALDOREF_VERSION_PATCH 0
-#define CHALDOREF_VERSION "0.4.0"
+#define CHALDOREF_VERSION "0.5.0"
 
 /* The refusals, by their numbers in documents 01 and 02. Of a file the lowest number that
    applies is given, but that 19 is judged after 11 and before 12. */
@@ -116,7 +118,8 @@ enum {
     CHALDOREF_EDITS_PLACES = 1,
     CHALDOREF_TOP_LEVEL_PLACES = 6,
     CHALDOREF_STEP_PLACES = 9,
-    CHALDOREF_STEPS_PLACES = 1
+    CHALDOREF_STEPS_PLACES = 1,
+    CHALDOREF_INDEX_PLACES = 1
 };
 
 /* How many numbers a track, a sample, a pair, a profile's record and an edit have in a room, and the most of each. */
@@ -140,6 +143,12 @@ enum {
 /* As many numbers has a track that is opened once, which the caller keeps. */
 enum {
     CHALDOREF_OPENED_NUMBERS = 19
+};
+
+/* From one checkpoint of an index to the next are as many samples, and each has as many numbers. */
+enum {
+    CHALDOREF_CHECKPOINT_SAMPLES = 64,
+    CHALDOREF_CHECKPOINT_NUMBERS = 6
 };
 
 /* As many bytes of an atom's header are read at most. */
@@ -267,7 +276,7 @@ uint32_t chaldoref_media_time(
     uint64_t *places, size_t places_len);
 
 /*
- * A track opened once: the film is judged here, and not again by the three questions that take the
+ * A track opened once: the film is judged here, and not again by the questions that take the
  * handle. Refusals: the file's but 11; 14, 16.
  * handle: CHALDOREF_OPENED_NUMBERS numbers that the caller keeps; zeros with a refusal; with 16,
  *         for fewer numbers, nothing is written. They hold no pointer: they say where in the lent
@@ -300,6 +309,53 @@ uint32_t chaldoref_opened_sample_at(
 uint32_t chaldoref_opened_media_time(
     const uint8_t *lent, size_t lent_len,
     const uint64_t *handle, size_t handle_len,
+    uint32_t t,
+    uint64_t *places, size_t places_len);
+
+/*
+ * The stretch from media time a to b of the track that was opened: the answer, room and places of
+ * chaldoref_moov_stretch, with pairs of 64-bit numbers also for a whole file. Refusals: 15, 16.
+ */
+uint32_t chaldoref_opened_stretch(
+    const uint8_t *lent, size_t lent_len,
+    const uint64_t *handle, size_t handle_len,
+    uint32_t a, uint32_t b,
+    uint64_t *room, size_t room_len,
+    uint64_t *places, size_t places_len);
+
+/*
+ * The index of a track that was opened, with which a lookup takes no more time late in a track
+ * than at its beginning: it starts at the checkpoint before what is asked, and not at the first
+ * entry. Refusal 16, whatever the bytes and the handle.
+ * index: as many numbers as chaldoref_index_numbers says of the track's samples, which the caller
+ *        keeps. As a handle they hold no pointer, and what each of them is may change with the
+ *        version. A longer one is filled so far and left from there on.
+ * places: 1: how many numbers of the index are filled.
+ */
+uint32_t chaldoref_index(
+    const uint8_t *lent, size_t lent_len,
+    const uint64_t *handle, size_t handle_len,
+    uint64_t *index, size_t index_len,
+    uint64_t *places, size_t places_len);
+
+/*
+ * Sample n of the track, and the sample at media time t, by its index: the answers and places of
+ * chaldoref_opened_sample and chaldoref_opened_sample_at. Refusals: 15, 16; an index that is shorter
+ * than chaldoref_index fills it is refused 16 before 15 is judged. lent and handle are those that
+ * the index was filled with; with others, or with an index of any numbers, a call is as safe as
+ * with a handle of any numbers.
+ */
+uint32_t chaldoref_indexed_sample(
+    const uint8_t *lent, size_t lent_len,
+    const uint64_t *handle, size_t handle_len,
+    const uint64_t *index, size_t index_len,
+    uint32_t n,
+    int64_t *places, size_t places_len);
+
+uint32_t chaldoref_indexed_sample_at(
+    const uint8_t *lent, size_t lent_len,
+    const uint64_t *handle, size_t handle_len,
+    const uint64_t *index, size_t index_len,
     uint32_t t,
     uint64_t *places, size_t places_len);
 
@@ -597,7 +653,7 @@ static inline const char *chaldoref_moov_refusal_text(uint32_t number, size_t mo
  * There is one for bytes that are read (file, moov, slip), for room of 32-bit and of 64-bit
  * numbers and of signed ones, for out and for places; the signed room is that of
  * chaldoref_edits and chaldoref_steps, the signed places are those of chaldoref_sample and
- * chaldoref_step; a stepper is lent as places are.
+ * chaldoref_step; a stepper is lent as places are, an index that is written as room of 64-bit numbers.
  */
 static inline const uint8_t *chaldoref_lend_bytes(const uint8_t *bytes)
 {
@@ -697,7 +753,7 @@ struct chaldoref_wide_pair {
     uint64_t length;
 };
 
-/* Pair i of the room of chaldoref_moov_stretch or chaldoref_read_any_slip. */
+/* Pair i of the room of chaldoref_moov_stretch, chaldoref_opened_stretch or chaldoref_read_any_slip. */
 static inline struct chaldoref_wide_pair chaldoref_wide_pair_of(const uint64_t *room, size_t i)
 {
     const uint64_t *numbers = room + CHALDOREF_PAIR_NUMBERS * i;
@@ -922,6 +978,48 @@ static inline uint32_t chaldoref_track_media_time(const uint8_t *lent, size_t le
     return refusal;
 }
 
+/* How many numbers the index of a track of so many samples has. */
+static inline size_t chaldoref_index_numbers(uint32_t samples)
+{
+    size_t whole = samples / CHALDOREF_CHECKPOINT_SAMPLES, rest = samples % CHALDOREF_CHECKPOINT_SAMPLES != 0;
+    return CHALDOREF_CHECKPOINT_NUMBERS * (whole + rest);
+}
+
+/* Fills the index of an opened track. Refusal 16 where it has fewer numbers than that. */
+static inline uint32_t chaldoref_track_index(const uint8_t *lent, size_t lent_len, const struct chaldoref_opened *track,
+                                             uint64_t *index, size_t index_len)
+{
+    uint64_t count[CHALDOREF_INDEX_PLACES];
+    return chaldoref_index(lent, lent_len, track->numbers, CHALDOREF_OPENED_NUMBERS, index, index_len, count,
+                           CHALDOREF_INDEX_PLACES);
+}
+
+/* Sample n of the track, by its index. Refusal 15. */
+static inline uint32_t chaldoref_track_indexed_sample(const uint8_t *lent, size_t lent_len,
+                                                      const struct chaldoref_opened *track, const uint64_t *index,
+                                                      size_t index_len, uint32_t n,
+                                                      struct chaldoref_moov_sample_info *sample)
+{
+    int64_t places[CHALDOREF_SAMPLE_PLACES];
+    uint32_t refusal = chaldoref_indexed_sample(lent, lent_len, track->numbers, CHALDOREF_OPENED_NUMBERS, index,
+                                                index_len, n, places, CHALDOREF_SAMPLE_PLACES);
+    *sample = chaldoref_moov_sample_of(places);
+    return refusal;
+}
+
+/* The sample at media time t, by its index. Refusal 15. */
+static inline uint32_t chaldoref_track_indexed_sample_at(const uint8_t *lent, size_t lent_len,
+                                                         const struct chaldoref_opened *track, const uint64_t *index,
+                                                         size_t index_len, uint32_t t,
+                                                         struct chaldoref_sample_at_info *at)
+{
+    uint64_t places[CHALDOREF_SAMPLE_AT_PLACES];
+    uint32_t refusal = chaldoref_indexed_sample_at(lent, lent_len, track->numbers, CHALDOREF_OPENED_NUMBERS, index,
+                                                   index_len, t, places, CHALDOREF_SAMPLE_AT_PLACES);
+    *at = chaldoref_sample_at_of(places);
+    return refusal;
+}
+
 /* How much of its room a stretch has filled, and its bytes. */
 struct chaldoref_stretch_info {
     size_t pairs;
@@ -935,6 +1033,18 @@ static inline struct chaldoref_stretch_info chaldoref_stretch_of(const uint64_t 
     stretch.pairs = (size_t)places[0];
     stretch.bytes = places[1];
     return stretch;
+}
+
+/* The stretch of an opened track from media time a to b. Refusals 15, and 16 for the room. */
+static inline uint32_t chaldoref_track_stretch(const uint8_t *lent, size_t lent_len,
+                                               const struct chaldoref_opened *track, uint32_t a, uint32_t b,
+                                               uint64_t *room, size_t room_len, struct chaldoref_stretch_info *stretch)
+{
+    uint64_t places[CHALDOREF_STRETCH_PLACES];
+    uint32_t refusal = chaldoref_opened_stretch(lent, lent_len, track->numbers, CHALDOREF_OPENED_NUMBERS, a, b, room,
+                                                room_len, places, CHALDOREF_STRETCH_PLACES);
+    *stretch = chaldoref_stretch_of(places);
+    return refusal;
 }
 
 /* The run of samples that has the highest bit rate. */

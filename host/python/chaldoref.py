@@ -25,8 +25,8 @@ from dataclasses import dataclass
 from typing import Any, BinaryIO, Dict, Iterator, Optional, Tuple, Union
 
 __all__ = [
-    "FEATURES", "ByteRange", "Edit", "Header", "MalformedSlip", "Movie", "Opened", "Peak", "ProfileRecord", "Refusal", "Refused",
-    "Sample", "SampleAt", "Slip", "Stretch", "Track", "read_any_slip", "read_slip",
+    "FEATURES", "ByteRange", "Edit", "Header", "Indexed", "MalformedSlip", "Movie", "Opened", "Peak", "ProfileRecord", "Refusal",
+    "Refused", "Sample", "SampleAt", "Slip", "Stretch", "Track", "read_any_slip", "read_slip",
 ]
 
 #: What the library and this module take as bytes. All but bytes are copied, since nothing may write to them in a call.
@@ -48,6 +48,7 @@ _MAX_TRACKS, _MAX_PAIRS, _MAX_RECORDS, _MAX_EDITS = 16, 1_048_576, 64, 256
 _SLIP_HEAD_BYTES, _SLIP_PAIR_BYTES, _SLIP_WIDE_PAIR_BYTES = 24, 10, 18
 _HEADER_BYTES, _TOP_LEVEL_PLACES = 16, 6
 _STEPPER_NUMBERS, _SAMPLE_NUMBERS, _OPENED_NUMBERS = 29, 8, 19
+_CHECKPOINT_SAMPLES, _CHECKPOINT_NUMBERS = 64, 6
 
 #: As many samples are had from the library at once.
 _FETCHED = 64
@@ -295,8 +296,9 @@ class Slip:
 class Movie:
     """A movie that the library has accepted. Times and totals of a track are in its own time scale.
 
-    A movie is made of a whole file's bytes, or, by read, of its moov alone, whatever the file's length. Each question
-    judges the tables again, in time that grows with them; samples goes through a track in one judging.
+    A movie is made of a whole file's bytes, or, by read, of its moov alone, whatever the file's length. The first
+    question about the samples, times or stretches of a track judges the tables, in time that grows with them, and those
+    after it do not; samples goes through a track in one judging. The other questions judge them each time.
     """
 
     def __init__(self, file: Bytes) -> None:
@@ -330,6 +332,8 @@ class Movie:
         count, = self._ask("track_list", 1, room=room)
         rows = _rows(room, count, _TRACK_NUMBERS)
         self._tracks = tuple(Track(row[0], _characters(row[1]), *row[2:]) for row in rows)
+        # The tracks that were opened, by their IDs.
+        self._opened: Dict[int, Opened] = {}
 
     @property
     def file(self) -> Optional[bytes]:
@@ -358,7 +362,7 @@ class Movie:
 
     def sample(self, track: int, n: int) -> Sample:
         """Sample n of a track, numbered from 1. Refusals 14, 15."""
-        return _sample(self._ask("sample", 8, track, n, place=ctypes.c_int64))
+        return self.opened(track).sample(n)
 
     def samples(self, track: int, start: Optional[int] = None) -> Iterator[Sample]:
         """The samples of a track, in order, from sample start on, numbered from 1: what sample answers of each, in one
@@ -371,35 +375,35 @@ class Movie:
         return _stepped(self._lent, stepper)
 
     def opened(self, track: int) -> "Opened":
-        """A track, opened once for many questions about its samples and times: the film is judged here and not again by
-        them. Refusal 14."""
-        return Opened(self._lent, self._ask("open", _OPENED_NUMBERS, track))
+        """A track, opened once for many questions about its samples, times and stretches: the film is judged here, the
+        first time that the track is opened or asked such a question, and not again by them. Refusal 14."""
+        track = _number(track)
+        if track not in self._opened:
+            handle = self._ask("open", _OPENED_NUMBERS, track)
+            self._opened[track] = Opened(self._lent, next(known for known in self._tracks if known.id == track), handle)
+        return self._opened[track]
 
     def sample_bytes(self, track: int, n: int) -> bytes:
         """The bytes of sample n of a track, numbered from 1. Refusals 14, 15. A ValueError where the movie was made of
         its moov alone: offset and size of the sample then tell where in the file they are."""
         if self._length is not None:
             raise ValueError("the movie was made of its moov alone, which has no sample's bytes")
-        offset, length = self._ask("sample_bytes", 2, track, n)
-        return self._lent[offset:offset + length]
+        sample = self.sample(track, n)
+        return self._lent[sample.offset:sample.offset + sample.size]
 
     def sample_at(self, track: int, t: int) -> SampleAt:
         """The sample at media time t: decode time <= t < decode time + duration. Refusals 14, 15."""
-        return SampleAt(*self._ask("sample_at", 2, track, t))
+        return self.opened(track).sample_at(t)
 
     def media_time(self, track: int, t: int) -> Optional[int]:
         """The media time that a track shows at movie time t, in the movie's time scale; None where nothing is shown.
         Refusals 14, 15."""
-        shown, media = self._ask("media_time", 2, track, t)
-        return media if shown else None
+        return self.opened(track).media_time(t)
 
     def stretch(self, track: int, a: int, b: int) -> Stretch:
         """The bytes of a track from media time a to b (a < b <= total): all samples from the one at a to the one at
         b - 1. Refusals 14, 15."""
-        kind = ctypes.c_uint32 if self._length is None else ctypes.c_uint64
-        room = _room(kind, _PAIR_NUMBERS * self._chunks(track))
-        count, total = self._ask("stretch", 2, track, a, b, room=room)
-        return Stretch(_pairs(room, count), total)
+        return self.opened(track).stretch(a, b)
 
     def write_slip(self, track: int, a: int, b: int) -> bytes:
         """The slip of a track's stretch from media time a to b, of form 2 where one of its numbers is 2^32 or more, which
@@ -444,7 +448,7 @@ class Movie:
         return Peak(*self._ask("peak", 2, track, _code(code)))
 
     def _chunks(self, track: int) -> int:
-        """How many pairs a stretch of a track has at most. The library refuses an unknown ID, whatever the room."""
+        """How many pairs a slip of a track has at most. The library refuses an unknown ID, whatever the room."""
         return next((known.chunks for known in self._tracks if known.id == track), 0)
 
     def _ask(self, name: str, count: int, *numbers: int, room: Any = None, place: Any = ctypes.c_uint64) -> Any:
@@ -463,31 +467,64 @@ class Movie:
 class Opened:
     """A track that Movie.opened has opened. Its answers are those of the movie."""
 
-    def __init__(self, lent: bytes, numbers: Any) -> None:
-        self._lent = lent
+    def __init__(self, lent: bytes, track: Track, numbers: Any) -> None:
+        self._lent, self._track = lent, track
         self._handle = (ctypes.c_uint64 * _OPENED_NUMBERS)(*numbers)
 
     def sample(self, n: int) -> Sample:
         """Sample n, numbered from 1. Refusal 15."""
-        return _sample(self._ask("sample", 8, n, ctypes.c_int64))
+        return _sample(self._ask("opened_sample", 8, n, place=ctypes.c_int64))
 
     def sample_at(self, t: int) -> SampleAt:
         """The sample at media time t. Refusal 15."""
-        return SampleAt(*self._ask("sample_at", 2, t))
+        return SampleAt(*self._ask("opened_sample_at", 2, t))
 
     def media_time(self, t: int) -> Optional[int]:
         """The media time that the track shows at movie time t; None where nothing is shown. Refusal 15."""
-        shown, media = self._ask("media_time", 2, t)
+        shown, media = self._ask("opened_media_time", 2, t)
         return media if shown else None
 
-    def _ask(self, name: str, count: int, number: int, place: Any = ctypes.c_uint64) -> Any:
+    def stretch(self, a: int, b: int) -> Stretch:
+        """The bytes of the track from media time a to b. Refusal 15."""
+        room = _room(ctypes.c_uint64, _PAIR_NUMBERS * self._track.chunks)
+        count, total = self._ask("opened_stretch", 2, a, b, room=room)
+        return Stretch(_pairs(room, count), total)
+
+    def indexed(self) -> "Indexed":
+        """The track with its index, in one pass over its tables."""
+        checkpoints = -(-self._track.samples // _CHECKPOINT_SAMPLES)
+        index = _room(ctypes.c_uint64, _CHECKPOINT_NUMBERS * checkpoints)
+        self._ask("index", 1, room=index)
+        return Indexed(self, index)
+
+    def _ask(self, name: str, count: int, *numbers: int, index: Any = None, room: Any = None,
+             place: Any = ctypes.c_uint64) -> Any:
+        """Puts a question by the handle, and by an index if there is one."""
+        read = (index, len(index)) if index is not None else ()
+        lent = (room, len(room)) if room is not None else ()
         places = (place * count)()
-        handle = self._handle
-        function = _function("opened_" + name)
-        answer = function(self._lent, len(self._lent), handle, len(handle), _number(number), places, count)
+        asked = [_number(number) for number in numbers]
+        handle = (self._handle, len(self._handle))
+        answer = _function(name)(self._lent, len(self._lent), *handle, *read, *asked, *lent, places, count)
         if answer != 0:
             raise Refused(answer)
         return list(places)
+
+
+class Indexed:
+    """An opened track with its index, which Opened.indexed has made. Its answers are those of the opened track, in time that
+    does not grow with the entries of the tables before a sample."""
+
+    def __init__(self, opened: Opened, index: Any) -> None:
+        self._opened, self._index = opened, index
+
+    def sample(self, n: int) -> Sample:
+        """Sample n, numbered from 1. Refusal 15."""
+        return _sample(self._opened._ask("indexed_sample", 8, n, index=self._index, place=ctypes.c_int64))
+
+    def sample_at(self, t: int) -> SampleAt:
+        """The sample at media time t. Refusal 15."""
+        return SampleAt(*self._opened._ask("indexed_sample_at", 2, t, index=self._index))
 
 
 def _sample(numbers: Any) -> Sample:
@@ -559,7 +596,8 @@ def _read_at(film: BinaryIO, place: int, count: int) -> bytes:
 
 
 # How each function is called after its first two parameters, the bytes and their length, and before its last two, the
-# places and their number: l is the length of a file, n is a number, r is room, out, a stepper or a handle and its length.
+# places and their number: l is the length of a file, n is a number, r is room, out, a stepper, a handle or an index and its
+# length.
 _PARAMETERS = {
     "track_list": "r",
     "sample": "nn",
@@ -583,6 +621,10 @@ _PARAMETERS = {
     "opened_sample": "rn",
     "opened_sample_at": "rn",
     "opened_media_time": "rn",
+    "opened_stretch": "rnnr",
+    "index": "rr",
+    "indexed_sample": "rrn",
+    "indexed_sample_at": "rrn",
 }
 _MOOV = (
     "track_list", "sample", "sample_at", "media_time", "stretch", "profile", "feature", "peak", "movie", "edits",

@@ -15,7 +15,7 @@ from pathlib import Path
 
 import chaldoref
 from chaldoref import (
-    FEATURES, ByteRange, MalformedSlip, Movie, Peak, ProfileRecord, Refusal, Refused, Sample, SampleAt, Track,
+    FEATURES, ByteRange, MalformedSlip, Movie, Peak, ProfileRecord, Refusal, Refused, Sample, SampleAt, Stretch, Track,
     read_any_slip, read_slip,
 )
 
@@ -121,7 +121,30 @@ class FilmW(Case):
             self.assertRefused(15, track.sample, 5)
             self.assertRefused(15, track.sample_at, 120)
             self.assertRefused(15, track.media_time, 120)
+            self.assertEqual(track.stretch(24, 73), Stretch((ByteRange(1100, 50), ByteRange(900, 70)), 120))
+            self.assertEqual(track.stretch(0, 120), movie.stretch(1, 0, 120))
+            self.assertRefused(15, track.stretch, 24, 24)
+            self.assertRefused(15, track.stretch, 0, 121)
+            self.assertIs(track, movie.opened(1))
         self.assertRefused(14, self.movie.opened, 2)
+        self.assertRaises(ValueError, self.movie.opened, 2**32 + 1)
+        self.assertRaises(TypeError, self.movie.opened, 1.0)
+
+    def test_indexed(self):
+        for movie in (self.movie, Movie.read("films/w.mov")):
+            track = movie.opened(1).indexed()
+            self.assertEqual([track.sample(n) for n in range(1, 5)], list(movie.samples(1)))
+            self.assertEqual([track.sample_at(t) for t in range(120)], [movie.sample_at(1, t) for t in range(120)])
+            self.assertRefused(15, track.sample, 0)
+            self.assertRefused(15, track.sample, 5)
+            self.assertRefused(15, track.sample_at, 120)
+            self.assertRaises(ValueError, track.sample, -1)
+
+    def test_too_little_room(self):
+        track = self.movie.opened(1)
+        short = chaldoref._room(ctypes.c_uint64, 3)
+        self.assertRefused(16, lambda: track._ask("opened_stretch", 2, 24, 73, room=short))
+        self.assertRefused(16, lambda: track._ask("index", 1, room=short))
 
     def test_sample_bytes(self):
         self.assertEqual(self.movie.sample_bytes(1, 2), W[1100:1150])
@@ -372,7 +395,7 @@ class Header(unittest.TestCase):
         for name in ("TRACK_NUMBERS", "PAIR_NUMBERS", "RECORD_NUMBERS", "EDIT_NUMBERS", "MAX_TRACKS", "MAX_PAIRS",
                      "MAX_RECORDS", "MAX_EDITS", "SLIP_HEAD_BYTES", "SLIP_PAIR_BYTES", "SLIP_WIDE_PAIR_BYTES",
                      "HEADER_BYTES", "TOP_LEVEL_PLACES", "STEPPER_NUMBERS", "SAMPLE_NUMBERS",
-                     "OPENED_NUMBERS"):
+                     "OPENED_NUMBERS", "CHECKPOINT_SAMPLES", "CHECKPOINT_NUMBERS"):
             self.assertIn(f"CHALDOREF_{name} = {getattr(chaldoref, '_' + name)}", HEADER)
 
     def test_functions(self):
@@ -381,7 +404,7 @@ class Header(unittest.TestCase):
         for name, parameters in declared.items():
             # The last pointer and length are the answer's own.
             before = parameters[:parameters.rindex("*")]
-            found = re.findall(r"uint32_t (?:id|n|t|a|b|code)\b|uint64_t length\b|\*(?:room|out|stepper|handle)\b", before)
+            found = re.findall(r"uint32_t (?:id|n|t|a|b|code)\b|uint64_t length\b|\*(?:room|out|stepper|handle|index)\b", before)
             letters = ("r" if "*" in letter else "l" if "64" in letter else "n" for letter in found)
             self.assertEqual("".join(letters), chaldoref._PARAMETERS[name])
 

@@ -64,21 +64,6 @@ fn widen(room: &mut [u64], count: usize) {
     }
 }
 
-/// Asks for pairs in numbers of 32 bits, and answers how many there are with what else is answered. Where there are any,
-/// they become numbers of 64 bits.
-fn pairs<const PLACES: usize>(
-    room: &mut [ByteRange],
-    count: usize,
-    question: impl FnOnce(&mut [u32], *mut u64, usize) -> u32,
-) -> (Result<(), Refusal>, [u64; PLACES]) {
-    let room = wide(room);
-    let (answered, places) = put(|places, len| question(narrow(room), places, len));
-    if answered.is_ok() {
-        widen(room, 2 * promised::<u64, usize>(places[count]));
-    }
-    (answered, places)
-}
-
 /// Puts a question to a film, by the one or by the other way in.
 macro_rules! of_film {
     ($film:expr, $whole:ident, $alone:ident, $($argument:expr),*) => {
@@ -133,42 +118,6 @@ pub fn track_list(film: Film, room: &mut [Track]) -> Result<[u64; 1], Refusal> {
     })
 }
 
-pub fn sample(film: Film, id: u32, n: u32) -> Result<[i64; 8], Refusal> {
-    ask(|places, len| of_film!(film, chaldoref_sample, chaldoref_moov_sample, id, n, places, len))
-}
-
-/// Of a whole file alone.
-pub fn sample_bytes(file: &[u8], id: u32, n: u32) -> Result<[u64; 2], Refusal> {
-    // SAFETY: slices' own pointers and lengths, as the module says.
-    ask(|places, len| unsafe { raw::chaldoref_sample_bytes(file.as_ptr(), file.len(), id, n, places, len) })
-}
-
-pub fn sample_at(film: Film, id: u32, t: u32) -> Result<[u64; 2], Refusal> {
-    ask(|places, len| of_film!(film, chaldoref_sample_at, chaldoref_moov_sample_at, id, t, places, len))
-}
-
-pub fn media_time(film: Film, id: u32, t: u32) -> Result<[u64; 2], Refusal> {
-    ask(|places, len| of_film!(film, chaldoref_media_time, chaldoref_moov_media_time, id, t, places, len))
-}
-
-/// The pairs of a whole file are numbers of 32 bits.
-pub fn stretch(film: Film, id: u32, a: u32, b: u32, room: &mut [ByteRange]) -> Result<[u64; 2], Refusal> {
-    let (answered, places) = match film {
-        Film::Whole(file) => pairs(room, 0, |room, places, len| {
-            let (file, file_len, room, room_len) = (file.as_ptr(), file.len(), room.as_mut_ptr(), room.len());
-            // SAFETY: slices' own pointers and lengths, as the module says.
-            unsafe { raw::chaldoref_stretch(file, file_len, id, a, b, room, room_len, places, len) }
-        }),
-        Film::Moov { moov, length } => put(|places, len| {
-            let room = wide(room);
-            let (moov, moov_len, room, room_len) = (moov.as_ptr(), moov.len(), room.as_mut_ptr(), room.len());
-            // SAFETY: the same.
-            unsafe { raw::chaldoref_moov_stretch(moov, moov_len, length, id, a, b, room, room_len, places, len) }
-        }),
-    };
-    answered.map(|()| places)
-}
-
 pub fn profile(film: Film, id: u32, room: &mut [ProfileRecord]) -> Result<[u64; 1], Refusal> {
     let room = numbers(room);
     ask(|places, len| {
@@ -186,11 +135,16 @@ pub fn peak(film: Film, id: u32, code: u32) -> Result<[u64; 2], Refusal> {
 
 /// Whether the slip is read; and its numbers, the last being the place with refusal 17.
 pub fn read_slip(slip: &[u8], room: &mut [ByteRange]) -> (Result<(), Refusal>, [u64; 6]) {
-    pairs(room, 4, |room, places, len| {
-        let (slip, slip_len, room, room_len) = (slip.as_ptr(), slip.len(), room.as_mut_ptr(), room.len());
+    let room = wide(room);
+    let (answered, places) = put(|places, len| {
+        let room = narrow(room);
         // SAFETY: slices' own pointers and lengths, as the module says.
-        unsafe { raw::chaldoref_read_slip(slip, slip_len, room, room_len, places, len) }
-    })
+        unsafe { raw::chaldoref_read_slip(slip.as_ptr(), slip.len(), room.as_mut_ptr(), room.len(), places, len) }
+    });
+    if answered.is_ok() {
+        widen(room, 2 * promised::<u64, usize>(places[4]));
+    }
+    (answered, places)
 }
 
 /// The same of a slip of either form.
@@ -254,26 +208,55 @@ pub fn open(film: Film, id: u32) -> Result<Handle, Refusal> {
     ask(|handle, len| of_film!(film, chaldoref_open, chaldoref_moov_open, id, handle, len))
 }
 
-/// Asks by a handle, in the same way of both ways in: it says where the tables are in what was lent.
+/// Asks by a handle, and what else is read after it, in the same way of both ways in: it says where the tables are in what was lent.
 macro_rules! by_handle {
-    ($function:ident, $lent:expr, $handle:expr, $number:expr) => {
+    ($function:ident, $lent:expr, [$($read:expr),*], $($argument:expr),*) => {
         // SAFETY: slices' own pointers and lengths, as the module says.
         ask(|places, len| unsafe {
-            raw::$function($lent.as_ptr(), $lent.len(), $handle.as_ptr(), $handle.len(), $number, places, len)
+            raw::$function($lent.as_ptr(), $lent.len(), $($read.as_ptr(), $read.len(),)* $($argument,)* places, len)
         })
     };
 }
 
 pub fn opened_sample(lent: &[u8], handle: &Handle, n: u32) -> Result<[i64; 8], Refusal> {
-    by_handle!(chaldoref_opened_sample, lent, handle, n)
+    by_handle!(chaldoref_opened_sample, lent, [handle], n)
 }
 
 pub fn opened_sample_at(lent: &[u8], handle: &Handle, t: u32) -> Result<[u64; 2], Refusal> {
-    by_handle!(chaldoref_opened_sample_at, lent, handle, t)
+    by_handle!(chaldoref_opened_sample_at, lent, [handle], t)
 }
 
 pub fn opened_media_time(lent: &[u8], handle: &Handle, t: u32) -> Result<[u64; 2], Refusal> {
-    by_handle!(chaldoref_opened_media_time, lent, handle, t)
+    by_handle!(chaldoref_opened_media_time, lent, [handle], t)
+}
+
+pub fn opened_stretch(
+    lent: &[u8],
+    handle: &Handle,
+    (a, b): (u32, u32),
+    room: &mut [ByteRange],
+) -> Result<[u64; 2], Refusal> {
+    let room = wide(room);
+    let (room, room_len) = (room.as_mut_ptr(), room.len());
+    by_handle!(chaldoref_opened_stretch, lent, [handle], a, b, room, room_len)
+}
+
+/// From one checkpoint of an index to the next are as many samples, and each has as many numbers.
+pub const CHECKPOINT_SAMPLES: usize = 64;
+pub const CHECKPOINT_NUMBERS: usize = 6;
+
+/// Fills the index of an opened track; answers how many numbers it has.
+pub fn index(lent: &[u8], handle: &Handle, index: &mut [u64]) -> Result<[u64; 1], Refusal> {
+    let (index, index_len) = (index.as_mut_ptr(), index.len());
+    by_handle!(chaldoref_index, lent, [handle], index, index_len)
+}
+
+pub fn indexed_sample(lent: &[u8], handle: &Handle, index: &[u64], n: u32) -> Result<[i64; 8], Refusal> {
+    by_handle!(chaldoref_indexed_sample, lent, [handle, index], n)
+}
+
+pub fn indexed_sample_at(lent: &[u8], handle: &Handle, index: &[u64], t: u32) -> Result<[u64; 2], Refusal> {
+    by_handle!(chaldoref_indexed_sample_at, lent, [handle, index], t)
 }
 
 /// A step over the atoms at top level. The places are those of the step before, or the file's length and zeros.

@@ -35,17 +35,20 @@
 //!
 //! # What a question costs
 //!
-//! The library keeps no state and allocates nothing. Each question judges the whole file again before it answers, in
-//! time that grows with the movie's tables (the `moov` atom) and not with the film's own bytes: for a million samples
-//! half a millisecond to some hundredths of a second. A question about one sample so costs as much as [`Movie::open`]; to have the bytes of
-//! many samples ask for one [`Movie::stretch`], and not for each sample. [`Movie::samples`] goes through a track in one
-//! judging, at some nanoseconds a sample, and [`Movie::opened`] keeps a track for many questions after one judging.
+//! The library keeps no state and allocates nothing. Before it answers it judges the whole file, in time that grows with
+//! the movie's tables (the `moov` atom) and not with the film's own bytes: for a million samples half a millisecond to
+//! some hundredths of a second. A [`Movie`] keeps where a track's tables are: the first question about the samples, times
+//! or stretches of a track judges the film, and those after it do not. A lookup then grows with the entries of the tables
+//! before the sample, which [`Opened::indexed`] takes from it, and a stretch with those up to its end. The
+//! other questions, [`Movie::header`], [`Movie::edits`], [`Movie::profile`], [`Movie::feature`], [`Movie::peak`],
+//! [`Movie::write_slip`] and the start of [`Movie::samples`], judge the film each time; the samples themselves take some
+//! nanoseconds each.
 //!
 //! # Memory
 //!
-//! A [`Movie`] borrows the file and copies none of it. [`Movie::stretch`], [`Movie::write_slip`], [`Movie::profile`]
-//! and [`Slip::read`] allocate their answers; [`Movie::stretch_into`] and [`Movie::write_slip_into`] fill lent room
-//! instead. Without memory for it the answer of the first two is [`Refusal::NoRoom`], and [`Slip::try_read`] tells of the
+//! A [`Movie`] borrows the file and copies none of it. [`Movie::stretch`], [`Movie::write_slip`], [`Opened::indexed`],
+//! [`Movie::profile`] and [`Slip::read`] allocate their answers; [`Movie::stretch_into`] and [`Movie::write_slip_into`] fill lent room
+//! instead. Without memory for it the answer of the first three is [`Refusal::NoRoom`], and [`Slip::try_read`] tells of the
 //! lack. A file that is mapped into memory must not change while it is borrowed, as for every `&[u8]`.
 //!
 //! # Building
@@ -78,7 +81,7 @@ pub use feature::{Feature, UnknownFeature};
 pub use film::Film;
 pub use moov::{Moov, ReadError};
 pub use movie::{strict_refusal, Movie, MAX_FILE_BYTES, MAX_LENGTH};
-pub use opened::Opened;
+pub use opened::{Indexed, Opened};
 pub use refusal::{Refusal, UnknownRefusal};
 pub use samples::Samples;
 pub use slip::{AnySlip, MalformedSlip, Slip};

@@ -1,6 +1,6 @@
 //! Movies and the questions about them.
 use crate::answers::{Edit, Header, Peak, ProfileRecord, Sample, SampleAt, Shown, Stretch, StretchSize, Track};
-use crate::ffi::{self, broken, promised};
+use crate::ffi::{self, broken, promised, Handle};
 use crate::film::Film;
 use crate::opened::Opened;
 use crate::refusal::Refusal;
@@ -9,6 +9,7 @@ use crate::samples::Samples;
 use crate::units::{ByteRange, FourCC, MediaTime, MovieTime, TrackId};
 use std::fmt;
 use std::ops::{Range, RangeInclusive};
+use std::sync::OnceLock;
 
 /// The most bytes that are lent of an accepted film: its whole file, or its moov. More are [`Refusal::FileTooLong`].
 pub const MAX_FILE_BYTES: u64 = 2_147_483_647;
@@ -44,8 +45,8 @@ pub fn strict_refusal<'a>(film: impl Into<Film<'a>>) -> Option<Refusal> {
 
 /// A movie that the reader has accepted.
 ///
-/// It borrows what is lent of its film and keeps the track list beside it. See the [crate](crate) for what a question costs.
-/// Each question gets the library's own answer, also for an ID that no track has ([`Refusal::NoTrack`]). Of the film's
+/// It borrows what is lent of its film and keeps the track list beside it, and of each track that was asked about where its tables are. See the
+/// [crate](crate) for what a question costs. Each question gets the library's own answer, also for an ID that no track has ([`Refusal::NoTrack`]). Of the film's
 /// refusals, 1 to 13 and 19, only [`Refusal::StoredDuration`] comes after [`Movie::open`], and only of a slip that is
 /// written.
 #[derive(Clone)]
@@ -53,6 +54,8 @@ pub struct Movie<'a> {
     film: Film<'a>,
     tracks: [Track; MAX_TRACKS],
     count: usize,
+    /// The handle of each track, from the first question on that needs it.
+    handles: [OnceLock<Handle>; MAX_TRACKS],
 }
 
 impl<'a> Movie<'a> {
@@ -66,7 +69,7 @@ impl<'a> Movie<'a> {
         let film = film.into();
         let mut tracks = [Track::default(); MAX_TRACKS];
         let [count] = ffi::track_list(film, &mut tracks)?;
-        Ok(Movie { film, tracks, count: promised(count) })
+        Ok(Movie { film, tracks, count: promised(count), handles: Default::default() })
     }
 
     /// The film, as it was lent.
@@ -87,13 +90,19 @@ impl<'a> Movie<'a> {
         self.tracks().iter().find(|track| track.id == id)
     }
 
-    /// A track, opened once for many questions about its samples and times: the film is judged here and not again by them.
+    /// A track, opened once for many questions about its samples, times and stretches: the film is judged here, the first time that the track
+    /// is opened or asked such a question, and not again by them.
     ///
     /// # Errors
     ///
     /// [`Refusal::NoTrack`].
     pub fn opened(&self, id: TrackId) -> Result<Opened<'a>, Refusal> {
-        ffi::open(self.film, id.0).map(|handle| Opened::new(self.film.lent(), id, handle))
+        let Some(place) = self.tracks().iter().position(|track| track.id == id) else {
+            return Err(ffi::open(self.film, id.0).err().unwrap_or_else(|| broken()));
+        };
+        // The film is accepted and has the track, so that no refusal is left.
+        let handle = self.handles[place].get_or_init(|| ffi::open(self.film, id.0).unwrap_or_else(|_| broken()));
+        Ok(Opened::new(self.film.lent(), self.tracks[place], *handle))
     }
 
     /// The movie's time scale and the duration that it stores.
@@ -142,7 +151,7 @@ impl<'a> Movie<'a> {
     ///
     /// [`Refusal::NoTrack`]; [`Refusal::Outside`] where the track has no sample `n`.
     pub fn sample(&self, id: TrackId, n: u32) -> Result<Sample, Refusal> {
-        ffi::sample(self.film, id.0, n).map(Sample::of)
+        self.opened(id)?.sample(n)
     }
 
     /// The samples of a track, in order: what [`Movie::sample`] answers of each, in one judging of the film for all of them.
@@ -214,13 +223,7 @@ impl<'a> Movie<'a> {
     ///
     /// Those of [`Movie::sample_bytes`].
     pub fn sample_range(&self, id: TrackId, n: u32) -> Result<ByteRange, Refusal> {
-        match self.film {
-            Film::Whole(file) => {
-                let [offset, length] = ffi::sample_bytes(file, id.0, n)?;
-                Ok(ByteRange { offset, length })
-            }
-            Film::Moov { .. } => Ok(self.sample(id, n)?.range()),
-        }
+        Ok(self.sample(id, n)?.range())
     }
 
     /// The sample at a media time: the one with decode time ≤ `t` < decode time plus duration.
@@ -229,7 +232,7 @@ impl<'a> Movie<'a> {
     ///
     /// [`Refusal::NoTrack`]; [`Refusal::Outside`] where `t` is not below the track's total.
     pub fn sample_at(&self, id: TrackId, t: MediaTime) -> Result<SampleAt, Refusal> {
-        ffi::sample_at(self.film, id.0, t.0).map(SampleAt::of)
+        self.opened(id)?.sample_at(t)
     }
 
     /// What a track shows at a movie time, which goes through the track's edit list if it has one.
@@ -249,7 +252,7 @@ impl<'a> Movie<'a> {
     /// [`Refusal::NoTrack`]; [`Refusal::Outside`] at or past the end: that of the last edit, or without an edit list
     /// that of the media.
     pub fn media_time(&self, id: TrackId, t: MovieTime) -> Result<Shown, Refusal> {
-        ffi::media_time(self.film, id.0, t.0).map(Shown::of)
+        self.opened(id)?.media_time(t)
     }
 
     /// The bytes of a track from one media time up to another: all samples from the one at the start to the one just
@@ -260,12 +263,7 @@ impl<'a> Movie<'a> {
     /// [`Refusal::NoTrack`]; [`Refusal::Outside`] unless start < end ≤ the track's total; [`Refusal::NoRoom`] where
     /// there is no memory for a range for each of the track's chunks.
     pub fn stretch(&self, id: TrackId, time: Range<MediaTime>) -> Result<Stretch, Refusal> {
-        // Without memory no room is lent, and the library says so.
-        let mut pairs = room::<ByteRange>(self.chunks(id)).unwrap_or_default();
-        let size = self.stretch_into(id, time, &mut pairs)?;
-        pairs.truncate(size.pairs);
-        pairs.shrink_to_fit();
-        Ok(Stretch { pairs, bytes: size.bytes })
+        self.opened(id)?.stretch(time)
     }
 
     /// The same into lent room, of which the first ranges are filled. As many as the track has chunks are always
@@ -294,8 +292,7 @@ impl<'a> Movie<'a> {
         time: Range<MediaTime>,
         room: &mut [ByteRange],
     ) -> Result<StretchSize, Refusal> {
-        let [pairs, bytes] = ffi::stretch(self.film, id.0, time.start.0, time.end.0, room)?;
-        Ok(StretchSize { pairs: promised(pairs), bytes })
+        self.opened(id)?.stretch_into(time, room)
     }
 
     /// The slip of a stretch.
@@ -368,7 +365,7 @@ impl<'a> Movie<'a> {
     /// Where a track has its highest bit rate over one second, by
     /// [`Feature::HighestVideoBitRate`](crate::Feature::HighestVideoBitRate) or
     /// [`Feature::HighestAudioBitRate`](crate::Feature::HighestAudioBitRate): the first second that has the greatest.
-    /// It costs two judgings.
+    /// It costs a judging beside that of [`Movie::opened`].
     ///
     /// ```
     /// use chaldoref::{Feature, MediaTime, Movie, TrackId};
@@ -393,11 +390,6 @@ impl<'a> Movie<'a> {
         let last = track.sample(*samples.end())?;
         let end = MediaTime(promised(u64::from(last.decode.0) + u64::from(last.duration)));
         Ok(Peak { samples, time: start..end })
-    }
-
-    /// The number of a track's chunks; 0 where no track has that ID, for which the library needs no room to say so.
-    fn chunks(&self, id: TrackId) -> usize {
-        self.track(id).map_or(0, |track| track.chunks as usize)
     }
 }
 

@@ -1,9 +1,11 @@
-//! Tracks that are opened once.
-use crate::answers::{Sample, SampleAt, Shown};
-use crate::ffi::{self, Handle};
+//! Tracks that are opened once, and their indices.
+use crate::answers::{Sample, SampleAt, Shown, Stretch, StretchSize, Track};
+use crate::ffi::{self, promised, Handle, CHECKPOINT_NUMBERS, CHECKPOINT_SAMPLES};
 use crate::refusal::Refusal;
-use crate::units::{MediaTime, MovieTime, TrackId};
+use crate::room::room;
+use crate::units::{ByteRange, MediaTime, MovieTime, TrackId};
 use std::fmt;
+use std::ops::Range;
 
 /// A track that was opened by [`Movie::opened`](crate::Movie::opened): the film is judged there and not again by these questions, whose answers are
 /// those of the [`Movie`](crate::Movie)'s own.
@@ -21,23 +23,23 @@ use std::fmt;
 #[derive(Clone, Copy)]
 pub struct Opened<'a> {
     lent: &'a [u8],
-    id: TrackId,
+    track: Track,
     /// Where the library has found its tables, and its numbers.
     handle: Handle,
 }
 
 impl<'a> Opened<'a> {
-    pub(crate) fn new(lent: &'a [u8], id: TrackId, handle: Handle) -> Opened<'a> {
-        Opened { lent, id, handle }
+    pub(crate) fn new(lent: &'a [u8], track: Track, handle: Handle) -> Opened<'a> {
+        Opened { lent, track, handle }
     }
 
     /// The track's ID.
     #[must_use]
     pub fn id(&self) -> TrackId {
-        self.id
+        self.track.id
     }
 
-    /// Sample `n`, numbered from 1.
+    /// Sample `n`, numbered from 1, in time that grows with the entries of the tables before it; [`Opened::indexed`] is for many.
     ///
     /// # Errors
     ///
@@ -63,11 +65,101 @@ impl<'a> Opened<'a> {
     pub fn media_time(&self, t: MovieTime) -> Result<Shown, Refusal> {
         ffi::opened_media_time(self.lent, &self.handle, t.0).map(Shown::of)
     }
+
+    /// The bytes of the track from one media time up to another.
+    ///
+    /// # Errors
+    ///
+    /// [`Refusal::Outside`] unless start < end ≤ the track's total; [`Refusal::NoRoom`] where there is no memory for a range for each of
+    /// the track's chunks.
+    pub fn stretch(&self, time: Range<MediaTime>) -> Result<Stretch, Refusal> {
+        // Without memory no room is lent, and the library says so.
+        let mut pairs = room::<ByteRange>(self.track.chunks as usize).unwrap_or_default();
+        let size = self.stretch_into(time, &mut pairs)?;
+        pairs.truncate(size.pairs);
+        pairs.shrink_to_fit();
+        Ok(Stretch { pairs, bytes: size.bytes })
+    }
+
+    /// The same into lent room, of which the first ranges are filled. As many as the track has chunks are always enough.
+    ///
+    /// # Errors
+    ///
+    /// [`Refusal::Outside`]; [`Refusal::NoRoom`] where the room is too short. The room then keeps its contents.
+    pub fn stretch_into(&self, time: Range<MediaTime>, room: &mut [ByteRange]) -> Result<StretchSize, Refusal> {
+        let [pairs, bytes] = ffi::opened_stretch(self.lent, &self.handle, (time.start.0, time.end.0), room)?;
+        Ok(StretchSize { pairs: promised(pairs), bytes })
+    }
+
+    /// The track with its index, in one pass over its tables.
+    ///
+    /// # Errors
+    ///
+    /// [`Refusal::NoRoom`] where there is no memory for it: three quarters of a byte a sample.
+    pub fn indexed(&self) -> Result<Indexed<'a>, Refusal> {
+        let checkpoints = (self.track.samples as usize).div_ceil(CHECKPOINT_SAMPLES);
+        let mut index = room::<u64>(CHECKPOINT_NUMBERS * checkpoints).unwrap_or_default();
+        ffi::index(self.lent, &self.handle, &mut index)?;
+        Ok(Indexed { opened: *self, index })
+    }
 }
 
 impl fmt::Debug for Opened<'_> {
     /// The track's ID; the numbers of a handle would be no help.
     fn fmt(&self, f: &mut fmt::Formatter<'_>) -> fmt::Result {
-        f.debug_struct("Opened").field("id", &self.id).finish_non_exhaustive()
+        f.debug_struct("Opened").field("id", &self.id()).finish_non_exhaustive()
+    }
+}
+
+/// An opened track with its index, made by [`Opened::indexed`]. Its answers are those of the [`Opened`] track, in time that does not grow with
+/// the entries of the tables before a sample.
+///
+/// ```
+/// use chaldoref::{MediaTime, Movie, TrackId};
+///
+/// # std::env::set_current_dir("../..")?;
+/// let file = std::fs::read("films/two-hoses.mov")?;
+/// let hose = Movie::open(&file)?.opened(TrackId(2))?.indexed()?;
+/// let offsets: Vec<u64> = (1..=6).rev().map(|n| hose.sample(n).unwrap().offset).collect();
+/// assert_eq!(offsets, [1236, 1220, 1172, 1156, 1108, 1092]);
+/// assert_eq!(hose.sample_at(MediaTime(143))?.sample, 6);
+/// # Ok::<(), Box<dyn std::error::Error>>(())
+/// ```
+#[derive(Clone)]
+pub struct Indexed<'a> {
+    opened: Opened<'a>,
+    index: Vec<u64>,
+}
+
+impl<'a> Indexed<'a> {
+    /// The track without its index.
+    #[must_use]
+    pub fn opened(&self) -> Opened<'a> {
+        self.opened
+    }
+
+    /// Sample `n`, numbered from 1.
+    ///
+    /// # Errors
+    ///
+    /// [`Refusal::Outside`] where the track has no sample `n`.
+    pub fn sample(&self, n: u32) -> Result<Sample, Refusal> {
+        ffi::indexed_sample(self.opened.lent, &self.opened.handle, &self.index, n).map(Sample::of)
+    }
+
+    /// The sample at a media time.
+    ///
+    /// # Errors
+    ///
+    /// [`Refusal::Outside`] where `t` is not below the track's total.
+    pub fn sample_at(&self, t: MediaTime) -> Result<SampleAt, Refusal> {
+        ffi::indexed_sample_at(self.opened.lent, &self.opened.handle, &self.index, t.0).map(SampleAt::of)
+    }
+}
+
+impl fmt::Debug for Indexed<'_> {
+    /// The track's ID; the numbers of an index would be no help.
+    fn fmt(&self, f: &mut fmt::Formatter<'_>) -> fmt::Result {
+        f.debug_struct("Indexed").field("id", &self.opened.id()).finish_non_exhaustive()
     }
 }

@@ -330,4 +330,52 @@ extern "C" {
         places: *mut u64,
         places_len: usize,
     ) -> u32;
+
+    pub fn chaldoref_opened_stretch(
+        lent: *const u8,
+        lent_len: usize,
+        handle: *const u64,
+        handle_len: usize,
+        a: u32,
+        b: u32,
+        room: *mut u64,
+        room_len: usize,
+        places: *mut u64,
+        places_len: usize,
+    ) -> u32;
+
+    pub fn chaldoref_index(
+        lent: *const u8,
+        lent_len: usize,
+        handle: *const u64,
+        handle_len: usize,
+        index: *mut u64,
+        index_len: usize,
+        places: *mut u64,
+        places_len: usize,
+    ) -> u32;
+
+    pub fn chaldoref_indexed_sample(
+        lent: *const u8,
+        lent_len: usize,
+        handle: *const u64,
+        handle_len: usize,
+        index: *const u64,
+        index_len: usize,
+        n: u32,
+        places: *mut i64,
+        places_len: usize,
+    ) -> u32;
+
+    pub fn chaldoref_indexed_sample_at(
+        lent: *const u8,
+        lent_len: usize,
+        handle: *const u64,
+        handle_len: usize,
+        index: *const u64,
+        index_len: usize,
+        t: u32,
+        places: *mut u64,
+        places_len: usize,
+    ) -> u32;
 }

@@ -116,6 +116,43 @@ static void print_opened(const struct film *film, uint32_t n, uint32_t t)
     }
 }
 
+/* The stretch of an opened track, and its index, by both ways; with room and index of one number less too. */
+static void print_by_track(const struct film *film, const struct chaldoref_opened *track, size_t lent)
+{
+    uint64_t room[CHALDOREF_PAIR_NUMBERS * 2], index[CHALDOREF_CHECKPOINT_NUMBERS];
+    struct chaldoref_stretch_info stretch;
+    struct chaldoref_moov_sample_info sample;
+    struct chaldoref_sample_at_info at;
+    size_t numbers = chaldoref_index_numbers(4), i;
+    uint32_t short_room = chaldoref_track_stretch(film->bytes, lent, track, 24, 73, room, 3, &stretch);
+    uint32_t answered = chaldoref_track_stretch(film->bytes, lent, track, 24, 73, room, 4, &stretch);
+    uint32_t short_index = chaldoref_track_index(film->bytes, lent, track, index, numbers - 1);
+    uint32_t indexed = chaldoref_track_index(film->bytes, lent, track, index, numbers);
+    printf("by track %" PRIu32 " %" PRIu32 " %lu %" PRIu64 ", %" PRIu32 " %" PRIu32 "\n", short_room, answered,
+           (unsigned long)stretch.pairs, stretch.bytes, short_index, indexed);
+    for (i = 0; i < stretch.pairs; i++) {
+        struct chaldoref_wide_pair pair = chaldoref_wide_pair_of(room, i);
+        printf("pair %" PRIu64 " %" PRIu64 "\n", pair.offset, pair.length);
+    }
+    indexed = chaldoref_track_indexed_sample(film->bytes, lent, track, index, numbers, 4, &sample);
+    answered = chaldoref_track_indexed_sample_at(film->bytes, lent, track, index, numbers, 71, &at);
+    printf("indexed %" PRIu32 " %" PRIu32 ": at %" PRIu32 " %" PRIu32 "\n", indexed, answered, at.sample, at.entry);
+    print_step(5, sample);
+}
+
+static void print_indexed(const struct film *film)
+{
+    struct chaldoref_opened track;
+    size_t moov = (size_t)film->bytes[2] << 8 | film->bytes[3];
+    chaldoref_open_track(film->bytes, film->len, ONE, &track);
+    print_by_track(film, &track, film->len);
+    chaldoref_moov_open_track(film->bytes, moov, film->len, ONE, &track);
+    print_by_track(film, &track, moov);
+    printf("index of 0, 1, 4 and of more samples: %lu %lu %lu %d\n", (unsigned long)chaldoref_index_numbers(0),
+           (unsigned long)chaldoref_index_numbers(1), (unsigned long)chaldoref_index_numbers(4),
+           chaldoref_index_numbers(CHALDOREF_CHECKPOINT_SAMPLES + 1) == 2 * CHALDOREF_CHECKPOINT_NUMBERS);
+}
+
 static void print_media_time(const struct film *film, uint32_t t)
 {
     uint64_t places[CHALDOREF_MEDIA_TIME_PLACES];
@@ -233,6 +270,7 @@ static void print_all(struct film *film)
     print_steps(film, 1);
     print_steps(film, 4);
     print_opened(film, 4, 71);
+    print_indexed(film);
     print_media_time(film, 0);
     print_media_time(film, 60);
     print_sample_at(film, 71);

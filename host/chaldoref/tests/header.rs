@@ -90,6 +90,17 @@ fn opened(movie: &Movie, n: u32, t: u32) -> String {
     (line + &step(4, movie.sample(ONE, n).unwrap())).repeat(2)
 }
 
+/// The stretch, and the lookups by the index, by both ways.
+fn indexed(movie: &Movie) -> String {
+    let stretch = movie.stretch(ONE, MediaTime(24)..MediaTime(73)).unwrap();
+    let at = movie.sample_at(ONE, MediaTime(71)).unwrap();
+    let lines = format!("by track 16 0 {} {}, 16 0\n", stretch.pairs.len(), stretch.bytes)
+        + &pairs(&stretch.pairs)
+        + &format!("indexed 0 0: at {} {}\n", at.sample, at.entry)
+        + &step(5, movie.sample(ONE, 4).unwrap());
+    lines.repeat(2) + "index of 0, 1, 4 and of more samples: 0 6 6 1\n"
+}
+
 fn media_time(movie: &Movie, t: u32) -> String {
     match movie.media_time(ONE, MovieTime(t)).unwrap() {
         Shown::At(media) => format!("media time 1 {media}\n"),
@@ -131,7 +142,8 @@ fn expected(film: &[u8]) -> String {
     let movie = Movie::open(film).unwrap();
     let samples = [1, 4, 5].map(|n| sample(&movie, n)).concat()
         + &[1, 4].map(|n| steps(&movie, n)).concat()
-        + &opened(&movie, 4, 71);
+        + &opened(&movie, 4, 71)
+        + &indexed(&movie);
     let times = [0, 60].map(|t| media_time(&movie, t)).concat() + &[71, 72].map(|t| sample_at(&movie, t)).concat();
     let [stretch, slips] = stretch_and_slips(&movie);
     // A file and a slip of no bytes are refused as such; then come room, bytes and places that are too few.

@@ -146,13 +146,25 @@ pub fn peaks(film: &Result<Movie, u32>) -> Vec<Question> {
     questions
 }
 
-/// The questions that a track answers that is opened once: samples by their numbers and by their times, and movie times.
-pub fn lookups(random: &mut Random, track: &Track, movie_scale: u64) -> [Question; 3] {
+/// The questions that a track answers by its index: samples by their numbers and by their times.
+pub fn lookups(random: &mut Random, track: &Track) -> [Question; 2] {
     let id = own_id(Some(track));
     [
         Question::Sample { id, n: sample_number(random, Some(track)) },
         Question::SampleAt { id, t: media_time(random, Some(track)) },
+    ]
+}
+
+/// Those that it answers where it is opened once: the same, movie times and stretches.
+pub fn by_handle(random: &mut Random, track: &Track, movie_scale: u64) -> [Question; 4] {
+    let id = own_id(Some(track));
+    let [sample, sample_at] = lookups(random, track);
+    let (a, b) = stretch(random, Some(track));
+    [
+        sample,
+        sample_at,
         Question::MediaTime { id, t: movie_time(random, Some(track), movie_scale) },
+        Question::Stretch { id, a, b },
     ]
 }
 

@@ -54,10 +54,10 @@ fn is_of_slip(kind: &str) -> bool {
 fn can_meet(number: usize, kind: &str) -> bool {
     let kind = kind.strip_prefix("moov_").unwrap_or(kind);
     let reads = ["read_slip", "read_any_slip"].contains(&kind);
-    if ["step", "steps"].contains(&kind) {
+    if ["step", "steps", "index"].contains(&kind) {
         return [0, 16].contains(&number);
     }
-    if kind.starts_with("opened_") {
+    if kind.starts_with("opened_") || kind.starts_with("indexed_") {
         return [0, 15, 16].contains(&number);
     }
     match number {
@@ -111,7 +111,7 @@ impl Counts {
 
     /// A line of counts under a name; a dash where a number is never given.
     fn line(name: &str, row: &[u64; NUMBERS], is_given: impl Fn(usize) -> bool) -> String {
-        let mut text = format!("{name:<16} {:>10}", row.iter().sum::<u64>());
+        let mut text = format!("{name:<18} {:>10}", row.iter().sum::<u64>());
         for (number, count) in row.iter().enumerate() {
             let shown = if is_given(number) { count.to_string() } else { "-".to_string() };
             write!(text, " {shown:>8}").unwrap();
@@ -121,7 +121,7 @@ impl Counts {
 
     /// A line for each way's films and for each function, a column for each number.
     pub fn table(&self) -> String {
-        let mut text = format!("{:<16} {:>10}", "", "all");
+        let mut text = format!("{:<18} {:>10}", "", "all");
         for number in 0..NUMBERS {
             write!(text, " {number:>8}").unwrap();
         }

@@ -14,8 +14,9 @@ pub struct Comparison {
     pub counts: Counts,
     /// Positions in the films before.
     pub kept: Vec<Kept>,
-    /// Handles of their tracks.
+    /// Handles of their tracks, and the indices of these.
     pub handles: Vec<Vec<u64>>,
+    pub indices: Vec<Vec<u64>>,
 }
 
 /// What is asked about: a film or a slip as it is lent.
@@ -141,7 +142,7 @@ impl Comparison {
     }
 
     /// Puts so many rounds of every question about a film, and once the questions about the highest rates of each track; then its tracks are stepped
-    /// through and opened.
+    /// through, opened and indexed.
     pub fn film(&mut self, random: &mut Random, bytes: &Bytes, way: Way, rounds: usize) -> Result<(), Box<Difference>> {
         let asked = Asked::of(bytes, way);
         let film = &asked.film;

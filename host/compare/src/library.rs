@@ -128,24 +128,63 @@ pub fn open(lent: &[u8], way: Way, id: u32, handle: &mut Lent<u64>) -> u32 {
     }
 }
 
-/// One of the three questions that a handle answers.
-pub fn ask_opened(lent: &[u8], question: Question, handle: &mut Lent<u64>, places: &mut Lent<u64>) -> u32 {
+/// One of the questions that a handle answers.
+pub fn ask_opened(
+    lent: &[u8],
+    question: Question,
+    handle: &mut Lent<u64>,
+    room: &mut Lent<u64>,
+    places: &mut Lent<u64>,
+) -> u32 {
     let (f, len) = (lent.as_ptr(), lent.len());
+    let (h, h_len) = (handle.pointer().cast_const(), handle.len());
+    let (room, room_len) = (room.pointer(), room.len());
+    let (places, places_len) = (places.pointer(), places.len());
+    // SAFETY: as for a whole file.
+    unsafe {
+        match question {
+            Question::Sample { n, .. } => chaldoref_opened_sample(f, len, h, h_len, n, places.cast(), places_len),
+            Question::SampleAt { t, .. } => chaldoref_opened_sample_at(f, len, h, h_len, t, places, places_len),
+            Question::MediaTime { t, .. } => chaldoref_opened_media_time(f, len, h, h_len, t, places, places_len),
+            Question::Stretch { a, b, .. } => {
+                chaldoref_opened_stretch(f, len, h, h_len, a, b, room, room_len, places, places_len)
+            }
+            _ => unreachable!("no question by a handle"),
+        }
+    }
+}
+
+/// The index of a track that was opened.
+pub fn fill_index(lent: &[u8], handle: &mut Lent<u64>, index: &mut Lent<u64>, places: &mut Lent<u64>) -> u32 {
     let (handle, handle_len) = (handle.pointer().cast_const(), handle.len());
+    let (index, index_len) = (index.pointer(), index.len());
+    let (places, places_len) = (places.pointer(), places.len());
+    // SAFETY: as for a whole file.
+    unsafe { chaldoref_index(lent.as_ptr(), lent.len(), handle, handle_len, index, index_len, places, places_len) }
+}
+
+/// One of the questions that an index answers.
+pub fn ask_indexed(
+    lent: &[u8],
+    question: Question,
+    handle: &mut Lent<u64>,
+    index: &mut Lent<u64>,
+    places: &mut Lent<u64>,
+) -> u32 {
+    let (f, len) = (lent.as_ptr(), lent.len());
+    let (h, h_len) = (handle.pointer().cast_const(), handle.len());
+    let (i, i_len) = (index.pointer().cast_const(), index.len());
     let (places, places_len) = (places.pointer(), places.len());
     // SAFETY: as for a whole file.
     unsafe {
         match question {
             Question::Sample { n, .. } => {
-                chaldoref_opened_sample(f, len, handle, handle_len, n, places.cast(), places_len)
+                chaldoref_indexed_sample(f, len, h, h_len, i, i_len, n, places.cast(), places_len)
             }
             Question::SampleAt { t, .. } => {
-                chaldoref_opened_sample_at(f, len, handle, handle_len, t, places, places_len)
+                chaldoref_indexed_sample_at(f, len, h, h_len, i, i_len, t, places, places_len)
             }
-            Question::MediaTime { t, .. } => {
-                chaldoref_opened_media_time(f, len, handle, handle_len, t, places, places_len)
-            }
-            _ => unreachable!("no question by a handle"),
+            _ => unreachable!("no question by an index"),
         }
     }
 }

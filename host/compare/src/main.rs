@@ -7,6 +7,7 @@ mod choose;
 mod counts;
 mod faults;
 mod films;
+mod indexed;
 mod lent;
 mod library;
 mod mapped;

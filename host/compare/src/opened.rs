@@ -1,28 +1,48 @@
-//! Tracks opened once: by the handle each question has the answer that it has without, and handles of other films are safe.
-use crate::case::Difference;
-use crate::choose::lookups;
+//! Tracks opened once: by the handle, and by an index, each question has the answer that it has without, and handles and indices of other films are safe.
+use crate::case::{expected, Difference, Lengths};
+use crate::choose::by_handle;
 use crate::films::Comparison;
 use crate::lent::Lent;
-use crate::library::{ask_opened, open};
-use crate::question::{kind_of, Film, Question, Way};
+use crate::library::{ask_indexed, ask_opened, open};
+use crate::question::{kind_of, Answer, Answered, Film, Question, Way};
 use crate::steps::{alter, difference, keep};
 use reference::maker::Random;
 
 /// As include/chaldoref.h has it.
-const HANDLE: usize = 19;
+pub const HANDLE: usize = 19;
 
 const OUTSIDE: u32 = 15;
-const NO_ROOM: u32 = 16;
+pub const NO_ROOM: u32 = 16;
 
-/// So often the three questions are put by a handle.
-const ROUNDS: usize = 3;
+/// So often the questions are put by a handle, and by an index.
+pub const ROUNDS: usize = 3;
 
-/// How the function is called that puts the question by a handle.
-fn name(question: Question) -> &'static str {
-    match question {
-        Question::Sample { .. } => "opened_sample",
-        Question::SampleAt { .. } => "opened_sample_at",
-        _ => "opened_media_time",
+/// What a question is put by: the numbers of a handle and, for a lookup by it, of an index.
+pub struct By<'a> {
+    handle: &'a [u64],
+    index: Option<&'a [u64]>,
+}
+
+impl<'a> By<'a> {
+    pub fn handle(handle: &'a [u64]) -> By<'a> {
+        By { handle, index: None }
+    }
+
+    pub fn index(handle: &'a [u64], index: &'a [u64]) -> By<'a> {
+        By { handle, index: Some(index) }
+    }
+
+    /// How the function is called that puts the question so.
+    fn name(&self, question: Question) -> &'static str {
+        match (question, self.index) {
+            (Question::Sample { .. }, None) => "opened_sample",
+            (Question::SampleAt { .. }, None) => "opened_sample_at",
+            (Question::MediaTime { .. }, None) => "opened_media_time",
+            (Question::Stretch { .. }, None) => "opened_stretch",
+            (Question::Sample { .. }, Some(_)) => "indexed_sample",
+            (Question::SampleAt { .. }, Some(_)) => "indexed_sample_at",
+            _ => unreachable!("no question by a handle or an index"),
+        }
     }
 }
 
@@ -36,8 +56,32 @@ fn open_name(way: Way) -> &'static str {
 }
 
 /// What was lent with what should be written, or the difference.
-fn check(way: Way, asked: &str, lent: &Lent<u64>, written: &[u64]) -> Result<(), Box<Difference>> {
+pub fn check(way: Way, asked: &str, lent: &Lent<u64>, written: &[u64]) -> Result<(), Box<Difference>> {
     lent.fault(written).map_or(Ok(()), |fault| Err(difference(way, asked, &fault)))
+}
+
+/// The number that came back is the one that should.
+pub fn check_number(way: Way, asked: &str, number: u32, expected: u32) -> Result<(), Box<Difference>> {
+    if number == expected {
+        return Ok(());
+    }
+    Err(difference(way, asked, &format!("the result is {number}, should be {expected}")))
+}
+
+/// What a call by the numbers of another film may answer and write: any answer that there is room for, or a refusal of the question, but never one of the film.
+fn safe(question: Question, number: u32, room: &[u64], places: &[u64]) -> (u32, Answer) {
+    let Some(places) = places.get(..question.places()) else {
+        return (if number == OUTSIDE { OUTSIDE } else { NO_ROOM }, Answer::default());
+    };
+    let refused = Answer { places: vec![0; places.len()], ..Answer::default() };
+    if number != 0 {
+        return (if number == OUTSIDE { OUTSIDE } else { NO_ROOM }, refused);
+    }
+    let list = if matches!(question, Question::Stretch { .. }) { 2 * u128::from(places[0]) } else { 0 };
+    match usize::try_from(list).ok().and_then(|list| room.get(..list)) {
+        Some(list) => (0, Answer { places: places.to_vec(), numbers: list.to_vec(), ..Answer::default() }),
+        None => (NO_ROOM, refused),
+    }
 }
 
 impl Comparison {
@@ -54,9 +98,7 @@ impl Comparison {
         let asked = format!("{} of track {id}", open_name(way));
         let mut handle = Lent::new(length, random.bits());
         let number = open(lent, way, id, &mut handle);
-        if number != expected {
-            return Err(difference(way, &asked, &format!("the result is {number}, should be {expected}")));
-        }
+        check_number(way, &asked, number, expected)?;
         self.counts.question(kind_of(open_name(way)), number);
         if number == 0 {
             let numbers = handle.elements()[..HANDLE].to_vec();
@@ -67,48 +109,41 @@ impl Comparison {
         Ok(None)
     }
 
-    /// Puts a question by a handle, with so many places. Where the film is the handle's own the answer is that of the film.
-    fn by_handle(
+    /// Puts a question by a handle or an index, with memory of any lengths. Where they are the film's own the answer is known.
+    pub fn ask_by(
         &mut self,
         random: &mut Random,
         (lent, way): (&[u8], Way),
-        numbers: &[u64],
+        by: By,
         question: Question,
-        film: Option<&Film>,
+        answer: Option<&Answered>,
     ) -> Result<(), Box<Difference>> {
-        let places = if random.once_in(8) { random.below(question.places()) } else { question.places() };
-        let mut handle = Lent::holding(numbers, random.bits());
-        let mut filled = Lent::new(places + random.below(2), random.bits());
-        let enough = filled.len() >= question.places() && numbers.len() >= HANDLE;
-        let number = ask_opened(lent, question, &mut handle, &mut filled);
-        let asked = format!("{}: {question:?}", name(question));
-        let answer = film.map(|film| question.answer(film));
-        let expected = match &answer {
-            Some(Ok(_)) if !enough => NO_ROOM,
-            Some(Ok(_)) => 0,
-            Some(Err(refused)) => refused.number,
-            // Of another film any answer is good that could be one, but never a refusal of the film.
-            None if [0, OUTSIDE, NO_ROOM].contains(&number) => number,
-            None => 0,
+        let lengths = Lengths::any(random, question, answer.unwrap_or(&Err(OUTSIDE.into())));
+        let mut handle = Lent::holding(by.handle, random.bits());
+        let mut index = by.index.map(|numbers| Lent::holding(numbers, random.bits()));
+        let (mut room, mut places) = (Lent::new(lengths.room, random.bits()), Lent::new(lengths.places, random.bits()));
+        let number = match &mut index {
+            None => ask_opened(lent, question, &mut handle, &mut room, &mut places),
+            Some(index) => ask_indexed(lent, question, &mut handle, index, &mut places),
         };
-        // With too few numbers there is no handle to be asked.
-        let expected = if numbers.len() < HANDLE { NO_ROOM } else { expected };
-        if number != expected {
-            return Err(difference(way, &asked, &format!("the result is {number}, should be {expected}")));
+        let (expected, written) = match answer {
+            // With too few numbers there is no handle to be asked.
+            _ if by.handle.len() < HANDLE => (NO_ROOM, Answer::default()),
+            Some(answer) => expected(question, answer, lengths),
+            None => safe(question, number, room.elements(), places.elements()),
+        };
+        let asked = format!("{}: {question:?}", by.name(question));
+        check_number(way, &asked, number, expected)?;
+        self.counts.question(kind_of(by.name(question)), number);
+        check(way, &asked, &handle, by.handle)?;
+        if let (Some(index), Some(numbers)) = (&index, by.index) {
+            check(way, &asked, index, numbers)?;
         }
-        self.counts.question(kind_of(name(question)), number);
-        check(way, &asked, &handle, numbers)?;
-        let all = filled.elements().to_vec();
-        let written = match answer {
-            _ if filled.len() < question.places() || numbers.len() < HANDLE => Vec::new(),
-            Some(Ok(answer)) => answer.places,
-            None if number == 0 => all[..question.places()].to_vec(),
-            _ => vec![0; question.places()],
-        };
-        check(way, &asked, &filled, &written)
+        check(way, &asked, &room, &written.numbers)?;
+        check(way, &asked, &places, &written.places)
     }
 
-    /// Every track opened, the questions by its handle, and by handles of the films before.
+    /// Every track opened, the questions by its handle and by its index, and by those of the films before.
     pub fn opened(&mut self, random: &mut Random, lent: &[u8], way: Way, film: &Film) -> Result<(), Box<Difference>> {
         let fewer = random.below(HANDLE);
         let movie = match &film.movie {
@@ -126,17 +161,20 @@ impl Comparison {
             let more = random.below(3);
             let handle = self.open(random, (lent, way), id, HANDLE + more, 0)?.expect("it is answered");
             for _ in 0..ROUNDS {
-                for question in lookups(random, track, movie.scale) {
-                    self.by_handle(random, (lent, way), &handle, question, Some(film))?;
-                    self.by_handle(random, (lent, way), &handle[..fewer], question, Some(film))?;
+                for question in by_handle(random, track, movie.scale) {
+                    let answer = question.answer(film);
+                    self.ask_by(random, (lent, way), By::handle(&handle), question, Some(&answer))?;
+                    self.ask_by(random, (lent, way), By::handle(&handle[..fewer]), question, Some(&answer))?;
                     let other = self.any_handle(random);
-                    self.by_handle(random, (lent, way), &other, question, None)?;
+                    self.ask_by(random, (lent, way), By::handle(&other), question, None)?;
                 }
             }
+            self.indexed(random, (lent, way), track, &handle, film)?;
             keep(&mut self.handles, random, handle);
         }
         if film.strict != film.number() {
-            for name in [open_name(way), "opened_sample", "opened_sample_at", "opened_media_time"] {
+            let by_handle = ["opened_sample", "opened_sample_at", "opened_media_time", "opened_stretch"];
+            for name in [open_name(way), "index", "indexed_sample", "indexed_sample_at"].into_iter().chain(by_handle) {
                 self.counts.strict(kind_of(name), 0);
             }
         }
@@ -144,14 +182,19 @@ impl Comparison {
     }
 
     /// The handle of another film, or numbers of any kind.
-    fn any_handle(&self, random: &mut Random) -> Vec<u64> {
-        let mut numbers = match self.handles.len() {
-            0 => vec![0; HANDLE],
-            kept => self.handles[random.below(kept)].clone(),
-        };
-        if random.once_in(2) {
-            alter(&mut numbers, random);
-        }
-        numbers
+    pub fn any_handle(&self, random: &mut Random) -> Vec<u64> {
+        any_of(&self.handles, random, HANDLE)
     }
+}
+
+/// Numbers that were kept of another film, so many zeros where there are none, or numbers of any kind.
+pub fn any_of(kept: &[Vec<u64>], random: &mut Random, length: usize) -> Vec<u64> {
+    let mut numbers = match kept.len() {
+        0 => vec![0; length],
+        count => kept[random.below(count)].clone(),
+    };
+    if random.once_in(2) && !numbers.is_empty() {
+        alter(&mut numbers, random);
+    }
+    numbers
 }

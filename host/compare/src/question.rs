@@ -48,8 +48,8 @@ const FUNCTIONS: [(&str, usize); 14] = [
     ("edits", 1),
 ];
 
-/// Every function of include/chaldoref.h but the step at top level: those of a whole file and of slips, then those of a moov alone, then the steps and those of a track that is opened once.
-pub const KINDS: [&str; 2 * FUNCTIONS.len() - 3 + 9] = [
+/// Every function of include/chaldoref.h but the step at top level: those of a whole file and of slips, then those of a moov alone, then the steps, those of a track that is opened once and those of its index.
+pub const KINDS: [&str; 2 * FUNCTIONS.len() - 3 + 13] = [
     "track_list",
     "sample",
     "sample_bytes",
@@ -84,6 +84,10 @@ pub const KINDS: [&str; 2 * FUNCTIONS.len() - 3 + 9] = [
     "opened_sample",
     "opened_sample_at",
     "opened_media_time",
+    "opened_stretch",
+    "index",
+    "indexed_sample",
+    "indexed_sample_at",
 ];
 
 /// The place of a function among `KINDS`.
