@@ -5,6 +5,8 @@ use chunks::first_of;
 use chunks::span;
 use lists::Total;
 ghost use mathlib.Core.Path.{_≡_};
+ghost use mathlib.Core.Bool.{_&&_};
+ghost use lib.Dec.{eqb};
 ghost use Rattle.lists.specs.Lists.{sum};
 ghost use Rattle.lists.specs.Totals.{totalOf};
 ghost use Rattle.chunks.specs.Chunks.{perChunk};
@@ -69,4 +71,34 @@ pub fn total_dealt(stsc: &[u8], chunks: u32) -> Total
         first = next;
     }
     Total::Sum(total as u32)
+}
+
+// Whether stsc agrees with the numbers of chunks and of descriptions, and deals so many samples: both in one pass, as every question asks them.
+pub fn deals_samples(stsc: &[u8], chunks: u32, descriptions: u32, samples: u32) -> bool
+    ensures { λ r. ⌜ r ≡ (dealsAgree (now (stsc .entry)) chunks descriptions && eqb (sum (perChunk (now (stsc .entry)) chunks)) samples) ⌝ }
+{
+    let part = after(stsc, 16);
+    let mut ahead = part;
+    let mut first = first_of(part, chunks);
+    if first != 1 {
+        return false;
+    }
+    let mut rest = samples as u64;
+    while 12 <= ahead.len() {
+        let per = u32_at(ahead, 4);
+        let id = u32_at(ahead, 8);
+        ahead = &ahead[12..];
+        let next = first_of(ahead, chunks);
+        let right = right_entry(first, next, per, id, descriptions);
+        if !right {
+            return false;
+        }
+        let here = span(first, next) * per as u64;
+        if rest < here {
+            return false;
+        }
+        rest -= here;
+        first = next;
+    }
+    rest == 0
 }

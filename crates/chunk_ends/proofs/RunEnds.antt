@@ -1,21 +1,21 @@
 -- Refusal 12 of a run of chunks: it is asked chunk by chunk; where each chunk has as many bytes, of the offsets alone; and of a run and what follows it one
 -- after the other.
 -- Assumes nothing.
-use Prim.Native.Nat.{ℕ, zero, suc, _+_, _-_, _*_, _^_, _≤_, _<_, min}
+use Prim.Native.Nat.{ℕ, zero, suc, _+_, _-_, _*_, _/_, _^_, _≤_, _<_, min, max}
 use mathlib.Core.Path.{_≡_, refl, sym, ap, _∙_}
 use mathlib.Core.Bool.{Bool, true, false, cond}
 use mathlib.Core.List.{List, [], _∷_, _++_}
-use native.Mathlib.Nat.{suc-mul, zero-mul}
+use native.Mathlib.Nat.{suc-mul, zero-mul, le-div-iff-mul-le}
 use native.Mathlib.Omega.{arith}
 use native.Mathlib.Decide.{decLt, decLe}
-use lib.Dec.{ltb}
-use lib.ListN.{length, getD, take, drop, replicate, drop-of-length-le}
+use lib.Dec.{ltb, leb}
+use lib.ListN.{length, getD, take, drop, replicate, length-drop, drop-of-length-le}
 use lib.Seq.{take-nil, take-all, drop-drop, getD-drop}
-use borrow.Author.Tests.{lt-ltb, le-ltb}
+use borrow.Author.Tests.{lt-ltb, le-ltb, le-leb, lt-leb}
 use Rattle.lists.specs.Lists.{sum}
 use Rattle.lists.proofs.Laws.{wide-mul}
-use Rattle.words.specs.Words.{wordsIn, widthOf}
-use Rattle.words.proofs.Turns.{words-drop, words-take}
+use Rattle.words.specs.Words.{numbersIn, wordsIn, widthOf}
+use Rattle.words.proofs.Turns.{width-above, numbers-none, numbers-drop, numbers-take, length-numbers, words-drop, words-take}
 use Rattle.chunks.specs.Chunks.{endWithin}
 use Rattle.chunk_ends.specs.Ends.{noneAbove}
 
@@ -117,19 +117,59 @@ module _ (limit per v : ℕ) (l : per * v ≤ limit) where
 
 -- ---- the first of some offsets
 
-pub none-asked : (most rest : ℕ) (cs : List ℕ) → rest ≡ 0 → noneAbove most (take rest cs) ≡ true
-none-asked most rest cs z = rw z
+-- cut out of a part, w being their width
+module _ (long : Bool) (part : List ℕ) (count : ℕ) {w : ℕ} (f : w ≡ widthOf long) where
+  pub first-fits : count ≤ length part / w → count * w ≤ length part
+  first-fits h = le-div-iff-mul-le {k = w} {x = count} {y = length part} (rw f (width-above long)) .0 h
 
-offset-first : (most rest : ℕ) (cs : List ℕ) → 0 < rest → noneAbove most (take rest cs) ≡ cond (ltb most (getD cs 0 0)) false (noneAbove most (take (rest - 1) (drop 1 cs)))
-offset-first most rest [] z = let e : ltb most 0 ≡ false = le-ltb most 0 (omega arith) in rw e (ap (noneAbove most) (take-nil rest ∙ sym (take-nil (rest - 1))))
-offset-first most rest (x ∷ cs) z = let n : rest ≡ suc (rest - 1) = omega arith in ap (λ (k : ℕ). noneAbove most (take k (x ∷ cs))) n
+  pub first-cut : numbersIn (widthOf long) (take (count * w) part) ≡ take count (numbersIn (widthOf long) part)
+  first-cut = rw f (numbers-take (widthOf long) (width-above long) count part)
 
-module _ (most rest : ℕ) (cs : List ℕ) (z : 0 < rest) {x : ℕ} (e : x ≡ getD cs 0 0) where
-  pub offset-above : most < x → noneAbove most (take rest cs) ≡ false
-  offset-above l = offset-first most rest cs z ∙ rw (← e, lt-ltb most x l)
+  pub first-all : length part / w < count → numbersIn (widthOf long) part ≡ take count (numbersIn (widthOf long) part)
+  first-all h =
+      let e : length part / w ≡ length (numbersIn (widthOf long) part) = ap (λ (k : ℕ). length part / k) f ∙ sym (length-numbers (widthOf long) (width-above long) part) in
+      sym (take-all count (numbersIn (widthOf long) part) (omega arith))
 
-  pub offset-below : x ≤ most → {left : ℕ} {ds : List ℕ} → left ≡ rest - 1 → ds ≡ drop 1 cs → noneAbove most (take left ds) ≡ noneAbove most (take rest cs)
-  offset-below l n o = rw (n, o) (sym (offset-first most rest cs z ∙ rw (← e, le-ltb most x l)))
+-- two of them, and one that is left
+module _ (long : Bool) (t : List ℕ) {step : ℕ} (f : step ≡ 2 * widthOf long) where
+  pub past-two : numbersIn (widthOf long) (drop step t) ≡ drop 2 (numbersIn (widthOf long) t)
+  past-two = rw f (numbers-drop (widthOf long) (width-above long) 2 t)
+
+  pub past-one : length t < step → drop 1 (numbersIn (widthOf long) t) ≡ []
+  past-one h =
+      sym (numbers-drop (widthOf long) (width-above long) 1 t)
+      ∙ numbers-none (widthOf long) (width-above long) (drop (1 * widthOf long) t) (omega (arith, length-drop (1 * widthOf long) t, width-above long))
+
+-- a number past the last is 0 and above nothing
+above-first : (most : ℕ) (cs : List ℕ) → noneAbove most cs ≡ cond (ltb most (getD cs 0 0)) false (noneAbove most (drop 1 cs))
+above-first most [] = let e : ltb most 0 ≡ false = le-ltb most 0 (omega arith) in rw e
+above-first most (x ∷ cs) = refl
+
+not-above : (most : ℕ) (cs : List ℕ) → getD cs 0 0 ≤ most → noneAbove most cs ≡ noneAbove most (drop 1 cs)
+not-above most cs h = above-first most cs ∙ rw (le-ltb most (getD cs 0 0) h)
+
+is-above : (most : ℕ) (cs : List ℕ) → most < getD cs 0 0 → noneAbove most cs ≡ false
+is-above most cs h = above-first most cs ∙ rw (lt-ltb most (getD cs 0 0) h)
+
+module _ (most : ℕ) (cs : List ℕ) {x y : ℕ} (e : x ≡ getD cs 0 0) (f : y ≡ getD cs 1 0) where
+  second : getD (drop 1 cs) 0 0 ≡ getD cs 1 0
+  second = getD-drop 1 cs 0 0
+
+  pub two-above : most < max x y → noneAbove most cs ≡ false
+  two-above h = elim (decLt most x) [
+    | yes l ↦ is-above most cs (omega arith)
+    | no l ↦ not-above most cs (omega arith) ∙ is-above most (drop 1 cs) (omega (arith, second))
+  ]
+
+  pub two-below : max x y ≤ most → noneAbove most (drop 2 cs) ≡ noneAbove most cs
+  two-below h =
+      sym (not-above most cs (omega arith) ∙ not-above most (drop 1 cs) (omega (arith, second)) ∙ ap (noneAbove most) (drop-drop 1 1 cs))
+
+pub one-below : (most : ℕ) (cs : List ℕ) {x : ℕ} → x ≡ getD cs 0 0 → drop 1 cs ≡ [] → leb x most ≡ noneAbove most cs
+one-below most cs {x} e d = elim (decLt most x) [
+  | yes l ↦ lt-leb x most l ∙ sym (is-above most cs (omega arith))
+  | no l ↦ le-leb x most (omega arith) ∙ sym (not-above most cs (omega arith) ∙ rw d)
+]
 
 -- ---- a run, and what follows it
 

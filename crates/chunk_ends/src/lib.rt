@@ -10,7 +10,7 @@ use words::number_in;
 use words::sum_words;
 use words::width_of;
 ghost use mathlib.Core.Path.{_≡_};
-ghost use Prim.Native.Nat.{_+_, _-_, _*_, _^_, _≤_, _<_, min};
+ghost use Prim.Native.Nat.{_+_, _-_, _*_, _^_, _≤_, _<_, min, max};
 ghost use lib.Dec.{ltb};
 ghost use lib.ListN.{length, take, replicate};
 ghost use Rattle.bigendian.specs.BigEndian.{u32At};
@@ -62,18 +62,38 @@ fn listed_within(
     true
 }
 
-// Whether none of the first `count` offsets is above the largest one allowed.
+// The first `count` of some numbers; all where there are fewer.
+fn first_numbers(part: &[u8], long: bool, count: u64) -> &[u8]
+    ensures { λ r. ⌜ numbersIn (widthOf long) (now r) ≡ take count (numbersIn (widthOf long) (now (part .entry))) ⌝ }
+{
+    let width = width_of(long);
+    if count <= (part.len() / width) as u64 {
+        let n = count as usize * width;
+        return &part[..n];
+    }
+    part
+}
+
+fn larger(a: u64, b: u64) -> u64
+    ensures { λ r. ⌜ r ≡ max a b ⌝ }
+{
+    if a < b { b } else { a }
+}
+
+// Whether none of the first `count` offsets is above the largest one allowed. Two a turn take as long as one would.
 fn offsets_within(offsets: &[u8], long: bool, count: u64, most: u64) -> bool
     ensures { λ r. ⌜ r ≡ noneAbove most (take count (numbersIn (widthOf long) (now (offsets .entry)))) ⌝ }
 {
-    let mut i: u64 = 0;
-    while i < count {
-        if most < number_in(offsets, long, i as usize) {
+    let step = 2 * width_of(long);
+    let these = first_numbers(offsets, long, count);
+    let mut t = these;
+    while step <= t.len() {
+        if most < larger(number_in(t, long, 0), number_in(t, long, 1)) {
             return false;
         }
-        i += 1;
+        t = &t[step..];
     }
-    true
+    number_in(t, long, 0) <= most
 }
 
 // Whether each of `count` chunks of `per` samples ends within a limit, with a common size of so many samples: chunk by chunk, since they may end before the

@@ -86,20 +86,19 @@ rest-clauses false false false true h = refl
 rest-clauses false false false false h = refl
 
 -- as the code joins what the tables answer, and as the paper joins its clauses
-joined-clauses : (m p n q d s y : Bool) → (q ≡ true → (d || s) ≡ true) → not ((((not m && (p || not n)) && not d) && not s) && not y) ≡ (m || ((not p && n) || (q || (d || (s || y)))))
+joined-clauses : (m p n q d s y : Bool) → (q ≡ true → (d || s) ≡ true) → not (((not m && (p || not n)) && (not d && not s)) && not y) ≡ (m || ((not p && n) || (q || (d || (s || y)))))
 joined-clauses true p n q d s y h = refl
 joined-clauses false false true q d s y h = refl
 joined-clauses false true n q d s y h = rest-clauses q d s y h
 joined-clauses false false false q d s y h = rest-clauses q d s y h
 
-pub contradicts-is : (t : List ℕ) (a b c d y w : Bool) → a ≡ counting (samplesOf t) (runsOf (tableOf stts t))
+pub contradicts-is : (t : List ℕ) (a b d y w : Bool) → a ≡ counting (samplesOf t) (runsOf (tableOf stts t))
     → b ≡ (eqb (length (tableOf ctts t)) 0 || counting (samplesOf t) (runsOf (tableOf ctts t)))
-    → c ≡ dealsAgree (tableOf stsc t) (chunksOf t) (descriptionsOf t)
-    → d ≡ eqb (sum (perChunk (tableOf stsc t) (chunksOf t))) (samplesOf t)
+    → d ≡ (dealsAgree (tableOf stsc t) (chunksOf t) (descriptionsOf t) && eqb (sum (perChunk (tableOf stsc t) (chunksOf t))) (samplesOf t))
     → y ≡ syncsAgree (tableOf stss t) (samplesOf t)
-    → w ≡ ((((a && b) && c) && d) && y) → not w ≡ contradicts t
+    → w ≡ (((a && b) && d) && y) → not w ≡ contradicts t
 unfolding contradicts
-contradicts-is t a b c d y w ea eb ec ed ey ew =
+contradicts-is t a b d y w ea eb ed ey ew =
     let n : ℕ = samplesOf t in
     let m₁ = counts-clauses n (tableOf stts t) in
     let m₂ = counts-clauses n (tableOf ctts t) in
@@ -110,18 +109,17 @@ contradicts-is t a b c d y w ea eb ec ed ey ew =
     let u : Bool = dealsContradict (tableOf stsc t) (chunksOf t) (descriptionsOf t) in
     let s : Bool = eqb (sum (perChunk (tableOf stsc t) (chunksOf t))) n in
     let v : Bool = syncsAgree (tableOf stss t) n in
-    let e : w ≡ ((((not m && (p || not o)) && not u) && not (not s)) && not (not v)) = ew ∙ rw (ea, eb, ec, ed, ey, m₁, m₂, g, not-not s, not-not v) in
+    let e : w ≡ (((not m && (p || not o)) && (not u && not (not s))) && not (not v)) = ew ∙ rw (ea, eb, ed, ey, m₁, m₂, g, not-not s, not-not v) in
     ap not e ∙ joined-clauses m p o (eqb (chunksOf t) 0 && not (eqb n 0)) u (not s) (not v) (none-dealt (tableOf stsc t) (chunksOf t) (descriptionsOf t) n)
 
 -- the same by what the code reads: the tables as parts, and the numbers of samples, chunks and descriptions
-pub contradicts-by : (t z o e x s u y : List ℕ) (n k m : ℕ) (a b c d v p q r w : Bool)
+pub contradicts-by : (t z o e x s u y : List ℕ) (n k m : ℕ) (a b d v p r w : Bool)
     → z ≡ tableOf stsz t → n ≡ u32At z 16 → o ≡ offsetTable t → k ≡ u32At o 12 → e ≡ tableOf stsd t → m ≡ u32At e 12 → x ≡ tableOf stsc t
     → s ≡ tableOf stts t → a ≡ counting n (runsOf s) → u ≡ tableOf ctts t → b ≡ (eqb (length u) 0 || counting n (runsOf u)) → p ≡ (a && b)
-    → c ≡ dealsAgree x k m → q ≡ (p && c) → d ≡ eqb (sum (perChunk x k)) n → r ≡ (q && d)
+    → d ≡ (dealsAgree x k m && eqb (sum (perChunk x k)) n) → r ≡ (p && d)
     → y ≡ tableOf stss t → v ≡ syncsAgree y n → w ≡ (r && v) → not w ≡ contradicts t
-contradicts-by t z o e x s u y n k m a b c d v p q r w ez en eo ek ee em ex es ea eu eb ep ec eq ed er ey ev ew =
+contradicts-by t z o e x s u y n k m a b d v p r w ez en eo ek ee em ex es ea eu eb ep ed er ey ev ew =
     let n′ : n ≡ samplesOf t = en ∙ ap (λ (l : List ℕ). u32At l 16) ez in
     let k′ : k ≡ chunksOf t = ek ∙ ap (λ (l : List ℕ). u32At l 12) eo in
     let m′ : m ≡ descriptionsOf t = em ∙ ap (λ (l : List ℕ). u32At l 12) ee in
-    contradicts-is t a b c d v w
-    (ea ∙ rw (n′, es)) (eb ∙ rw (n′, eu)) (ec ∙ rw (k′, m′, ex)) (ed ∙ rw (n′, k′, ex)) (ev ∙ rw (n′, ey)) (ew ∙ rw (er, eq, ep))
+    contradicts-is t a b d v w (ea ∙ rw (n′, es)) (eb ∙ rw (n′, eu)) (ed ∙ rw (n′, k′, m′, ex)) (ev ∙ rw (n′, ey)) (ew ∙ rw (er, ep))

@@ -43,12 +43,6 @@ module _ (x : ℕ) (r : Total) (is : r ≡ totalOf x) where
   pub not-over : r ≡ Over → x < 4294967296 → ⊥
   not-over q h = let k = over-known x (sym is ∙ q) in omega arith
 
-  pub sum-equal : (n k : ℕ) → r ≡ Sum n → eqb n k ≡ eqb x k
-  sum-equal n k q = ap (λ y. eqb y k) (sym (sum-is n q))
-
-  pub over-other : (k : ℕ) → k < 4294967296 → r ≡ Over → false ≡ eqb x k
-  over-other k h q = let o = over-known x (sym is ∙ q) in sym (ne-eqb x k (λ z. omega arith))
-
 -- ---- rows 10 to 13 and 19
 
 module _ (w : Source) (movie len : ℕ) (t : List ℕ) (total : ℕ) (is : total ≡ totalIn t) (fits : total < 4294967296) where

@@ -1,8 +1,7 @@
 // The refusals of a track, 7 to 13 and 19, from the body of its trak.
 use atoms::kinds;
 use bigendian::u32_at;
-use chunk_checks::deals_agree;
-use chunk_checks::total_dealt;
+use chunk_checks::deals_samples;
 use chunk_ends::chunks_end_within;
 use edits::edits_ok;
 use edits::edits_total;
@@ -25,8 +24,6 @@ ghost use lib.Dec.{ltb, eqb};
 ghost use Rattle.structure.specs.ByTracks.{ofTrack};
 ghost use Rattle.structure.specs.Track.{idOf, scaleOf};
 ghost use Rattle.places.specs.Places.{AreParts};
-ghost use Rattle.lists.specs.Lists.{sum};
-ghost use Rattle.chunks.specs.Chunks.{perChunk};
 ghost use Rattle.runs.specs.Runs.{runsOf};
 ghost use Rattle.runs.specs.Computed.{counting};
 ghost use Rattle.edits.specs.Edits.{editTotal};
@@ -54,16 +51,6 @@ fn may_count(ctts: &[u8], samples: u32) -> bool
     counts(ctts, samples)
 }
 
-// Whether the samples dealt to the chunks total that number.
-fn is_dealt(stsc: &[u8], chunks: u32, samples: u32) -> bool
-    ensures { λ r. ⌜ r ≡ eqb (sum (perChunk (now (stsc .entry)) chunks)) samples ⌝ }
-{
-    match total_dealt(stsc, chunks) {
-        Total::Sum(n) => n == samples,
-        Total::Over => false,
-    }
-}
-
 // Whether the sample tables contradict each other.
 fn is_contradictory(trak: &[u8], p: Parts) -> bool
     requires { ⌜ AreParts (now trak) p ⌝ }
@@ -75,8 +62,7 @@ fn is_contradictory(trak: &[u8], p: Parts) -> bool
     let stsc = part_of(trak, p.stsc);
     let a = counts(part_of(trak, p.stts), samples);
     let b = both(a, may_count(part_of(trak, p.ctts), samples));
-    let c = both(b, deals_agree(stsc, chunks, descriptions));
-    let d = both(c, is_dealt(stsc, chunks, samples));
+    let d = both(b, deals_samples(stsc, chunks, descriptions, samples));
     !both(d, syncs_agree(part_of(trak, p.stss), samples))
 }
 

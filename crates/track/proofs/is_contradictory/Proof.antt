@@ -41,17 +41,11 @@ may-count-requires c κs = tt
 both-requires : tie.Need-both-requires
 both-requires c κs = tt
 
-deals-agree-requires : tie.Need-deals-agree-requires
-deals-agree-requires c κs = tt
+deals-samples-requires : tie.Need-deals-samples-requires
+deals-samples-requires c κs = tt
 
 both-requires-2 : tie.Need-both-requires-2
 both-requires-2 c κs = tt
-
-is-dealt-requires : tie.Need-is-dealt-requires
-is-dealt-requires c κs = tt
-
-both-requires-3 : tie.Need-both-requires-3
-both-requires-3 c κs = tt
 
 part-of-requires-7 : tie.Need-part-of-requires-7
 part-of-requires-7 c κs = tt
@@ -59,26 +53,24 @@ part-of-requires-7 c κs = tt
 syncs-agree-requires : tie.Need-syncs-agree-requires
 syncs-agree-requires c κs = tt
 
-both-requires-4 : tie.Need-both-requires-4
-both-requires-4 c κs = tt
+both-requires-3 : tie.Need-both-requires-3
+both-requires-3 c κs = tt
 
 returns : tie.Need-returns
 returns c =
     let agreed = c .before in
     let dealt = agreed .before .before .before in
-    let deals = dealt .before .before in
-    let offsets = deals .before .before in
+    let offsets = dealt .before .before in
     let times = offsets .before .before in
     let stsc = times .before .before in
     let described = stsc .before in
     let chunked = described .before .before in
     let sampled = chunked .before .before in
     let h = sampled .before .before .before .pre in
-    contradicts-by _ _ _ _ _ _ _ _ _ _ _ _ _ _ _ _ _ _ _ _
+    contradicts-by _ _ _ _ _ _ _ _ _ _ _ _ _ _ _ _ _ _
     (sampled .before .part-of .ensures ∙ h .stsz) (sampled .u32-at .ensures) (chunked .before .part-of2 .ensures ∙ h .offsets) (chunked .u32-at2 .ensures) (described .before .part-of3 .ensures ∙ h .stsd) (described .u32-at3 .ensures)
-    (stsc .part-of4 .ensures ∙ h .stsc) (times .before .part-of5 .ensures ∙ h .stts) (times .counts .ensures) (offsets .before .part-of6 .ensures ∙ h .ctts) (offsets .may-count .ensures) (deals .before .both .ensures)
-    (deals .deals-agree .ensures) (dealt .before .both2 .ensures) (dealt .is-dealt .ensures) (agreed .before .before .both3 .ensures)
-    (agreed .before .part-of7 .ensures ∙ h .stss) (agreed .syncs-agree .ensures) (c .both4 .ensures)
+    (stsc .part-of4 .ensures ∙ h .stsc) (times .before .part-of5 .ensures ∙ h .stts) (times .counts .ensures) (offsets .before .part-of6 .ensures ∙ h .ctts) (offsets .may-count .ensures) (dealt .before .both .ensures)
+    (dealt .deals-samples .ensures) (agreed .before .before .both2 .ensures) (agreed .before .part-of7 .ensures ∙ h .stss) (agreed .syncs-agree .ensures) (c .both3 .ensures)
 
 pub is-contradictory-spec : {M : Type 1} → statement M
 is-contradictory-spec =
@@ -96,11 +88,9 @@ is-contradictory-spec =
     part-of-requires-6
     may-count-requires
     both-requires
-    deals-agree-requires
+    deals-samples-requires
     both-requires-2
-    is-dealt-requires
-    both-requires-3
     part-of-requires-7
     syncs-agree-requires
-    both-requires-4
+    both-requires-3
     returns)
