@@ -5,7 +5,9 @@ use mathlib.Core.Path.{_≡_, refl, sym, ap, _∙_}
 use mathlib.Core.List.{List, []}
 use native.Mathlib.Omega.{arith}
 use native.Mathlib.Decide.{ℕ-discrete, decLt}
-use borrow.Author.Tests.{eq-eqb, ne-eqb, lt-leb, le-leb}
+use mathlib.Core.Bool.{Bool, true, false, _&&_}
+use borrow.Author.Tests.{eq-eqb, ne-eqb, lt-leb, le-leb, lt-ltb, le-ltb}
+use lib.Dec.{ltb}
 use lib.ListN.{length, getD, length-drop}
 use Rattle.lists.specs.Lists.{sum, before, holder, Holds}
 use Rattle.lists.proofs.Places.{before-suc, before-all, holder-holds, holder-only, holds-below}
@@ -19,10 +21,15 @@ use Rattle.chunks.specs.declared.Sought.{Sought}
 use Rattle.chunks.proofs.Cursors.{ready-same, ready-valid, past-valid, no-samples, stands-at}
 use Rattle.chunks.proofs.Dealt.{first-chunk, first-offset, next-offset}
 use Rattle.chunks.proofs.Finding.{Finds, finds, located-some, offset-located}
-use Rattle.positions.specs.Dealing.{DealtAt, begun, readiedDealt, pastDealt}
+use Rattle.positions.specs.Dealing.{DealtAt, begun, readiedDealt, mayDeal, aheadOf, pastDealt}
 use Rattle.positions.specs.declared.dealt.Dealt.{Dealt}
+use Rattle.positions.specs.declared.dealt.Ahead.the-variants.{At, End}
 
 -- ---- what the code makes
+
+and-false : (b : Bool) → (b && false) ≡ false
+and-false true = refl
+and-false false = refl
 
 module _ (stsc o : List ℕ) (chunks : ℕ) (d : Dealt) where
   pub begun-none : chunks ≤ d .chunk → d ≡ begun stsc o chunks d
@@ -32,6 +39,12 @@ module _ (stsc o : List ℕ) (chunks : ℕ) (d : Dealt) where
       → _≡_ {A = Dealt} (record { cursor = p; chunk = d .chunk + 1; rest = c .per; offset = off }) (begun stsc o chunks d)
   begun-some h c p off e f g = rw (lt-leb chunks (d .chunk) h) (λ i. record { cursor = (f ∙ ap (past 1) e) i; chunk = d .chunk + 1; rest = e i .per; offset = g i })
 
+  pub begun-offset : d .chunk < chunks → begun stsc o chunks d .offset ≡ getD (chunkOffsets o) (d .chunk) 0
+  begun-offset h = rw (lt-leb chunks (d .chunk) h)
+
+  pub begun-rest : d .chunk < chunks → begun stsc o chunks d .rest ≡ readied stsc chunks (d .cursor) .per
+  begun-rest h = rw (lt-leb chunks (d .chunk) h)
+
   pub ready-here : (d .rest ≡ 0 → ⊥) → d ≡ readiedDealt stsc o chunks d
   unfolding readiedDealt
   ready-here z = rw (ne-eqb (d .rest) 0 z)
@@ -39,6 +52,18 @@ module _ (stsc o : List ℕ) (chunks : ℕ) (d : Dealt) where
   pub ready-next : d .rest ≡ 0 → begun stsc o chunks d ≡ readiedDealt stsc o chunks d
   unfolding readiedDealt
   ready-next z = rw (eq-eqb (d .rest) 0 z)
+
+-- whether a sample lies ahead
+
+module _ (d : Dealt) where
+  pub none-ahead : d .rest ≡ 0 → End ≡ aheadOf d
+  none-ahead z = rw (le-ltb 0 (d .rest) (omega arith))
+
+  pub too-high : 9223372036854775807 < d .offset → End ≡ aheadOf d
+  too-high h = let e : mayDeal d ≡ false = rw (le-ltb (d .offset) 9223372036854775808 (omega arith)) (and-false (ltb 0 (d .rest))) in rw e
+
+  pub some-ahead : (d .rest ≡ 0 → ⊥) → d .offset ≤ 9223372036854775807 → At d ≡ aheadOf d
+  some-ahead z h = rw (lt-ltb 0 (d .rest) (omega arith), lt-ltb (d .offset) 9223372036854775808 (omega arith))
 
 -- ---- the place of a sample
 

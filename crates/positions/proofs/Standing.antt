@@ -2,14 +2,13 @@
 -- Assumes nothing.
 use Prim.Native.Nat.{ℕ, suc, _+_, _-_, _≤_, _<_, _^_}
 use mathlib.Core.Path.{_≡_, refl, sym, ap, _∙_}
-use mathlib.Core.Bool.{Bool, true, false, not, _&&_, _||_}
+use mathlib.Core.Bool.{Bool, true, false, cond, _&&_}
 use mathlib.Core.List.{List}
 use native.Mathlib.Omega.{arith}
-use native.Mathlib.Decide.{ℕ-discrete}
-use borrow.Author.Tests.{eq-eqb, ne-eqb, lt-ltb, le-ltb, ltb-true}
-use lib.Dec.{ltb, eqb}
+use borrow.Author.Tests.{lt-ltb, le-ltb, ltb-true}
+use lib.Dec.{ltb}
 use lib.IntN.{ℤ}
-use lib.ListN.{length, getD, drop, length-drop}
+use lib.ListN.{length, getD, drop}
 use Rattle.bigendian.specs.BigEndian.{u32At}
 use Rattle.lists.specs.Lists.{sum, before, holder}
 use Rattle.lists.proofs.Booleans.{and-left, and-right}
@@ -17,83 +16,66 @@ use Rattle.lists.proofs.Places.{before-suc, before-le}
 use Rattle.runs.specs.Runs.{perSample, compositionOffset}
 use Rattle.runs.specs.Cursors.{RunStands, readiedRun}
 use Rattle.runs.specs.declared.cursor.RunCursor.{RunCursor}
-use Rattle.runs.proofs.Cursors.{ready-stop, ready-end, run-same}
+use Rattle.runs.proofs.Cursors.{run-same}
 use Rattle.words.specs.Words.{sizes, chunkOffsets, syncs, listed}
 use Rattle.chunks.specs.Chunks.{perChunk, descriptionIds, offsetOf}
 use Rattle.positions.specs.Runs.{soughtRun, shiftOf}
 use Rattle.positions.specs.Syncs.{syncPlace, syncStep}
-use Rattle.positions.specs.Dealing.{DealtAt}
-use Rattle.positions.specs.Moving.{Bytes, StandsAt, Agrees, needsEntries, readiedMoving, mayMove, pastMoving}
+use Rattle.positions.specs.Dealing.{DealtAt, mayDeal, aheadOf}
+use Rattle.positions.specs.Moving.{Bytes, StandsAt, Agrees, readiedMoving, mayMove, toMove, pastMoving}
 use Rattle.positions.specs.declared.dealt.Dealt.{Dealt}
+use Rattle.positions.specs.declared.dealt.Ahead.the-variants as dealing
 use Rattle.positions.specs.declared.moving.Moving.{Moving}
+use Rattle.positions.specs.declared.moving.Readied.the-variants.{At, End}
 use Rattle.positions.specs.declared.sync.SyncStep.{SyncStep}
 use Rattle.positions.proofs.Runs.{run-sought, run-some, run-each, run-shift, run-moves}
 use Rattle.positions.proofs.Syncs.{sync-sought, sync-moves}
-use Rattle.positions.proofs.Dealing.{ready-here, dealt-readied, dealt-moves}
+use Rattle.positions.proofs.Dealing.{dealt-readied, dealt-moves}
 
--- ---- the tests
-
-module _ (ctts : ℕ) (m : Moving) where
-  pub needs-chunk : m .dealt .rest ≡ 0 → true ≡ needsEntries ctts m
-  needs-chunk z = rw (eq-eqb (m .dealt .rest) 0 z)
-
-  module _ (y : m .dealt .rest ≡ 0 → ⊥) where
-    pub needs-time : m .times .count ≡ 0 → true ≡ needsEntries ctts m
-    needs-time z = rw (ne-eqb (m .dealt .rest) 0 y, eq-eqb (m .times .count) 0 z)
-
-    module _ (x : m .times .count ≡ 0 → ⊥) where
-      pub needs-none : (m .shifts .count ≡ 0 → ⊥) → false ≡ needsEntries ctts m
-      needs-none z = rw (ne-eqb (m .dealt .rest) 0 y, ne-eqb (m .times .count) 0 x, ne-eqb (m .shifts .count) 0 z)
-
-      pub needs-shift : m .shifts .count ≡ 0 → not (eqb ctts 0) ≡ needsEntries ctts m
-      needs-shift z = rw (ne-eqb (m .dealt .rest) 0 y, ne-eqb (m .times .count) 0 x, eq-eqb (m .shifts .count) 0 z)
+-- ---- whether the places may be moved
 
 module _ (m : Moving) where
-  pub may-chunk : m .dealt .rest ≡ 0 → false ≡ mayMove m
-  may-chunk z = rw (le-ltb 0 (m .dealt .rest) (omega arith))
-
-  module _ (y : m .dealt .rest ≡ 0 → ⊥) where
-    pub may-offset : 9223372036854775807 < m .dealt .offset → false ≡ mayMove m
-    may-offset z = rw (lt-ltb 0 (m .dealt .rest) (omega arith), le-ltb (m .dealt .offset) 9223372036854775808 (omega arith))
-
-    pub may-decode : m .dealt .offset ≤ 9223372036854775807 → ltb (m .decode) 4294967296 ≡ mayMove m
-    may-decode z = rw (lt-ltb 0 (m .dealt .rest) (omega arith), lt-ltb (m .dealt .offset) 9223372036854775808 (omega arith))
-
   pub may-known : mayMove m ≡ true → (0 < m .dealt .rest) × (m .dealt .offset < 2 ^ 63) × (m .decode < 4294967296)
   may-known e =
-      let a = and-right (ltb 0 (m .dealt .rest)) _ e in
-      (ltb-true 0 (m .dealt .rest) (and-left _ _ e), ltb-true (m .dealt .offset) 9223372036854775808 (and-left _ _ a), ltb-true (m .decode) 4294967296 (and-right (ltb (m .dealt .offset) 9223372036854775808) _ a))
+      let a = and-right (ltb (m .decode) 4294967296) _ e in
+      (ltb-true 0 (m .dealt .rest) (and-left _ _ a), ltb-true (m .dealt .offset) 9223372036854775808 (and-right (ltb 0 (m .dealt .rest)) _ a), ltb-true (m .decode) 4294967296 (and-left _ _ e))
 
   pub may-if : 0 < m .dealt .rest → m .dealt .offset < 2 ^ 63 → m .decode < 4294967296 → mayMove m ≡ true
   may-if a b c = rw (lt-ltb 0 (m .dealt .rest) a, lt-ltb (m .dealt .offset) 9223372036854775808 b, lt-ltb (m .decode) 4294967296 c)
 
--- ---- where no entry is to be read, reading them changes nothing
+  pub too-late : 4294967295 < m .decode → End ≡ toMove m
+  too-late h = rw (le-ltb (m .decode) 4294967296 (omega arith))
 
-false-true : {A : Type 0} → true ≡ false → A
-false-true e = let z : _≡_ {A = ℕ} 0 1 = cc in absurd (omega arith)
+  not-dealt : (b : Bool) → cond b (dealing.At (m .dealt)) dealing.End ≡ dealing.End → End ≡ cond b (At m) End
+  not-dealt true c = let z : _≡_ {A = ℕ} 0 1 = cc in absurd (omega arith)
+  not-dealt false c = refl
 
-idle : (s : List ℕ) (c : RunCursor) → ((c .count ≡ 0) → length s ≡ 0) → readiedRun s c ≡ c
-idle s c g = elim (ℕ-discrete (c .count) 0) [
-  | yes z ↦ ready-end s c refl (omega (arith, length-drop (c .at) s, g z))
-  | no z ↦ ready-stop s c z
-]
+  pub none-dealt : m .decode ≤ 4294967295 → aheadOf (m .dealt) ≡ dealing.End → End ≡ toMove m
+  none-dealt h e = rw (lt-ltb (m .decode) 4294967296 (omega arith)) (not-dealt (mayDeal (m .dealt)) e)
 
-pub needs-same : (stts ctts stsc offsets : List ℕ) (l : ℕ) (m : Moving) → (l ≡ 0 → length ctts ≡ 0) → needsEntries l m ≡ false → readiedMoving stts ctts stsc offsets m ≡ m
-needs-same stts ctts stsc offsets l m g e =
-    let a : m .dealt .rest ≡ 0 → ⊥ = λ z. false-true (needs-chunk l m z ∙ e) in
-    let b : m .times .count ≡ 0 → ⊥ = λ z. false-true (needs-time l m a z ∙ e) in
-    let d : m .shifts .count ≡ 0 → length ctts ≡ 0 = λ z. elim (ℕ-discrete l 0) [
-      | yes y ↦ g y
-      | no y ↦ false-true (ap not (sym (ne-eqb l 0 y)) ∙ needs-shift l m a b z ∙ e)
-    ] in
-    λ i. record {
-      index = m .index;
-      decode = m .decode;
-      times = ready-stop stts (m .times) b i;
-      shifts = idle ctts (m .shifts) d i;
-      dealt = sym (ready-here stsc offsets (u32At offsets 12) (m .dealt) a) i;
-      sync = m .sync;
-    }
+  some-dealt : (b : Bool) (d : Dealt) → cond b (dealing.At (m .dealt)) dealing.End ≡ dealing.At d → (b ≡ true) × (m .dealt ≡ d)
+  some-dealt true d c = let z : m .dealt ≡ d = cc in (refl, z)
+  some-dealt false d c = let z : _≡_ {A = ℕ} 0 1 = cc in absurd (omega arith)
+
+  pub dealt-at : (d : Dealt) → m .decode ≤ 4294967295 → aheadOf (m .dealt) ≡ dealing.At d → (At m ≡ toMove m) × (m .dealt ≡ d)
+  dealt-at d h e =
+      let w = some-dealt (mayDeal (m .dealt)) d e in
+      (rw (lt-ltb (m .decode) 4294967296 (omega arith), w .0), w .1)
+
+  -- what came of them
+  ended : (b : Bool) → cond b (At m) End ≡ End → b ≡ false
+  ended true c = let z : _≡_ {A = ℕ} 0 1 = cc in absurd (omega arith)
+  ended false c = refl
+
+  pub may-not : toMove m ≡ End → mayMove m ≡ false
+  may-not e = ended (mayMove m) e
+
+  came-to : (b : Bool) (n : Moving) → cond b (At m) End ≡ At n → (b ≡ true) × (m ≡ n)
+  came-to true n c = let z : m ≡ n = cc in (refl, z)
+  came-to false n c = let z : _≡_ {A = ℕ} 0 1 = cc in absurd (omega arith)
+
+  pub may-so : (n : Moving) → toMove m ≡ At n → (mayMove m ≡ true) × (m ≡ n)
+  may-so n e = came-to (mayMove m) n e
 
 -- ---- before a sample
 

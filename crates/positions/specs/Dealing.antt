@@ -1,15 +1,21 @@
 -- A place in the chunks before a sample.
 use Prim.Native.Nat.{ℕ, suc, _+_, _-_, _<_}
 use mathlib.Core.Path.{_≡_}
-use mathlib.Core.Bool.{cond}
+use mathlib.Core.Bool.{Bool, cond, _&&_}
 use mathlib.Core.List.{List}
 use lib.ListN.{getD}
-use lib.Dec.{leb, eqb}
+use lib.Dec.{ltb, leb, eqb}
+use Rattle.bigendian.specs.BigEndian.{u32At}
+use Rattle.atoms.specs.Atoms.{kindOf}
+use Rattle.atoms.specs.Kinds.{co64}
 use Rattle.lists.specs.Lists.{before, holder}
 use Rattle.words.specs.Words.{chunkOffsets}
 use Rattle.chunks.specs.Chunks.{perChunk, descriptionIds, offsetOf}
 use Rattle.chunks.specs.Cursors.{Valid, readied, past}
 use Rattle.positions.specs.declared.dealt.Dealt.{Dealt}
+use Rattle.positions.specs.declared.dealt.OffsetHead.{OffsetHead}
+use Rattle.positions.specs.declared.dealt.Ahead.{Ahead}
+use Rattle.positions.specs.declared.dealt.Ahead.the-variants.{At, End}
 
 -- before the sample with index k, by stsc with that many chunks, the chunks' offsets cs and the samples' sizes zs: the cursor stands before the next
 -- chunk, and the chunks begun have `rest` samples from k on; if there is one, it is the sample itself, in the last chunk begun
@@ -21,6 +27,10 @@ pub record DealtAt (stsc : List ℕ) (chunks : ℕ) (cs zs : List ℕ) (k : ℕ)
   pub description : 0 < d .rest → d .cursor .description ≡ getD (descriptionIds stsc chunks) (holder (perChunk stsc chunks) k) 0
 
 -- ---- as the code has it. This need not be believed: `dealt-readied` and `dealt-moves` of `proofs/Dealing.antt` are what callers go by
+
+-- what the head of the table of offsets says
+abbrev pub offsetHead : List ℕ → OffsetHead
+offsetHead offsets = record { chunks = u32At offsets 12; long = eqb (kindOf offsets) co64 }
 
 -- the next chunk begun, if there is one
 abbrev pub begun : List ℕ → List ℕ → ℕ → Dealt → Dealt
@@ -35,6 +45,13 @@ begun stsc offsets chunks d =
 
 unfoldable pub readiedDealt : List ℕ → List ℕ → ℕ → Dealt → Dealt
 readiedDealt stsc offsets chunks d = cond (eqb (d .rest) 0) (begun stsc offsets chunks d) d
+
+-- whether a sample lies ahead whose offset is so low that the next one fits
+abbrev pub mayDeal : Dealt → Bool
+mayDeal d = ltb 0 (d .rest) && ltb (d .offset) 9223372036854775808
+
+abbrev pub aheadOf : Dealt → Ahead
+aheadOf d = cond (mayDeal d) (At d) End
 
 abbrev pub pastDealt : ℕ → Dealt → Dealt
 pastDealt size d = record { cursor = d .cursor; chunk = d .chunk; rest = d .rest - 1; offset = d .offset + size }

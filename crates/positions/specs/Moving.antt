@@ -1,19 +1,21 @@
 -- The places in all tables of a track before one of its samples.
 use Prim.Native.Nat.{ℕ, _+_, _-_, _<_, _^_}
 use mathlib.Core.Path.{_≡_}
-use mathlib.Core.Bool.{Bool, true, not, _&&_, _||_}
+use mathlib.Core.Bool.{Bool, true, cond, _&&_}
 use mathlib.Core.List.{List}
 use lib.ListN.{length, getD, drop}
-use lib.Dec.{ltb, eqb}
+use lib.Dec.{ltb}
 use Rattle.bigendian.specs.BigEndian.{u32At}
 use Rattle.lists.specs.Lists.{sum, before}
 use Rattle.runs.specs.Runs.{perSample}
 use Rattle.runs.specs.Cursors.{runAhead, readiedRun, pastRun}
 use Rattle.words.specs.Words.{sizes, chunkOffsets, syncsAgree}
 use Rattle.chunks.specs.Chunks.{perChunk, offsetOf}
-use Rattle.positions.specs.Dealing.{DealtAt, readiedDealt, pastDealt}
+use Rattle.positions.specs.Dealing.{DealtAt, readiedDealt, mayDeal, pastDealt}
 use Rattle.positions.specs.Syncs.{SyncAt}
 use Rattle.positions.specs.declared.moving.Moving.{Moving}
+use Rattle.positions.specs.declared.moving.Readied.{Readied}
+use Rattle.positions.specs.declared.moving.Readied.the-variants.{At, End}
 
 -- the sample tables of a track, as their bytes
 pub record Bytes : Type 0 where
@@ -45,10 +47,6 @@ pub record Agrees (x : Bytes) (n : ℕ) : Type 0 where
 
 -- ---- as the code has it. This need not be believed: the laws of `proofs/Standing.antt` are what callers go by
 
--- whether an entry is to be read before the sample is known
-abbrev pub needsEntries : ℕ → Moving → Bool
-needsEntries ctts m = eqb (m .dealt .rest) 0 || (eqb (m .times .count) 0 || (eqb (m .shifts .count) 0 && not (eqb ctts 0)))
-
 abbrev pub readiedMoving : List ℕ → List ℕ → List ℕ → List ℕ → Moving → Moving
 readiedMoving stts ctts stsc offsets m =
     record {
@@ -61,7 +59,11 @@ readiedMoving stts ctts stsc offsets m =
     }
 
 abbrev pub mayMove : Moving → Bool
-mayMove m = ltb 0 (m .dealt .rest) && (ltb (m .dealt .offset) 9223372036854775808 && ltb (m .decode) 4294967296)
+mayMove m = ltb (m .decode) 4294967296 && mayDeal (m .dealt)
+
+-- places with the entries read, where they may be moved
+abbrev pub toMove : Moving → Readied
+toMove m = cond (mayMove m) (At m) End
 
 abbrev pub pastMoving : ℕ → ℕ → Moving → Moving
 pastMoving size sync m =

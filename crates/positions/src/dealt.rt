@@ -1,18 +1,25 @@
 // A place in the chunks, by stsc with the chunk offsets and stsz.
+use bigendian::after;
+use bigendian::u32_at;
 use chunks::ChunkCursor;
 use chunks::Located;
 use chunks::located_offset;
 use chunks::pass;
 use chunks::ready;
 use chunks::seek;
-use words::chunk_offset;
+use words::HEAD;
+use words::is_long;
+use words::number_in;
 ghost use mathlib.Core.Path.{_≡_};
 ghost use Prim.Native.Nat.{_+_, _^_, _≤_, _<_};
+ghost use lib.Dec.{eqb};
 ghost use lib.ListN.{length};
 ghost use Rattle.lists.specs.Lists.{sum};
+ghost use Rattle.atoms.specs.Atoms.{kindOf};
+ghost use Rattle.atoms.specs.Kinds.{co64};
 ghost use Rattle.words.specs.Words.{sizes, chunkOffsets};
 ghost use Rattle.chunks.specs.Chunks.{perChunk, offsetOf};
-ghost use Rattle.positions.specs.Dealing.{begun, readiedDealt, pastDealt, DealtAt};
+ghost use Rattle.positions.specs.Dealing.{offsetHead, begun, readiedDealt, aheadOf, pastDealt, DealtAt};
 
 // How many chunks are begun; how many samples of the last of them are still to come, and the offset of the next of these; a cursor before the next chunk,
 // which still has the description ID of the one begun.
@@ -23,33 +30,67 @@ pub struct Dealt {
     pub offset: u64,
 }
 
-// The next chunk begun, if there is one.
-fn begin(stsc: &[u8], offsets: &[u8], chunks: u32, d: Dealt) -> Dealt
-    ensures { λ r. ⌜ r ≡ begun (now (stsc .entry)) (now (offsets .entry)) chunks d ⌝ }
+// What the head of stco or co64 says: how many chunks there are, and whether their offsets have 64 bits.
+pub struct OffsetHead {
+    pub chunks: u32,
+    pub long: bool,
+}
+
+// Read once, for the offsets of many chunks.
+pub fn offset_head(offsets: &[u8]) -> OffsetHead
+    ensures { λ r. ⌜ r ≡ offsetHead (now (offsets .entry)) ⌝ }
 {
-    let chunk = d.chunk;
-    if chunks <= chunk {
-        return d;
-    }
-    let old = d.cursor;
-    let c = ready(stsc, chunks, old);
-    let cursor = pass(c, 1);
-    Dealt {
-        cursor,
-        chunk: chunk + 1,
-        rest: c.per,
-        offset: chunk_offset(offsets, chunk as u64),
+    OffsetHead {
+        chunks: u32_at(offsets, 12),
+        long: is_long(offsets),
     }
 }
 
-// At a sample: where the chunk begun has none left, the next one is begun.
-pub(crate) fn dealt_ready(stsc: &[u8], offsets: &[u8], chunks: u32, d: Dealt) -> Dealt
-    ensures { λ r. ⌜ r ≡ readiedDealt (now (stsc .entry)) (now (offsets .entry)) chunks d ⌝ }
+// The place of a sample in a chunk begun; no more where there is none, or where its offset could not grow.
+pub enum Ahead {
+    At(Dealt),
+    End,
+}
+
+// The next chunk begun, where the last one has no sample left. What ends the steps is told before a cursor is moved: so no two are held at once.
+fn begin(stsc: &[u8], offsets: &[u8], head: OffsetHead, d: Dealt) -> Ahead
+    requires { ⌜ (head .long ≡ eqb (kindOf (now offsets)) co64) × (d .rest ≡ 0) ⌝ }
+    ensures { λ r. ⌜ r ≡ aheadOf (begun (now (stsc .entry)) (now (offsets .entry)) (head .chunks) d) ⌝ }
 {
-    if d.rest != 0 {
-        return d;
+    let chunk = d.chunk;
+    if head.chunks <= chunk {
+        return Ahead::End;
     }
-    begin(stsc, offsets, chunks, d)
+    let offset = number_in(after(offsets, HEAD), head.long, chunk as usize);
+    if 9223372036854775807 < offset {
+        return Ahead::End;
+    }
+    let old = d.cursor;
+    let c = ready(stsc, head.chunks, old);
+    if c.per == 0 {
+        return Ahead::End;
+    }
+    let cursor = pass(c, 1);
+    Ahead::At(Dealt {
+        cursor,
+        chunk: chunk + 1,
+        rest: c.per,
+        offset,
+    })
+}
+
+// At a sample: where the chunk begun has none left, the next one is begun.
+pub(crate) fn dealt_ready(stsc: &[u8], offsets: &[u8], head: OffsetHead, d: Dealt) -> Ahead
+    requires { ⌜ head .long ≡ eqb (kindOf (now offsets)) co64 ⌝ }
+    ensures { λ r. ⌜ r ≡ aheadOf (readiedDealt (now (stsc .entry)) (now (offsets .entry)) (head .chunks) d) ⌝ }
+{
+    if d.rest == 0 {
+        return begin(stsc, offsets, head, d);
+    }
+    if 9223372036854775807 < d.offset {
+        return Ahead::End;
+    }
+    Ahead::At(d)
 }
 
 // Past a sample of that size.

@@ -38,7 +38,7 @@ pub enum SampleAnswer {
 }
 
 // A decode time and a signed offset, added.
-fn shifted(decode: u64, offset: i64) -> i64
+pub fn shifted(decode: u64, offset: i64) -> i64
     requires { ⌜ (decode < 2 ^ 32) × (mag offset < 2 ^ 31) ⌝ }
     ensures { λ r. ⌜ r ≡ pos decode +ℤ offset ⌝ }
 {

@@ -16,14 +16,12 @@ use Rattle.chunks.specs.Chunks.{Deal, dealsIn}
 use Rattle.chunks.specs.Cursors as cursors
 use Rattle.chunks.specs.Cursors.{loaded, readied}
 use Rattle.chunks.specs.declared.ChunkCursor.{ChunkCursor}
-use Rattle.places.specs.Places.{partIn}
-use Rattle.places.specs.declared.tables.Tables.{Tables}
 use Rattle.positions.specs.Dealing.{begun, readiedDealt}
 use Rattle.positions.specs.Syncs.{syncStepIn, syncStep}
 use Rattle.positions.specs.declared.dealt.Dealt.{Dealt}
 use Rattle.positions.specs.declared.moving.Moving.{Moving}
 use Rattle.positions.proofs.Dealing.{ready-here, ready-next}
-use Rattle.stepping.specs.Parts.{readiedIn}
+use Rattle.positions.specs.Moving.{Bytes, readiedMoving}
 use Rattle.stepping.specs.Moves.{movedPast}
 use Rattle.stepping.specs.Stepping.{Forward}
 
@@ -64,14 +62,14 @@ sync-forward (x ∷ xs) at number = elim (ℕ-discrete x number) [
   | no z ↦ rw (ne-eqb x number z) (omega arith)
 ]
 
-pub moved-forward : (s : List ℕ) (p : Tables) (z y : List ℕ) (m : Moving) → Forward m (movedPast z y (readiedIn s p m))
+pub moved-forward : (x : Bytes) (m : Moving) → Forward m (movedPast (x .stsz) (x .stss) (readiedMoving (x .stts) (x .ctts) (x .stsc) (x .offsets) m))
 unfolding readiedRun syncStep
-moved-forward s p z y m =
-    let d = dealt-forward (partIn s (p .stsc)) (partIn s (p .offsets)) (u32At (partIn s (p .offsets)) 12) (m .dealt) in
+moved-forward x m =
+    let d = dealt-forward (x .stsc) (x .offsets) (u32At (x .offsets) 12) (m .dealt) in
     record {
-      stts = run-forward (runsIn (drop (m .times .at) (partIn s (p .stts)))) (m .times);
-      ctts = run-forward (runsIn (drop (m .shifts .at) (partIn s (p .ctts)))) (m .shifts);
+      stts = run-forward (runsIn (drop (m .times .at) (x .stts))) (m .times);
+      ctts = run-forward (runsIn (drop (m .shifts .at) (x .ctts))) (m .shifts);
       stsc = d .0;
       offsets = d .1;
-      stss = sync-forward (wordsIn (drop (m .sync) y)) (m .sync) (m .index + 1);
+      stss = sync-forward (wordsIn (drop (m .sync) (x .stss))) (m .sync) (m .index + 1);
     }

@@ -5,10 +5,11 @@ use mathlib.Core.Path.{_≡_, refl, sym, ap, _∙_}
 use mathlib.Core.Bool.{Bool, true, false, cond}
 use mathlib.Core.List.{List, [], _∷_}
 use native.Mathlib.Omega.{arith}
-use borrow.Author.Tests.{eq-eqb, ne-eqb}
+use native.Mathlib.Decide.{decLt}
+use borrow.Author.Tests.{eq-eqb, ne-eqb, lt-leb, le-leb}
 use lib.Dec.{eqb}
 use lib.IntN.{ℤ, pos, _+ℤ_}
-use lib.ListN.{length, getD, take, drop}
+use lib.ListN.{length, getD}
 use Rattle.atoms.specs.Kinds as kinds
 use Rattle.lists.specs.Lists.{before, holder}
 use Rattle.lists.proofs.Places.{each-at}
@@ -18,19 +19,18 @@ use Rattle.structure.specs.declared.source.Source.{Source}
 use Rattle.structure.specs.Track.{tableOf, samplesOf}
 use Rattle.track.specs.Track.{trackOf}
 use Rattle.places.specs.Places.{partIn, AreTables}
-use Rattle.places.specs.declared.tables.Tables.{Tables}
 use Rattle.positions.specs.Runs.{shiftOf}
 use Rattle.positions.specs.Syncs.{syncStep}
-use Rattle.positions.specs.Moving.{Bytes, StandsAt, Agrees, needsEntries, readiedMoving, mayMove, pastMoving}
+use Rattle.positions.specs.Moving.{Bytes, StandsAt, Agrees, readiedMoving, mayMove, pastMoving}
 use Rattle.positions.specs.declared.moving.Moving.{Moving}
 use Rattle.positions.specs.declared.sync.SyncStep.{SyncStep}
 use Rattle.positions.proofs.Syncs.{sync-is}
-use Rattle.positions.proofs.Standing.{needs-same, may-known, Says, stands-ready, says-ready, stands-past, listed-is}
+use Rattle.positions.proofs.Standing.{may-known, Says, stands-ready, says-ready, stands-past, listed-is}
 use Rattle.questions.specs.Asked.{askRefusal, trackAsked}
 use Rattle.questions.specs.Samples.{sampleOf, sampleValues}
 use Rattle.questions.specs.declared.samples.Sample.{Sample}
-use Rattle.stepping.specs.Parts.{bytesIn, readiedIn}
-use Rattle.stepping.specs.Moves.{sampleSaid, movedPast, movedOn}
+use Rattle.stepping.specs.Parts.{bytesIn}
+use Rattle.stepping.specs.Moves.{sampleSaid, movedPast, movedOn, steppedOn}
 use Rattle.stepping.specs.Stepping.{bytesOf, Stands, stepNumbers, Onward, Elsewhere, Steps}
 use Rattle.stepping.specs.declared.moves.Move.{Move}
 use Rattle.stepping.specs.declared.moves.Move.the-variants.{To, End}
@@ -39,13 +39,6 @@ use Rattle.stepping.specs.declared.Step.{Step}
 use Rattle.stepping.specs.declared.Step.the-variants.{Next, Done}
 use Rattle.stepping.proofs.Agreeing.{asked-agrees, in-film}
 use Rattle.stepping.proofs.Forward.{moved-forward}
-
--- where no entry is needed, reading them changes nothing
-pub ready-same : (s : List ℕ) (p : Tables) (m : Moving) → needsEntries (p .ctts .len) m ≡ false → readiedIn s p m ≡ m
-unfolding partIn
-ready-same s p m e =
-    needs-same (partIn s (p .stts)) (partIn s (p .ctts)) (partIn s (p .stsc)) (partIn s (p .offsets)) (p .ctts .len) m
-    (λ z. ap (λ (n : ℕ). length (take n (drop (p .ctts .at) s))) z) e
 
 -- ---- the sample
 
@@ -93,6 +86,10 @@ sync-some y b e = rw (ne-eqb (length y) 0 e)
 
 -- ---- a step
 
+-- with the entries read
+abbrev movedReady : Bytes → Moving → Move
+movedReady x m = movedOn (x .stsz) (x .stss) (readiedMoving (x .stts) (x .ctts) (x .stsc) (x .offsets) m)
+
 -- the sample with index k, and the places past it
 record Passes (s : List ℕ) (id k : ℕ) (v : Move) : Type 0 where
   places : Moving
@@ -100,7 +97,7 @@ record Passes (s : List ℕ) (id k : ℕ) (v : Move) : Type 0 where
   stands : StandsAt (bytesOf (trackAsked s id)) (samplesOf (trackAsked s id)) (suc k) places
 
 passes : (s : List ℕ) (w : Source) (id k : ℕ) (p : Stepper) → Stands s w id k p → k < samplesOf (trackAsked s id)
-    → Passes s id k (movedOn (partIn s (p .tables .stsz)) (partIn s (p .tables .stss)) (readiedIn s (p .tables) (p .moving)))
+    → Passes s id k (movedReady (bytesIn s (p .tables)) (p .moving))
 unfolding movedOn
 passes s w id k p a h =
     let t = trackAsked s id in
@@ -137,42 +134,75 @@ steps-past s p h = record {
   elsewhere = done-elsewhere p;
 }
 
-module _ (s : List ℕ) (p : Stepper) (h : p .moving .index < p .samples) (m : Moving) (e : m ≡ readiedIn s (p .tables) (p .moving)) (z y : List ℕ) (f : z ≡ partIn s (p .tables .stsz)) (g : y ≡ partIn s (p .tables .stss)) (v : Move) (d : v ≡ movedOn z y m) where
-  moved-is : v ≡ movedOn (partIn s (p .tables .stsz)) (partIn s (p .tables .stss)) (readiedIn s (p .tables) (p .moving))
-  moved-is = d ∙ (λ i. movedOn (f i) (g i) (e i))
+-- ---- the ways out of `step_in`
 
-  no-more : (w : Source) (id : ℕ) {A : Type 0} → Stands s w id (samplesOf (trackAsked s id)) p → A
-  no-more w id a = absurd (omega (arith, a .samples, a .moving .index))
+module _ (x : Bytes) (samples : ℕ) (m : Moving) where
+  pub stepped-past : samples ≤ m .index → End ≡ steppedOn x samples m
+  unfolding steppedOn
+  stepped-past h = rw (le-leb samples (m .index) h)
 
-  -- no more, of a position of another film
+  pub stepped-by : m .index < samples → movedReady x m ≡ steppedOn x samples m
+  unfolding steppedOn
+  stepped-by h = rw (lt-leb samples (m .index) h)
+
+-- ---- the promise, of what `step_in` answers
+
+module _ (s : List ℕ) (p : Stepper) (v : Move) (d : v ≡ steppedOn (bytesIn s (p .tables)) (p .samples) (p .moving)) where
+  -- the places with the entries read
+  abbrev ready : Moving
+  ready = readiedMoving (partIn s (p .tables .stts)) (partIn s (p .tables .ctts)) (partIn s (p .tables .stsc)) (partIn s (p .tables .offsets)) (p .moving)
+
+  module _ (h : p .moving .index < p .samples) where
+    moved-is : v ≡ movedReady (bytesIn s (p .tables)) (p .moving)
+    moved-is = d ∙ sym (stepped-by (bytesIn s (p .tables)) (p .samples) (p .moving) h)
+
+    -- no more, of a position of another film
+    none-next : v ≡ End → Steps s p Done
+    none-next u = record {
+      next = λ w id k a l.
+          let q = passes s w id k p a l in
+          let c : End ≡ To (sampleOf (trackOf (trackAsked s id)) k) (q .places) = sym u ∙ moved-is ∙ q .answer in
+          let n : _≡_ {A = ℕ} 0 1 = cc in
+          absurd (omega arith);
+      done = λ w id a. refl;
+      elsewhere = done-elsewhere p;
+    }
+
   pub steps-end : v ≡ End → Steps s p Done
-  steps-end u = record {
-    next = λ w id k a l.
-        let q = passes s w id k p a l in
-        let c : End ≡ To (sampleOf (trackOf (trackAsked s id)) k) (q .places) = sym u ∙ moved-is ∙ q .answer in
-        let n : _≡_ {A = ℕ} 0 1 = cc in
-        absurd (omega arith);
-    done = λ w id a. refl;
-    elsewhere = done-elsewhere p;
-  }
+  steps-end u = elim (decLt (p .moving .index) (p .samples)) [
+    | yes h ↦ none-next h u
+    | no h ↦ steps-past s p (omega arith)
+  ]
 
   module _ (x : Sample) (n : Moving) (u : v ≡ To x n) (l : n .dealt .chunk < 2 ^ 32) where
+    past-none : {A : Type 0} → p .samples ≤ p .moving .index → A
+    past-none h =
+        let c : To x n ≡ End = sym u ∙ d ∙ sym (stepped-past (bytesIn s (p .tables)) (p .samples) (p .moving) h) in
+        let z : _≡_ {A = ℕ} 0 1 = cc in
+        absurd (omega arith)
+
+    before-last : p .moving .index < p .samples
+    before-last = elim (decLt (p .moving .index) (p .samples)) [
+      | yes h ↦ h
+      | no h ↦ past-none (omega arith)
+    ]
+
     -- the places that it passes on are the ones moved
-    came : (b : Bool) → mayMove m ≡ b → cond b (To (sampleSaid z y m) (movedPast z y m)) End ≡ To x n
-        → (mayMove m ≡ true) × (sampleSaid z y m ≡ x) × (movedPast z y m ≡ n)
-    came true q c = let a : sampleSaid z y m ≡ x = cc in let b : movedPast z y m ≡ n = cc in (q, a, b)
+    came : (b : Bool) → mayMove ready ≡ b → cond b (To (sampleSaid (partIn s (p .tables .stsz)) (partIn s (p .tables .stss)) ready) (movedPast (partIn s (p .tables .stsz)) (partIn s (p .tables .stss)) ready)) End ≡ To x n
+        → (mayMove ready ≡ true) × (sampleSaid (partIn s (p .tables .stsz)) (partIn s (p .tables .stss)) ready ≡ x) × (movedPast (partIn s (p .tables .stsz)) (partIn s (p .tables .stss)) ready ≡ n)
+    came true q c = let a : sampleSaid (partIn s (p .tables .stsz)) (partIn s (p .tables .stss)) ready ≡ x = cc in let b : movedPast (partIn s (p .tables .stsz)) (partIn s (p .tables .stss)) ready ≡ n = cc in (q, a, b)
     came false q c = let a : _≡_ {A = ℕ} 0 1 = cc in absurd (omega arith)
 
-    known : (mayMove m ≡ true) × (sampleSaid z y m ≡ x) × (movedPast z y m ≡ n)
+    known : (mayMove ready ≡ true) × (sampleSaid (partIn s (p .tables .stsz)) (partIn s (p .tables .stss)) ready ≡ x) × (movedPast (partIn s (p .tables .stsz)) (partIn s (p .tables .stss)) ready ≡ n)
     unfolding movedOn
-    known = came (mayMove m) refl (sym d ∙ u)
+    known = came (mayMove ready) refl (sym (moved-is before-last) ∙ u)
 
     pub steps-next : Steps s p (Next x (record { tables = p .tables; samples = p .samples; moving = n }))
     unfolding stepNumbers
     steps-next = record {
       next = λ w id k a h.
           let q = passes s w id k p a h in
-          let c : To (sampleOf (trackOf (trackAsked s id)) k) (q .places) ≡ To x n = sym (q .answer) ∙ sym moved-is ∙ u in
+          let c : To (sampleOf (trackOf (trackAsked s id)) k) (q .places) ≡ To x n = sym (q .answer) ∙ sym (moved-is before-last) ∙ u in
           let i : x ≡ sampleOf (trackOf (trackAsked s id)) k = cc in
           let j : q .places ≡ n = cc in
           record {
@@ -187,20 +217,19 @@ module _ (s : List ℕ) (p : Stepper) (h : p .moving .index < p .samples) (m : M
               moving = rw (← j) (q .stands);
             };
           };
-      done = λ w id a. no-more w id a;
+      done = λ w id a. absurd (omega (arith, before-last, a .samples, a .moving .index));
       elsewhere = record {
         moves = λ r q c.
             let a : q ≡ record { tables = p .tables; samples = p .samples; moving = n } = cc in
-            let b : n .index ≡ m .index + 1 = ap (λ o. o .index) (sym (known .2)) in
-            let o : m .index ≡ p .moving .index = ap (λ o. o .index) e in
-            rw a (h, omega arith, refl);
+            let b : n .index ≡ p .moving .index + 1 = ap (λ o. o .index) (sym (known .2)) in
+            rw a (before-last, omega arith, refl);
         same = λ r q c. let a : q ≡ record { tables = p .tables; samples = p .samples; moving = n } = cc in rw a refl;
         forward = λ r q c.
             let a : q ≡ record { tables = p .tables; samples = p .samples; moving = n } = cc in
-            rw (a, ← known .2, e) (moved-forward s (p .tables) z y (p .moving));
+            rw (a, ← known .2) (moved-forward (bytesIn s (p .tables)) (p .moving));
         low = λ r q c.
             let a : x ≡ r = cc in
-            let b = may-known m (known .0) in
+            let b = may-known ready (known .0) in
             rw (← a, ← known .1) (b .2, omega (arith, l, ap (λ o. o .dealt .chunk) (known .2)), b .1);
       };
     }

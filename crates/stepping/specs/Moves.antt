@@ -2,15 +2,17 @@
 use Prim.Native.Nat.{ℕ, _+_}
 use mathlib.Core.Bool.{true, cond}
 use mathlib.Core.List.{List}
-use lib.Dec.{eqb}
+use lib.Dec.{leb, eqb}
 use lib.ListN.{length, getD}
 use lib.IntN.{pos, _+ℤ_}
-use Rattle.words.specs.Words.{sizes}
+use Rattle.words.specs.Words.{sizes, sizeHead}
 use Rattle.positions.specs.Runs.{shiftOf}
 use Rattle.positions.specs.Syncs.{syncStep}
-use Rattle.positions.specs.Moving.{mayMove, pastMoving}
+use Rattle.positions.specs.Dealing.{offsetHead}
+use Rattle.positions.specs.Moving.{Bytes, readiedMoving, mayMove, pastMoving}
 use Rattle.positions.specs.declared.moving.Moving.{Moving}
 use Rattle.questions.specs.declared.samples.Sample.{Sample}
+use Rattle.stepping.specs.declared.moves.Heads.{Heads}
 use Rattle.stepping.specs.declared.moves.Move.{Move}
 use Rattle.stepping.specs.declared.moves.Move.the-variants.{To, End}
 
@@ -33,3 +35,11 @@ movedPast stsz stss m = pastMoving (getD (sizes stsz) (m .index) 0) (syncStep st
 
 unfoldable pub movedOn : List ℕ → List ℕ → Moving → Move
 movedOn stsz stss m = cond (mayMove m) (To (sampleSaid stsz stss m) (movedPast stsz stss m)) End
+
+-- a step by the tables' bytes: the entries read that the sample needs, and then the sample
+unfoldable pub steppedOn : Bytes → ℕ → Moving → Move
+steppedOn x samples m = cond (leb samples (m .index)) End (movedOn (x .stsz) (x .stss) (readiedMoving (x .stts) (x .ctts) (x .stsc) (x .offsets) m))
+
+-- what the heads of stsz and of the chunk offsets say
+abbrev pub headsOf : List ℕ → List ℕ → Heads
+headsOf stsz offsets = record { sizes = sizeHead stsz; offsets = offsetHead offsets }

@@ -3,8 +3,7 @@ use Prim.Native.Nat.{ℕ}
 use mathlib.Core.List.{List}
 use Rattle.places.specs.Places.{partIn}
 use Rattle.places.specs.declared.tables.Tables.{Tables}
-use Rattle.positions.specs.Moving.{Bytes, readiedMoving}
-use Rattle.positions.specs.declared.moving.Moving.{Moving}
+use Rattle.positions.specs.Moving.{Bytes}
 
 -- the tables' bytes
 abbrev pub bytesIn : List ℕ → Tables → Bytes
@@ -17,6 +16,3 @@ bytesIn s p =
       offsets = partIn s (p .offsets);
       stss = partIn s (p .stss);
     }
-
-abbrev pub readiedIn : List ℕ → Tables → Moving → Moving
-readiedIn s p m = readiedMoving (partIn s (p .stts)) (partIn s (p .ctts)) (partIn s (p .stsc)) (partIn s (p .offsets)) m

@@ -7,14 +7,13 @@ use asked::track_part;
 use bigendian::u32_at;
 use chunks::ChunkCursor;
 use moves::Move;
-use moves::moved;
-use parts::entries_read;
+use moves::heads_of;
+use moves::step_in;
 use parts::moving_at;
 use places::part_of;
 use places::tables::Tables;
 use places::tables::tables_of;
 use positions::moving::Moving;
-use positions::moving::needs_entries;
 use questions::ask_refusal;
 use questions::samples::Sample;
 use structure::source::Source;
@@ -85,17 +84,27 @@ impl Stepper {
     {
         let tables = self.tables;
         let samples = self.samples;
-        let mut m = self.moving;
-        if samples <= m.index {
-            return Step::Done;
-        }
+        let m = self.moving;
+        let stts = tables.stts;
         let ctts = tables.ctts;
-        if needs_entries(m, ctts.len) {
-            m = entries_read(lent, tables, m);
-        }
+        let stsc = tables.stsc;
         let stsz = tables.stsz;
+        let offsets = tables.offsets;
         let stss = tables.stss;
-        let r = moved(part_of(lent, stsz), part_of(lent, stss), m);
+        let z = part_of(lent, stsz);
+        let o = part_of(lent, offsets);
+        let heads = heads_of(z, o);
+        let r = step_in(
+            part_of(lent, stts),
+            part_of(lent, ctts),
+            part_of(lent, stsc),
+            z,
+            o,
+            part_of(lent, stss),
+            heads,
+            samples,
+            m,
+        );
         match r {
             Move::To(sample, moving) => Step::Next(
                 sample,

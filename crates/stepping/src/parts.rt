@@ -1,19 +1,17 @@
-// The places in the tables of a track by their parts: before a sample with an index, and with the entries read that a sample needs.
+// The places in the tables of a track by their parts, before a sample with an index.
 use bigendian::u32_at;
 use places::part_of;
 use places::tables::Tables;
 use positions::dealt::dealt_seek;
 use positions::moving::Moving;
-use positions::moving::read_entries;
 use positions::run::run_seek;
 use positions::sync::sync_seek;
 use runs::timing_of;
-ghost use mathlib.Core.Path.{_≡_};
 ghost use Prim.Native.Nat.{_<_, _^_};
 ghost use lib.ListN.{length};
 ghost use Rattle.places.specs.Places.{partIn};
 ghost use Rattle.positions.specs.Moving.{StandsAt, Agrees};
-ghost use Rattle.stepping.specs.Parts.{bytesIn, readiedIn};
+ghost use Rattle.stepping.specs.Parts.{bytesIn};
 
 // In each table, of an accepted track.
 pub(crate) fn moving_at(lent: &[u8], tables: Tables, samples: u32, index: u32) -> Moving
@@ -46,21 +44,4 @@ pub(crate) fn moving_at(lent: &[u8], tables: Tables, samples: u32, index: u32) -
         dealt,
         sync: sync_seek(part_of(lent, stss), index),
     }
-}
-
-// The entries that the sample needs are read. `step` asks first whether there are any, so that this is called at the ends of runs and chunks alone.
-pub fn entries_read(lent: &[u8], tables: Tables, m: Moving) -> Moving
-    ensures { λ r. ⌜ r ≡ readiedIn (now (lent .entry)) tables m ⌝ }
-{
-    let stts = tables.stts;
-    let ctts = tables.ctts;
-    let stsc = tables.stsc;
-    let offsets = tables.offsets;
-    read_entries(
-        part_of(lent, stts),
-        part_of(lent, ctts),
-        part_of(lent, stsc),
-        part_of(lent, offsets),
-        m,
-    )
 }

@@ -10,6 +10,7 @@ use lib.ListN.{length, drop, set}
 use lib.Seq.{sets, sets-eq, length-sets}
 use lib.IntN.{ℤ}
 use Rattle.movie.specs.Rooms.{filledRoom}
+use Rattle.positions.specs.declared.moving.Moving.{Moving}
 use Rattle.questions.specs.Samples.{sampleValues}
 use Rattle.questions.specs.declared.samples.Sample.{Sample}
 use Rattle.stepping.specs.Stepping.{Steps, Chain}
@@ -17,6 +18,10 @@ use Rattle.stepping.specs.declared.Stepper.{Stepper}
 use Rattle.stepping.specs.declared.Step.the-variants.{Next, Done}
 use Rattle.steps_into.specs.Into.{flatSamples, StepsInto}
 use Rattle.steps_into.specs.declared.Reached.{Reached}
+
+-- a position of the same tables by other places
+abbrev pub at : Stepper → Moving → Stepper
+at p m = record { tables = p .tables; samples = p .samples; moving = m }
 
 -- one step more, at the end
 pub chain-more : (s : List ℕ) (p : Stepper) (xs : List Sample) (q : Stepper) (x : Sample) (r : Stepper) → Chain s p xs q → Steps s q (Next x r)

@@ -1,9 +1,14 @@
 // The next samples of a track, put into lent room one after the other.
+use places::part_of;
+use places::tables::Tables;
+use positions::moving::Moving;
 use questions::samples::Sample;
-use stepping::Step;
 use stepping::Stepper;
+use stepping::moves::Move;
+use stepping::moves::heads_of;
+use stepping::moves::step_in;
 ghost use mathlib.Core.Path.{_≡_};
-ghost use Prim.Native.Nat.{_+_, _≤_, _<_, _^_};
+ghost use Prim.Native.Nat.{_+_, _/_, _≤_, _<_, _^_};
 ghost use lib.ListN.{length};
 ghost use lib.Seq.{sets};
 ghost use Rattle.questions.specs.Samples.{sampleValues};
@@ -41,26 +46,49 @@ pub struct Reached {
     pub position: Stepper,
 }
 
+fn reached_at(at: usize, tables: Tables, samples: u32, moving: Moving) -> Reached
+    ensures { λ r. ⌜ r ≡ record { count = at / 8; position = record { tables = tables; samples = samples; moving = moving } } ⌝ }
+{
+    Reached {
+        count: at / SAMPLE,
+        position: Stepper {
+            tables,
+            samples,
+            moving,
+        },
+    }
+}
+
 // Puts the next samples into the first places of the room: as many as it holds, or fewer where a step is done. Of a position of its own film those
-// are all that are left.
+// are all that are left. The loop holds the places alone, and each table is made a slice once.
 pub fn steps_into(lent: &[u8], from: Stepper, room: &mut [i64]) -> Reached
     ensures { λ r. ⌜ StepsInto (now (lent .entry)) from (now (room .entry)) r (now (room .exit)) ⌝ }
 {
-    let mut position = from;
+    let tables = from.tables;
+    let samples = from.samples;
+    let part = tables.stts;
+    let stts = part_of(lent, part);
+    let part = tables.ctts;
+    let ctts = part_of(lent, part);
+    let part = tables.stsc;
+    let stsc = part_of(lent, part);
+    let part = tables.stsz;
+    let stsz = part_of(lent, part);
+    let part = tables.offsets;
+    let offsets = part_of(lent, part);
+    let part = tables.stss;
+    let stss = part_of(lent, part);
+    let heads = heads_of(stsz, offsets);
+    let mut m = from.moving;
     let mut at = 0;
     while SAMPLE <= room.len() - at {
-        let Step::Next(x, next) = position.step(lent) else {
-            return Reached {
-                count: at / SAMPLE,
-                position,
-            };
+        let step = step_in(stts, ctts, stsc, stsz, offsets, stss, heads, samples, m);
+        let Move::To(x, next) = step else {
+            return reached_at(at, tables, samples, m);
         };
         put_sample(x, room, at);
         at += SAMPLE;
-        position = next;
+        m = next;
     }
-    Reached {
-        count: at / SAMPLE,
-        position,
-    }
+    reached_at(at, tables, samples, m)
 }

@@ -9,6 +9,7 @@ use Rattle.bigendian.specs.BigEndian.{beAt, u32At}
 use Rattle.lists.specs.Entries.{rowsOf, entries}
 use Rattle.atoms.specs.Atoms.{kindOf}
 use Rattle.atoms.specs.Kinds.{co64}
+use Rattle.words.specs.declared.SizeHead.{SizeHead}
 
 -- an entry: one number
 abbrev pub word : List ℕ → ℕ
@@ -28,6 +29,10 @@ wordsAfter head s = map word (entries head 4 s)
 -- one number for each sample, its size: "common size 12, n at 16; sizes only if the common size is 0"
 unfoldable pub sizes : List ℕ → List ℕ
 sizes s = cond (eqb (u32At s 12) 0) (wordsAfter 20 s) (replicate (u32At s 16) (u32At s 12))
+
+-- the two numbers of the head by which sizes are told; these need not be believed: callers go by `sizes`
+abbrev pub sizeHead : List ℕ → SizeHead
+sizeHead s = record { common = u32At s 12; samples = u32At s 16 }
 
 -- the bytes of a number of 64 bits, or of 32
 abbrev pub widthOf : Bool → ℕ

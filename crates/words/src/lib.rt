@@ -12,7 +12,7 @@ ghost use lib.ListN.{length, getD, take};
 ghost use Rattle.lists.specs.Lists.{sum, between};
 ghost use Rattle.atoms.specs.Atoms.{kindOf};
 ghost use Rattle.atoms.specs.Kinds.{co64};
-ghost use Rattle.words.specs.Words.{numbersIn, wordsIn, sizes, widthOf, chunkOffsets, syncsAgree, isSync};
+ghost use Rattle.words.specs.Words.{numbersIn, wordsIn, sizes, sizeHead, widthOf, chunkOffsets, syncsAgree, isSync};
 
 // The bytes of a table of offsets or of sync samples before its entries, of stsz before its sizes, and of a number of 32 and of 64 bits.
 pub const HEAD: usize = 16;
@@ -84,15 +84,38 @@ fn listed_between(part: &[u8], from: u32, to: u32) -> u64
     first_sum(after(part, (from as usize) * 4), span(from, to))
 }
 
+// What the head of stsz says: the size that all samples have, or 0 where sizes are listed, and how many samples there are.
+pub struct SizeHead {
+    pub common: u32,
+    pub samples: u32,
+}
+
+// Read once, for the sizes of many samples.
+pub fn size_head(stsz: &[u8]) -> SizeHead
+    ensures { λ r. ⌜ r ≡ sizeHead (now (stsz .entry)) ⌝ }
+{
+    SizeHead {
+        common: u32_at(stsz, 12),
+        samples: u32_at(stsz, 16),
+    }
+}
+
+// The size of a sample, by the table and its head.
+pub fn size_by(stsz: &[u8], head: SizeHead, index: u32) -> u32
+    requires { ⌜ head ≡ sizeHead (now stsz) ⌝ }
+    ensures { λ r. ⌜ r ≡ getD (sizes (now (stsz .entry))) index 0 ⌝ }
+{
+    if head.common == 0 {
+        return word_at(after(stsz, SIZES_HEAD), index as usize);
+    }
+    if index < head.samples { head.common } else { 0 }
+}
+
 // The size of a sample.
 pub fn size_of(stsz: &[u8], index: u32) -> u32
     ensures { λ r. ⌜ r ≡ getD (sizes (now (stsz .entry))) index 0 ⌝ }
 {
-    let common = u32_at(stsz, 12);
-    if common == 0 {
-        return word_at(after(stsz, SIZES_HEAD), index as usize);
-    }
-    if index < u32_at(stsz, 16) { common } else { 0 }
+    size_by(stsz, size_head(stsz), index)
 }
 
 // The sizes of the samples from one index up to, not including, another, added.

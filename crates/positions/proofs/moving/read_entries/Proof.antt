@@ -1,39 +1,72 @@
--- `positions::moving::read_entries` meets its contract, by what the calls ensure.
+-- `positions::moving::read_entries` meets its contract: each way out is one of the definition's.
 -- Assumes nothing.
-use Prim.Native.Nat.{ℕ}
-use mathlib.Core.Path.{_≡_, ap, _∙_}
-use denote.Ref.{now}
-use Rattle.positions.specs.Dealing.{readiedDealt}
 use borrow.Author.Needs.{needs}
+use Prim.Native.Nat.{ℕ}
+use mathlib.Core.Path.{_≡_, sym, ap, _∙_}
+use native.Mathlib.Omega.{arith}
+use denote.Ref.{now}
+use Rattle.bigendian.specs.BigEndian.{u32At}
+use Rattle.positions.specs.Dealing.{readiedDealt, aheadOf}
+use Rattle.positions.specs.Moving.{readiedMoving}
+use Rattle.positions.specs.declared.moving.Moving.{Moving}
+use Rattle.positions.specs.declared.moving.Readied.the-variants.{At}
+use Rattle.positions.proofs.Standing.{too-late, none-dealt, dealt-at}
 use Rattle.positions.proofs.moving.read_entries.Statement.{statement}
 use Rattle.positions.proofs.moving.read_entries.Tie as tie
 
-run-ready-requires : tie.Need-run-ready-requires
-run-ready-requires c κs = tt
+-- the places with the entries read
+abbrev readied : tie.Start → Moving
+readied e = readiedMoving (now (e .args .stts)) (now (e .args .ctts)) (now (e .args .stsc)) (now (e .args .offsets)) (e .args .m)
 
-run-ready-requires-2 : tie.Need-run-ready-requires-2
-run-ready-requires-2 c κs = tt
-
-u32-at-requires : tie.Need-u32-at-requires
-u32-at-requires c κs = tt
-
-dealt-ready-requires : tie.Need-dealt-ready-requires
-dealt-ready-requires c κs = tt
+ahead : (d : tie.After-dealt-ready) → d .dealt-ready .result ≡ aheadOf (readied (d .before .before .before .before .before .before .before .before) .dealt)
+ahead d =
+    let e = d .before .before .before .before .before .before .before .before in
+    d .dealt-ready .ensures ∙ ap (λ (n : ℕ). aheadOf (readiedDealt (now (e .args .stsc)) (now (e .args .offsets)) n (e .args .m .dealt))) (ap (λ h. h .chunks) (e .pre))
 
 returns : tie.Need-returns
-returns c =
-    let a = c .before .before .before .before .before .before .before .before .before .before .before .args in
-    let d = c .dealt-ready .ensures ∙ ap (λ (n : ℕ). readiedDealt (now (a .stsc)) (now (a .offsets)) n (a .m .dealt)) (c .before .u32-at .ensures) in
-    λ i. record {
-      index = a .m .index;
-      decode = a .m .decode;
-      times = c .before .before .before .run-ready .ensures i;
-      shifts = c .before .before .run-ready2 .ensures i;
-      dealt = d i;
-      sync = a .m .sync;
-    }
+returns c = too-late (readied (c .before .before .before .before .before .before)) (c .if1 .taken)
+
+dealt-ready-requires : tie.Need-dealt-ready-requires
+dealt-ready-requires c κs = ap (λ h. h .long) (c .before .before .before .before .before .before .before .pre)
+
+enum-known-dealt : tie.Need-enum-known-dealt
+enum-known-dealt c = search needs
+
+enum-told : tie.Need-enum-told
+enum-told c = search needs
+
+returns-2 : tie.Need-returns-2
+returns-2 c = none-dealt (readied (c .before .before .before .before .before .before .before .before .before .before)) (c .before .before .before .before .if1 .left) (sym (ahead (c .before .before)) ∙ c .enum-told .given .1)
+
+run-ready-requires : tie.Need-run-ready-requires
+run-ready-requires c κs = search needs
+
+run-ready-requires-2 : tie.Need-run-ready-requires-2
+run-ready-requires-2 c κs = search needs
+
+returns-3 : tie.Need-returns-3
+returns-3 c =
+    let e = c .before .before .before .before .before .before .before .before .before .before .before .before .before .before .before in
+    let w = dealt-at (readied e) _ (c .before .before .before .before .before .before .before .before .before .if1 .left) (sym (ahead (c .before .before .before .before .before .before .before)) ∙ c .before .before .before .before .before .dealt .given .1) in
+    (λ i. At (record {
+      index = e .args .m .index;
+      decode = e .args .m .decode;
+      times = c .before .run-ready .ensures i;
+      shifts = c .run-ready2 .ensures i;
+      dealt = sym (w .1) i;
+      sync = e .args .m .sync;
+    }))
+    ∙ w .0
 
 pub read-entries-spec : {M : Type 1} → statement M
 read-entries-spec =
     tie.close
-    (tie.spec run-ready-requires run-ready-requires-2 u32-at-requires dealt-ready-requires returns)
+    (tie.spec
+    returns
+    dealt-ready-requires
+    enum-known-dealt
+    enum-told
+    returns-2
+    run-ready-requires
+    run-ready-requires-2
+    returns-3)
