@@ -173,6 +173,34 @@ static bool ask_thousand_times(const struct film *f, const struct track_facts *t
     return refused == 0 && at.sample == t->samples;
 }
 
+/* The same by an index, whose filling is counted in. */
+static bool ask_indexed_samples(const struct film *f, const struct track_facts *t, double *ms)
+{
+    struct chaldoref_opened track;
+    struct chaldoref_moov_sample_info s = { 0 };
+    double begin = now_ms();
+    uint32_t refused = chaldoref_open_track(f->bytes, f->len, t->id, &track);
+    refused |= chaldoref_track_index(f->bytes, f->len, &track, wide_room, ROOM);
+    for (uint32_t i = 1; i <= LOOKUPS; i++)
+        refused |= chaldoref_track_indexed_sample(f->bytes, f->len, &track, wide_room, ROOM, t->samples / LOOKUPS * i, &s);
+    *ms = now_ms() - begin;
+    return refused == 0 && s.chunk == t->chunks && s.offset == t->last_begin && s.size == t->last_size;
+}
+
+static bool ask_indexed_times(const struct film *f, const struct track_facts *t, double *ms)
+{
+    struct chaldoref_opened track;
+    struct chaldoref_sample_at_info at = { 0 };
+    double begin = now_ms();
+    uint32_t refused = chaldoref_open_track(f->bytes, f->len, t->id, &track);
+    refused |= chaldoref_track_index(f->bytes, f->len, &track, wide_room, ROOM);
+    for (uint32_t i = 1; i <= LOOKUPS; i++)
+        refused |= chaldoref_track_indexed_sample_at(f->bytes, f->len, &track, wide_room, ROOM,
+                                                     (uint32_t)((uint64_t)t->total * i / LOOKUPS) - 1, &at);
+    *ms = now_ms() - begin;
+    return refused == 0 && at.sample == t->samples;
+}
+
 static bool ask_sample_at(const struct film *f, const struct track_facts *t, double *ms)
 {
     uint64_t places[CHALDOREF_SAMPLE_AT_PLACES];
@@ -203,15 +231,34 @@ static bool ask_moov_track_list(const struct film *f, const struct track_facts *
     return refused == 0 && tracks == (uint64_t)f->tracks && is_line(room, &f->track[0]);
 }
 
+/* Whether the pairs in the room of 64-bit numbers are the whole track. */
+static bool is_whole(struct chaldoref_stretch_info stretch, const struct track_facts *t)
+{
+    uint64_t sum = 0;
+    for (uint32_t i = 0; i < t->chunks; i++)
+        sum += chaldoref_wide_pair_of(wide_room, i).length;
+    return stretch.pairs == t->chunks && stretch.bytes == t->bytes && sum == t->bytes;
+}
+
 static bool ask_moov_stretch(const struct film *f, const struct track_facts *t, double *ms)
 {
-    uint64_t places[2], sum = 0;
+    uint64_t places[2];
     double begin = now_ms();
     uint32_t refused = chaldoref_moov_stretch(f->moov, f->moov_len, f->len, t->id, 0, t->total, wide_room, ROOM, places, 2);
     *ms = now_ms() - begin;
-    for (uint32_t i = 0; i < t->chunks; i++)
-        sum += wide_room[2 * i + 1];
-    return refused == 0 && places[0] == t->chunks && places[1] == t->bytes && sum == t->bytes;
+    return refused == 0 && is_whole(chaldoref_stretch_of(places), t);
+}
+
+/* By the handle, beyond the opening. */
+static bool ask_opened_stretch(const struct film *f, const struct track_facts *t, double *ms)
+{
+    struct chaldoref_opened track;
+    struct chaldoref_stretch_info stretch;
+    uint32_t refused = chaldoref_open_track(f->bytes, f->len, t->id, &track);
+    double begin = now_ms();
+    refused |= chaldoref_track_stretch(f->bytes, f->len, &track, 0, t->total, wide_room, ROOM, &stretch);
+    *ms = now_ms() - begin;
+    return refused == 0 && is_whole(stretch, t);
 }
 
 static bool ask_moov_write_slip(const struct film *f, const struct track_facts *t, double *ms)
@@ -323,6 +370,9 @@ static int gather(struct candidate *c, const struct film *f)
     c[n++] = (struct candidate){ .name = "sample at the last time", .run = ask_sample_at, .track = f->track };
     c[n++] = (struct candidate){ .name = "a thousand samples, opened once", .run = ask_thousand_samples, .track = f->track, .slow = true };
     c[n++] = (struct candidate){ .name = "samples at a thousand times, opened once", .run = ask_thousand_times, .track = f->track, .slow = true };
+    c[n++] = (struct candidate){ .name = "a thousand samples, indexed", .run = ask_indexed_samples, .track = f->track };
+    c[n++] = (struct candidate){ .name = "samples at a thousand times, indexed", .run = ask_indexed_times, .track = f->track };
+    c[n++] = (struct candidate){ .name = "whole stretch, opened once", .run = ask_opened_stretch, .track = f->track };
     c[n++] = (struct candidate){ .name = "slip of the whole", .run = ask_write_slip, .track = f->track };
     c[n++] = (struct candidate){ .name = "track list, moov alone", .run = ask_moov_track_list, .track = f->track };
     c[n++] = (struct candidate){ .name = "whole stretch, moov alone", .run = ask_moov_stretch, .track = f->track };

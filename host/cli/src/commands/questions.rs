@@ -51,9 +51,8 @@ pub fn sample_bytes(film: &Film, movie: &Movie, track: TrackId, n: u32, to: Answ
 }
 
 pub fn at(movie: &Movie, track: TrackId, time: &Time, to: Answer) -> Result<(), Failure> {
-    let opened = movie.opened(track)?;
-    let (time, at) = time.ask(movie, track, |time| opened.sample_at(time))?;
-    let sample = opened.sample(at.sample)?;
+    let (time, at) = time.ask(movie, track, |time| movie.sample_at(track, time))?;
+    let sample = movie.sample(track, at.sample)?;
     let scale = scale(movie, track)?;
     if to.json {
         return to.document(|o| {
