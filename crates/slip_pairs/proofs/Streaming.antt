@@ -32,7 +32,7 @@ pub bytes-append : (qs l : List Pair) → pairBytes (qs ++ l) ≡ pairBytes qs +
 unfolding pairBytes
 bytes-append qs l = ap writes (flat-append qs l) ∙ writes-append (flat qs) (flat l)
 
-length-bytes : (qs l : List Pair) → length (pairBytes (qs ++ l)) ≡ length (pairBytes qs) + length (pairBytes l)
+pub length-bytes : (qs l : List Pair) → length (pairBytes (qs ++ l)) ≡ length (pairBytes qs) + length (pairBytes l)
 length-bytes qs l = ap length (bytes-append qs l) ∙ length-append (pairBytes qs) (pairBytes l)
 
 or-assoc : (a b c : Bool) → ((a || b) || c) ≡ (a || (b || c))

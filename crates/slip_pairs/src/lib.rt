@@ -1,5 +1,6 @@
 // The numbers of the pairs as a slip writes them: measured, and written, one pair after the other.
 use bigendian::after;
+use bigendian::whole32;
 use leb128::number_len;
 use leb128::store_number;
 use pairs::ChunkPosition;
@@ -21,6 +22,7 @@ ghost use mathlib.Core.List.{[], _∷_};
 ghost use Prim.Native.Nat.{_+_, _≤_, _<_, _^_};
 ghost use lib.ListN.{length};
 ghost use Rattle.words.specs.Words.{numbersIn, wordsIn, widthOf};
+ghost use Rattle.leb128.specs.Numbers.{writes};
 ghost use Rattle.slip_head.specs.Bytes.{anyWide};
 ghost use Rattle.pairs.specs.Walks.{pairsBetween, Fitting, AtOnce, runPairs, pairsAtOnce};
 ghost use Rattle.slip_pairs.specs.Measures.{pairBytes, measuredOf, Wrote};
@@ -66,8 +68,22 @@ fn both(a: Measured, b: Measured) -> Measured
     }
 }
 
-// Of the pairs of whole chunks of a run, one for each of the offsets. The sizes begin with those of their samples.
-fn measure_run(offsets: &[u8], sizes: &[u8], r: WholeRun) -> Measured
+// In how many bytes the 32-bit numbers of a table are written.
+fn words_len(words: &[u8]) -> usize
+    requires { ⌜ length (writes (wordsIn (now words))) < 2 ^ 64 ⌝ }
+    ensures { λ r. ⌜ r ≡ length (writes (wordsIn (now (words .entry)))) ⌝ }
+{
+    let mut t = words;
+    let mut len = 0;
+    while 4 <= t.len() {
+        len += number_len(whole32(t, 0) as u64);
+        t = &t[4..];
+    }
+    len
+}
+
+// Of the pairs of whole chunks of a run, one for each of the offsets, pair by pair. The sizes begin with those of their samples.
+fn measure_each(offsets: &[u8], sizes: &[u8], r: WholeRun) -> Measured
     requires { ⌜ length (pairBytes (runPairs r (numbersIn (widthOf (r .long)) (now offsets)) (wordsIn (now sizes)))) < 2 ^ 64 ⌝ }
     ensures { λ m. ⌜ m ≡ measuredOf (runPairs r (numbersIn (widthOf (r .long)) (now (offsets .entry))) (wordsIn (now (sizes .entry)))) ⌝ }
 {
@@ -86,6 +102,29 @@ fn measure_run(offsets: &[u8], sizes: &[u8], r: WholeRun) -> Measured
         z = others;
     }
     m
+}
+
+// The same. Where the samples have a common size, the chunks' length is measured once.
+fn measure_run(offsets: &[u8], sizes: &[u8], r: WholeRun) -> Measured
+    requires { ⌜ length (pairBytes (runPairs r (numbersIn (widthOf (r .long)) (now offsets)) (wordsIn (now sizes)))) < 2 ^ 64 ⌝ }
+    ensures { λ m. ⌜ m ≡ measuredOf (runPairs r (numbersIn (widthOf (r .long)) (now (offsets .entry))) (wordsIn (now (sizes .entry)))) ⌝ }
+{
+    if r.long {
+        return measure_each(offsets, sizes, r);
+    }
+    if r.listed {
+        return measure_each(offsets, sizes, r);
+    }
+    if 4294967296 <= r.bytes {
+        return measure_each(offsets, sizes, r);
+    }
+    let first = words_len(offsets);
+    let second = number_len(r.bytes);
+    let chunks = offsets.len() / 4;
+    Measured {
+        bytes: first + chunks * second,
+        wide: false,
+    }
 }
 
 // Of the pairs of some chunks of the run at a place: of one, or of whole ones.

@@ -1,101 +1,86 @@
--- `slip_pairs::measure_run` meets its contract: the loop keeps what `Measuring` says, a pair with the next offset and the next sizes a turn.
+-- `slip_pairs::measure_run` meets its contract: pair by pair, or by what the chunks have in common.
 -- Assumes nothing.
 use borrow.Author.Needs.{needs}
-use Prim.Native.Nat.{_+_, _≤_, _^_}
-use mathlib.Core.Path.{_≡_, refl}
-use mathlib.Core.List.{[], _∷_}
+use Prim.Native.Nat.{ℕ, _+_, _*_, _/_, _<_}
+use mathlib.Core.Path.{_≡_}
+use mathlib.Core.Bool.{false}
 use native.Mathlib.Omega.{arith}
 use denote.Ref.{now}
-use lib.ListN.{length, length-drop}
-use Rattle.bigendian.proofs.Parts.{rest as part-rest}
+use lib.ListN.{length, getD}
 use Rattle.words.specs.Words.{numbersIn, wordsIn, widthOf}
-use Rattle.words.proofs.Turns.{width-above}
+use Rattle.leb128.specs.Numbers.{groups, writes}
 use Rattle.pairs.specs.Walks.{runPairs}
-use Rattle.pairs.proofs.Wholes.{run-next, run-end}
-use Rattle.slip_pairs.proofs.Streaming.{Measuring, measuring-start, measuring-end, measure-fits, measuring-turn}
+use Rattle.slip_pairs.specs.Measures.{pairBytes}
+use Rattle.slip_pairs.proofs.Common.{common-length, common-measured}
 use Rattle.slip_pairs.proofs.measure_run.Statement.{statement}
 use Rattle.slip_pairs.proofs.measure_run.Tie as tie
 
-abbrev Inv-loop : tie.InvT-loop
-Inv-loop offsets sizes r width t₀ z₀ m₀ t z m =
-    (width ≡ widthOf (r .long)) × Measuring (runPairs r (numbersIn (widthOf (r .long)) offsets) (wordsIn sizes)) (runPairs r (numbersIn (widthOf (r .long)) t) (wordsIn z)) m
+-- 32-bit offsets and a common size
+module _ (e : tie.Else3) where
+  abbrev start : tie.Start
+  start = e .before .before .before .before .before .before
 
-abbrev μ-loop : tie.MeasureT-loop
-μ-loop offsets sizes r width t₀ z₀ m₀ t z m = length t
+  short : start .args .r .long ≡ false
+  short = e .before .before .before .if1 .left
 
-width-of-requires : tie.Need-width-of-requires Inv-loop μ-loop
-width-of-requires c κs = search needs
+  common : start .args .r .listed ≡ false
+  common = e .before .before .if2 .left
 
-loop-holds : tie.Need-loop-holds Inv-loop μ-loop
-loop-holds c = (c .width-of .ensures, measuring-start _)
+  are : (i : ℕ) → getD (now (start .args .offsets)) i 0 < 256
+  are i = e .before .before .before .before .before .shared-slice-known .given i .fits
 
-first-pair-requires : tie.Need-first-pair-requires Inv-loop μ-loop
-first-pair-requires c κs = search needs
+  whole : length (writes (wordsIn (now (start .args .offsets)))) + length (now (start .args .offsets)) / 4 * length (groups (start .args .r .bytes))
+      ≡ length (pairBytes (runPairs (start .args .r) (numbersIn (widthOf (start .args .r .long)) (now (start .args .offsets))) (wordsIn (now (start .args .sizes)))))
+  whole = common-length (start .args .r) (now (start .args .offsets)) (now (start .args .sizes)) short common
 
-measure-pair-requires : tie.Need-measure-pair-requires Inv-loop μ-loop
-measure-pair-requires c κs = search needs
+measure-each-requires : tie.Need-measure-each-requires
+measure-each-requires c κs = search needs
 
-both-requires : tie.Need-both-requires Inv-loop μ-loop
-both-requires c κs =
-    let u = c .before in
-    let i = u .before in
-    let l = i .before .loop in
-    let s = i .before .before .before .before .before in
-    measure-fits (l .inv .1) (_ ∷ []) _ (run-next (s .args .r) (now (l .t)) (now (l .z)) (u .first-pair .ensures) (l .inv .0) (i .loop-test .taken) refl) (s .pre) _ (c .measure-pair .ensures)
+returns : tie.Need-returns
+returns c = search needs
 
-sub-t : tie.Need-sub-t Inv-loop μ-loop
-sub-t c = search needs
+measure-each-requires-2 : tie.Need-measure-each-requires-2
+measure-each-requires-2 c κs = search needs
 
-part-t-start : tie.Need-part-t-start Inv-loop μ-loop
-part-t-start c = search needs
+returns-2 : tie.Need-returns-2
+returns-2 c = search needs
 
-part-t-end : tie.Need-part-t-end Inv-loop μ-loop
-part-t-end c = search needs
+measure-each-requires-3 : tie.Need-measure-each-requires-3
+measure-each-requires-3 c κs = search needs
 
-cast-after : tie.Need-cast-after Inv-loop μ-loop
-cast-after c = search needs
+returns-3 : tie.Need-returns-3
+returns-3 c = search needs
 
-mul-after : tie.Need-mul-after Inv-loop μ-loop
-mul-after c = search needs
+words-len-requires : tie.Need-words-len-requires
+words-len-requires c κs = omega (arith, whole c, start c .pre)
 
-after-requires : tie.Need-after-requires Inv-loop μ-loop
-after-requires c κs = search needs
+number-len-requires : tie.Need-number-len-requires
+number-len-requires c κs = search needs
 
-loop-less : tie.Need-loop-less Inv-loop μ-loop
-loop-less c =
-    let i = c .before .before .before .before .before .before in
-    let l = i .before .loop in
-    let w = i .before .before .width-of .result in
-    rw (part-rest w (now (l .t))) (omega (arith, length-drop w (now (l .t)), i .loop-test .taken, l .inv .0, width-above (i .before .before .before .before .before .args .r .long)))
+mul-t8 : tie.Need-mul-t8
+mul-t8 c = let e = c .before .before in omega (arith, rw (← c .number-len .ensures) at (whole e), start e .pre)
 
-loop-again : tie.Need-loop-again Inv-loop μ-loop
-loop-again c =
-    let u = c .before .before .before .before .before in
-    let i = u .before in
-    let l = i .before .loop in
-    let s = i .before .before .before .before .before in
-    (l .inv .0, rw (part-rest (i .before .before .width-of .result) (now (l .t))) (measuring-turn (l .inv .1) (_ ∷ []) _ (run-next (s .args .r) (now (l .t)) (now (l .z)) (u .first-pair .ensures) (l .inv .0) (i .loop-test .taken) (c .after .ensures)) _ _ (c .before .before .before .before .measure-pair .ensures) (c .before .before .before .both .ensures)))
+add-t9 : tie.Need-add-t9
+add-t9 c = let e = c .before .before in omega (arith, rw (← c .number-len .ensures) at (whole e), c .before .words-len .ensures, start e .pre)
 
-returns : tie.Need-returns Inv-loop μ-loop
-returns c = let l = c .before .loop in measuring-end (l .inv .1) (run-end (c .before .before .before .before .before .args .r) (now (l .t)) (now (l .z)) (l .inv .0) (c .loop-test .left))
+returns-4 : tie.Need-returns-4
+returns-4 c =
+    let e = c .before .before in
+    let a = start e .args in
+    common-measured (a .r) (now (a .offsets)) (now (a .sizes)) (short e) (common e) (e .if3 .left) (are e) _ _ (c .before .words-len .ensures) (c .number-len .ensures)
 
 pub measure-run-spec : {M : Type 1} → statement M
 measure-run-spec =
     tie.close
     (tie.spec
-    Inv-loop
-    μ-loop
-    width-of-requires
-    loop-holds
-    first-pair-requires
-    measure-pair-requires
-    both-requires
-    sub-t
-    part-t-start
-    part-t-end
-    cast-after
-    mul-after
-    after-requires
-    loop-less
-    loop-again
-    returns)
+    measure-each-requires
+    returns
+    measure-each-requires-2
+    returns-2
+    measure-each-requires-3
+    returns-3
+    words-len-requires
+    number-len-requires
+    mul-t8
+    add-t9
+    returns-4)
