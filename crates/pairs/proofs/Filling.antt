@@ -10,10 +10,13 @@ use lib.Seq.{sets, length-sets}
 use lib.Dec.{eqb, leb}
 use Rattle.lists.specs.Lists.{sum}
 use Rattle.lists.proofs.Stores.{sets-append}
+use Rattle.chunks.specs.Cursors.{ahead}
 use Rattle.pairs.specs.Pairs.{flat}
 use Rattle.pairs.specs.Walks.{pairsBetween, lengthsOf, Fitting, Putting, pairsAhead, At, placePast, StartsAt, AtOnce, pairsAtOnce, Room, Put}
+use Rattle.pairs.specs.Moves.{Filling, Moving, Moves}
 use Rattle.pairs.specs.declared.Pair.{Pair}
 use Rattle.pairs.specs.declared.ChunkPosition.{ChunkPosition}
+use Rattle.pairs.specs.declared.listed.Moved.{Moved}
 use Rattle.pairs.proofs.Wholes.{at-once-length}
 use Rattle.pairs.proofs.Walking.{at-end, at-past, at-once, from-start}
 
@@ -51,14 +54,6 @@ same-put e w = rw e at w
 
 -- ---- the loop
 
--- of all pairs, to be put from the place at₀ on, those of `rest` are still to be put, from the place `at` on
-pub record Filling (b : ℕ) (all : List Pair) (room₀ : List ℕ) (at₀ : ℕ) (rest : List Pair) (room : List ℕ) (at total : ℕ) : Type 0 where
-  pub fits : Fitting b rest
-  pub few : at + 2 * length rest ≤ length room
-  pub same : length room ≡ length room₀
-  pub stored : sets room at (flat rest) ≡ sets room₀ at₀ (flat all)
-  pub added : total + sum (lengthsOf rest) ≡ sum (lengthsOf all)
-
 pub filling-start : {b : ℕ} (all : List Pair) (room : List ℕ) (at : ℕ) → Room b all at (length room) → Filling b all room at all room at 0
 filling-start all room at w = record { fits = w .fits; few = w .space; same = refl; stored = refl; added = omega arith }
 
@@ -66,6 +61,17 @@ pub filling-end : {b : ℕ} (all : List Pair) (room₀ : List ℕ) (at₀ : ℕ)
 filling-end all room₀ at₀ rest room at total w e =
     let a : total + 0 ≡ sum (lengthsOf all) = rw e at (w .added) in
     record { added = omega arith; stored = rw e at (w .stored) }
+
+-- what was put on the way from one rest to another
+pub filling-then : {b : ℕ} {all rest last : List Pair} {room₀ room after : List ℕ} {at₀ at at′ total bytes : ℕ} → Filling b all room₀ at₀ rest room at total
+    → Filling b rest room at last after at′ bytes → Filling b all room₀ at₀ last after at′ (total + bytes)
+filling-then w v = record {
+  fits = v .fits;
+  few = v .few;
+  same = v .same ∙ w .same;
+  stored = v .stored ∙ w .stored;
+  added = omega (arith, w .added, v .added);
+}
 
 -- the next ones put
 module _ {b : ℕ} {all : List Pair} {room₀ : List ℕ} {at₀ : ℕ} {rest : List Pair} {room : List ℕ} {at total : ℕ} (w : Filling b all room₀ at₀ rest room at total) (qs l : List Pair) (e : rest ≡ qs ++ l) where
@@ -105,6 +111,24 @@ module _ {b : ℕ} {all : List Pair} {room₀ : List ℕ} {at₀ : ℕ} {rest : 
 
   pub one-turn : {new : List ℕ} → new ≡ sets room at (q .offset ∷ q .length ∷ []) → Filling b all room₀ at₀ l new (at + 2) (total + q .length)
   one-turn g = filling-turn w (q ∷ []) l e g (omega arith) (omega arith)
+
+-- two pairs put, one after the other
+module _ {b : ℕ} {all : List Pair} {room₀ : List ℕ} {at₀ : ℕ} {rest : List Pair} {room : List ℕ} {at total : ℕ} (w : Filling b all room₀ at₀ rest room at total) (q r : Pair) (l : List Pair) (e : rest ≡ q ∷ r ∷ l)
+    {mid : List ℕ} (g : mid ≡ sets room at (q .offset ∷ q .length ∷ [])) where
+  middle : Filling b all room₀ at₀ (r ∷ l) mid (at + 2) (total + q .length)
+  middle = one-turn w q (r ∷ l) e g
+
+  pub two-fits : sum (lengthsOf all) < 2 ^ 64 → (r .offset < b) × (r .length < b) × (at + 2 + 2 ≤ length mid)
+  two-fits h = one-fits middle r l refl h
+
+  pub two-room : sum (lengthsOf all) < 2 ^ 64 → at + 4 ≤ length room₀
+  two-room h = omega (arith, two-fits h .2, middle .same)
+
+  pub two-total : sum (lengthsOf all) < 2 ^ 64 → total + q .length + r .length < 2 ^ 64
+  two-total h = one-total middle r l refl h
+
+  pub two-turn : {new : List ℕ} → new ≡ sets mid (at + 2) (r .offset ∷ r .length ∷ []) → Filling b all room₀ at₀ l new (at + 4) (total + q .length + r .length)
+  two-turn f = filling-turn middle (r ∷ []) l refl f (omega arith) (omega arith)
 
 -- ---- from place to place
 
@@ -156,3 +180,22 @@ module _ {b : ℕ} {stsc stsz offsets : List ℕ} {chunks i j : ℕ} {room₀ : 
           place = at-past stsc stsz offsets chunks i j p (w .place) e n (o .few) (o .some);
           filling = filling-turn (w .filling) these others split (d .stored) a t;
         })
+
+  -- more of them put on the way to another place
+  pub walked-moving : sum (lengthsOf (pairsBetween stsc stsz offsets chunks i j)) < 2 ^ 64 → length stsc < 2 ^ 32 → i ≤ p .begin → Moving b stsc stsz offsets chunks i j p at (length room)
+  walked-moving h s f = record {
+    short = s;
+    place = w .place;
+    from = f;
+    room = record { fits = w .filling .fits; total = omega (arith, w .filling .added); space = w .filling .few };
+  }
+
+  pub walked-moved : {m : Moved} {after : List ℕ} → Moves b stsc stsz offsets chunks i j p room at m after → Walked b stsc stsz offsets chunks i j room₀ (m .place) after (m .at) (total + m .bytes)
+  walked-moved v = record { place = v .place; filling = filling-then (w .filling) (v .filling) }
+
+  pub walked-total : sum (lengthsOf (pairsBetween stsc stsz offsets chunks i j)) < 2 ^ 64 → {m : Moved} {after : List ℕ} → Moves b stsc stsz offsets chunks i j p room at m after → total + m .bytes < 2 ^ 64
+  walked-total h v = omega (arith, walked-moved v .filling .added)
+
+pub walked-less : {b : ℕ} {stsc stsz offsets : List ℕ} {chunks i j : ℕ} {p : ChunkPosition} {room : List ℕ} {at : ℕ} {m : Moved} {after : List ℕ} {n : ℕ} → Moves b stsc stsz offsets chunks i j p room at m after
+    → length (ahead stsc chunks (p .cursor)) < n → length (ahead stsc chunks (m .place .cursor)) < n
+walked-less v h = omega (arith, v .fewer)

@@ -3,3 +3,4 @@ pub mod Wholes
 pub mod Walking
 pub mod Filling
 pub mod Counting
+pub mod Listing

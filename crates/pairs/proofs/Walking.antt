@@ -151,6 +151,10 @@ module _ (stsc stsz offsets : List ℕ) (chunks i j : ℕ) (p : ChunkPosition) (
       pub past-less : 0 < n → length (ahead stsc chunks (placePast stsc chunks n p .cursor)) < length (ahead stsc chunks (p .cursor))
       past-less g = omega (arith, past-length)
 
+      -- the sample does not lie behind them
+      pub past-from : 0 < n → {r : ChunkPosition} → r ≡ placePast stsc chunks n p → i ≤ r .begin
+      past-from g o = rw o (omega (arith, w .reaches some-remain, at-least n (p .cursor .per) g))
+
       past-begins : p .begin + n * p .cursor .per ≡ before (perChunk stsc chunks) (p .chunk + n)
       past-begins =
           let ps = perChunk stsc chunks in

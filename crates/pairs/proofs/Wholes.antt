@@ -30,7 +30,7 @@ add-cancel a b = omega arith
 
 -- ---- a run's chunks, as they are touched
 
-whole-pair : (i j begin p c : ℕ) (zs : List ℕ) → i ≤ begin → begin + p ≤ j → pairOf i j begin p c zs ≡ record { offset = c; length = sum (take p (drop begin zs)) }
+pub whole-pair : (i j begin p c : ℕ) (zs : List ℕ) → i ≤ begin → begin + p ≤ j → pairOf i j begin p c zs ≡ record { offset = c; length = sum (take p (drop begin zs)) }
 unfolding pairOf
 whole-pair i j begin p c zs h g =
     let e : max i begin ≡ begin = omega arith in
@@ -154,6 +154,16 @@ module _ (stsz offsets : List ℕ) (p : ChunkPosition) (n : ℕ) (h : p .chunk +
       let w : widthOf (r .long) ≡ offsetWidth offsets = sym (width-is offsets (ap (λ (x : WholeRun). x .long) d)) in
       ap (λ (k : ℕ). runPairs r (numbersIn k o) (wordsIn z)) w ∙ ap (λ l. runPairs r l (wordsIn z)) e ∙ ap (λ (x : WholeRun). runPairs x these (wordsIn z)) d ∙ here z f (eqb (u32At stsz 12) 0) refl
 
+  -- with a common size
+  pub equal-given : (o : List ℕ) (r : WholeRun) → (u32At stsz 12 ≡ 0 → ⊥) → numbersIn (offsetWidth offsets) o ≡ take n (drop (p .chunk) (chunkOffsets offsets)) → r ≡ runAt stsz offsets p
+      → equalLengthPairs (r .bytes) (numbersIn (widthOf (r .long)) o) ≡ wholesAt stsz offsets p n
+  equal-given o r y e d =
+      let w : widthOf (r .long) ≡ offsetWidth offsets = sym (width-is offsets (ap (λ (x : WholeRun). x .long) d)) in
+      ap (λ (k : ℕ). equalLengthPairs (r .bytes) (numbersIn k o)) w
+      ∙ ap (equalLengthPairs (r .bytes)) e
+      ∙ ap (λ (x : WholeRun). equalLengthPairs (x .bytes) these) d
+      ∙ sym (wholes-common stsz refl y (p .begin) (p .cursor .per) these (rw many (g y)))
+
 -- ---- one chunk, or whole ones
 
 module _ (stsz offsets : List ℕ) (i j : ℕ) (p : ChunkPosition) (n : ℕ) where
@@ -187,3 +197,43 @@ module _ (r : WholeRun) (t z : List ℕ) where
 
   pub run-end : {w : ℕ} → w ≡ widthOf (r .long) → length t < w → runPairs r (numbersIn (widthOf (r .long)) t) (wordsIn z) ≡ []
   run-end f h = ap (λ l. runPairs r l (wordsIn z)) (numbers-none (widthOf (r .long)) (width-above (r .long)) t (rw f at h))
+
+-- ---- a turn of a loop over chunks that have as many bytes each, two a turn
+
+two-first : (cs : List ℕ) → 2 ≤ length cs → cs ≡ getD cs 0 0 ∷ getD cs 1 0 ∷ drop 2 cs
+two-first [] h = absurd (omega arith)
+two-first (c ∷ []) h = absurd (omega arith)
+two-first (c ∷ (d ∷ cs)) h = refl
+
+one-only : (cs : List ℕ) → 1 ≤ length cs → length cs < 2 → cs ≡ getD cs 0 0 ∷ []
+one-only [] h g = absurd (omega arith)
+one-only (c ∷ []) h g = refl
+one-only (c ∷ (d ∷ cs)) h g = absurd (omega arith)
+
+pub step-small : (long : Bool) {width : ℕ} → width ≡ widthOf long → 2 * width < 2 ^ 64
+step-small true f = omega arith
+step-small false f = omega arith
+
+module _ (bytes : ℕ) (long : Bool) (t : List ℕ) {width step : ℕ} (f : width ≡ widthOf long) (g : step ≡ 2 * width) where
+  there : length (numbersIn (widthOf long) t) ≡ length t / width
+  there = length-numbers (widthOf long) (width-above long) t ∙ ap (λ (k : ℕ). length t / k) (sym f)
+
+  above : 0 < width
+  above = rw f (width-above long)
+
+  pub equal-two : step ≤ length t → {x y : ℕ} → x ≡ getD (numbersIn (widthOf long) t) 0 0 → y ≡ getD (numbersIn (widthOf long) t) 1 0
+      → equalLengthPairs bytes (numbersIn (widthOf long) t) ≡ record { offset = x; length = bytes } ∷ record { offset = y; length = bytes } ∷ equalLengthPairs bytes (numbersIn (widthOf long) (drop step t))
+  equal-two h a b =
+      let n : 2 ≤ length t / width = le-div-iff-mul-le {k = width} {x = 2} {y = length t} above .1 (omega arith) in
+      let d : numbersIn (widthOf long) (drop step t) ≡ drop 2 (numbersIn (widthOf long) t) = rw (g, f) (numbers-drop (widthOf long) (width-above long) 2 t) in
+      ap (equalLengthPairs bytes) (two-first (numbersIn (widthOf long) t) (omega (arith, there)))
+      ∙ (λ k. record { offset = sym a k; length = bytes } ∷ record { offset = sym b k; length = bytes } ∷ equalLengthPairs bytes (sym d k))
+
+  pub equal-one : width ≤ length t → length t < step → {x : ℕ} → x ≡ getD (numbersIn (widthOf long) t) 0 0 → equalLengthPairs bytes (numbersIn (widthOf long) t) ≡ record { offset = x; length = bytes } ∷ []
+  equal-one h l a =
+      let n : 1 ≤ length t / width = le-div-iff-mul-le {k = width} {x = 1} {y = length t} above .1 (omega arith) in
+      let m : length t / width < 2 = div-lt-iff-lt-mul {y = 2} above .1 (omega arith) in
+      ap (equalLengthPairs bytes) (one-only (numbersIn (widthOf long) t) (omega (arith, there)) (omega (arith, there))) ∙ (λ k. record { offset = sym a k; length = bytes } ∷ [])
+
+  pub equal-none : length t < width → equalLengthPairs bytes (numbersIn (widthOf long) t) ≡ []
+  equal-none h = ap (equalLengthPairs bytes) (numbers-none (widthOf long) (width-above long) t (rw f at h))

@@ -1,6 +1,8 @@
 // The byte ranges of some samples, chunk after chunk: one pass over the entries of stsc, stsz and the chunk offsets that they touch. Samples are named by their index,
 // `from` up to, not including, `stop`. The functions that walk have a place by value, so that each use of the pairs is a loop of its own and no list of
 // pairs is kept.
+pub mod listed;
+
 use bigendian::after;
 use bigendian::u32_at;
 use chunks::ChunkCursor;
@@ -215,6 +217,17 @@ pub fn chunks_at_once(stsz: &[u8], offsets: &[u8], p: ChunkPosition, from: u32, 
         return 1;
     }
     n
+}
+
+// The same where the sizes are common; with listed sizes one.
+pub fn common_at_once(stsz: &[u8], offsets: &[u8], p: ChunkPosition, from: u32, stop: u32) -> u64
+    requires { ⌜ (p .cursor .remaining ≡ 0 → ⊥) × (p .chunk < 2 ^ 63) ⌝ }
+    ensures { λ r. ⌜ AtOnce (now (stsz .entry)) (now (offsets .entry)) from stop p r × ((r ≡ 1 → ⊥) → u32At (now (stsz .entry)) 12 ≡ 0 → ⊥) ⌝ }
+{
+    if u32_at(stsz, 12) == 0 {
+        return 1;
+    }
+    chunks_at_once(stsz, offsets, p, from, stop)
 }
 
 // What whole chunks of a run have in common: whether their offsets have 64 bits, how many samples each has, whether the sizes of these are listed, and if

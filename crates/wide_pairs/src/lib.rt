@@ -2,26 +2,33 @@
 use bigendian::after;
 use pairs::ChunkPosition;
 use pairs::Pair;
-use pairs::WholeRun;
-use pairs::chunks_at_once;
-use pairs::first_pair;
+use pairs::common_at_once;
 use pairs::is_past;
+use pairs::listed::Moved;
+use pairs::listed::is_whole;
+use pairs::listed::listed_pair;
+use pairs::listed::sizes_past;
+use pairs::listed::sizes_to;
+use pairs::next_place;
 use pairs::pair_at;
 use pairs::place_past;
 use pairs::run_at;
 use pairs::run_offsets;
-use pairs::run_sizes;
 use pairs::start_place;
 use pairs::width_of;
+use words::is_long;
+use words::number_in;
 ghost use mathlib.Core.Path.{_≡_};
 ghost use mathlib.Core.List.{[], _∷_};
 ghost use Prim.Native.Nat.{_+_, _≤_, _<_, _^_};
 ghost use lib.ListN.{length};
 ghost use lib.Seq.{sets};
 ghost use Rattle.lists.specs.Lists.{sum};
-ghost use Rattle.words.specs.Words.{numbersIn, wordsIn, widthOf};
+ghost use Rattle.bigendian.specs.BigEndian.{u32At};
+ghost use Rattle.words.specs.Words.{numbersIn, widthOf};
 ghost use Rattle.pairs.specs.Pairs.{flat};
-ghost use Rattle.pairs.specs.Walks.{pairsBetween, lengthsOf, Putting, AtOnce, runPairs, pairsAtOnce, Room, Put};
+ghost use Rattle.pairs.specs.Walks.{pairsBetween, lengthsOf, Putting, AtOnce, equalLengthPairs, pairsAtOnce, Room, Put};
+ghost use Rattle.pairs.specs.Moves.{Moving, Moves};
 
 // Puts a pair's two numbers into the room, from the place `at` on.
 fn put_pair(q: Pair, room: &mut [u64], at: usize)
@@ -32,26 +39,53 @@ fn put_pair(q: Pair, room: &mut [u64], at: usize)
     room[at + 1] = q.length;
 }
 
-// Puts the pairs of whole chunks of a run, one for each of the offsets. The sizes begin with those of their samples.
-fn put_run(offsets: &[u8], sizes: &[u8], r: WholeRun, room: &mut [u64], at: usize) -> u64
-    requires { ⌜ Room (2 ^ 64) (runPairs r (numbersIn (widthOf (r .long)) (now offsets)) (wordsIn (now sizes))) at (length (now room)) ⌝ }
-    ensures { λ bytes. ⌜ Put (runPairs r (numbersIn (widthOf (r .long)) (now (offsets .entry))) (wordsIn (now (sizes .entry)))) (now (room .entry)) at bytes (now (room .exit)) ⌝ }
+// Puts the pairs of chunks that have as many bytes each, one for each of the offsets. Two a turn: with one the time depends on where the loop is.
+fn put_run(offsets: &[u8], long: bool, bytes: u64, room: &mut [u64], at: usize) -> u64
+    requires { ⌜ Room (2 ^ 64) (equalLengthPairs bytes (numbersIn (widthOf long) (now offsets))) at (length (now room)) ⌝ }
+    ensures { λ r. ⌜ Put (equalLengthPairs bytes (numbersIn (widthOf long) (now (offsets .entry)))) (now (room .entry)) at r (now (room .exit)) ⌝ }
 {
-    let width = width_of(r.long);
+    let width = width_of(long);
+    let step = 2 * width;
     let mut t = offsets;
-    let mut z = sizes;
     let mut k = at;
     let mut total: u64 = 0;
-    while width <= t.len() {
-        let q = first_pair(t, z, r);
-        total += q.length;
-        put_pair(q, room, k);
-        k += 2;
-        t = &t[width..];
-        let others = after(z, r.per as usize * 4);
-        z = others;
+    while step <= t.len() {
+        let offset = number_in(t, long, 0);
+        let next = number_in(t, long, 1);
+        put_pair(
+            Pair {
+                offset,
+                length: bytes,
+            },
+            room,
+            k,
+        );
+        put_pair(
+            Pair {
+                offset: next,
+                length: bytes,
+            },
+            room,
+            k + 2,
+        );
+        total += bytes;
+        total += bytes;
+        k += 4;
+        t = &t[step..];
     }
-    total
+    if t.len() < width {
+        return total;
+    }
+    let offset = number_in(t, long, 0);
+    put_pair(
+        Pair {
+            offset,
+            length: bytes,
+        },
+        room,
+        k,
+    );
+    total + bytes
 }
 
 // Puts the pairs of some chunks of the run at a place: of one, or of whole ones.
@@ -65,7 +99,7 @@ fn put_chunks(
     room: &mut [u64],
     at: usize,
 ) -> u64
-    requires { ⌜ (p .begin < stop) × AtOnce (now stsz) (now offsets) from stop p n × Room (2 ^ 64) (pairsAtOnce (now stsz) (now offsets) from stop p n) at (length (now room)) ⌝ }
+    requires { ⌜ (p .begin < stop) × AtOnce (now stsz) (now offsets) from stop p n × ((n ≡ 1 → ⊥) → u32At (now stsz) 12 ≡ 0 → ⊥) × Room (2 ^ 64) (pairsAtOnce (now stsz) (now offsets) from stop p n) at (length (now room)) ⌝ }
     ensures { λ r. ⌜ Put (pairsAtOnce (now (stsz .entry)) (now (offsets .entry)) from stop p n) (now (room .entry)) at r (now (room .exit)) ⌝ }
 {
     if n == 1 {
@@ -74,9 +108,47 @@ fn put_chunks(
         return q.length;
     }
     let these = run_offsets(offsets, p, n);
-    let sizes = run_sizes(stsz, p);
     let r = run_at(stsz, offsets, p);
-    put_run(these, sizes, r, room, at)
+    put_run(these, r.long, r.bytes, room, at)
+}
+
+// Puts the pairs of the whole chunks whose sizes are listed, from a place on; no sample asked for lies behind it. The sizes go on from chunk to
+// chunk.
+fn put_listed(
+    stsc: &[u8],
+    stsz: &[u8],
+    offsets: &[u8],
+    chunks: u32,
+    place: ChunkPosition,
+    from: u32,
+    stop: u32,
+    room: &mut [u64],
+    start: usize,
+) -> Moved
+    requires { ⌜ Moving (2 ^ 64) (now stsc) (now stsz) (now offsets) chunks from stop place start (length (now room)) ⌝ }
+    ensures { λ m. ⌜ Moves (2 ^ 64) (now (stsc .entry)) (now (stsz .entry)) (now (offsets .entry)) chunks from stop place (now (room .entry)) start m (now (room .exit)) ⌝ }
+{
+    let part = after(offsets, 16);
+    let long = is_long(offsets);
+    let sizes = sizes_to(stsz, place, stop);
+    let mut p = place;
+    let mut z = sizes;
+    let mut at = start;
+    let mut bytes: u64 = 0;
+    while is_whole(p, z.len()) {
+        let q = listed_pair(part, long, z, p);
+        put_pair(q, room, at);
+        bytes += q.length;
+        at += 2;
+        let others = sizes_past(z, p);
+        z = others;
+        p = next_place(stsc, chunks, p);
+    }
+    Moved {
+        place: p,
+        at,
+        bytes,
+    }
 }
 
 // Puts the pairs into the first places of the room, and answers their lengths, added.
@@ -96,10 +168,14 @@ pub fn put_pairs(
     let mut at = 0;
     let mut total: u64 = 0;
     while !is_past(p, stop) {
-        let n = chunks_at_once(stsz, offsets, p, from, stop);
+        let n = common_at_once(stsz, offsets, p, from, stop);
         total += put_chunks(stsz, offsets, p, n, from, stop, room, at);
         at += 2 * n as usize;
-        p = place_past(stsc, chunks, p, n);
+        let next = place_past(stsc, chunks, p, n);
+        let m = put_listed(stsc, stsz, offsets, chunks, next, from, stop, room, at);
+        total += m.bytes;
+        at = m.at;
+        p = m.place;
     }
     total
 }

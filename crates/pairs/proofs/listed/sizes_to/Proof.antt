@@ -1,0 +1,67 @@
+-- `pairs::listed::sizes_to` meets its contract: the sizes up to the sample, or all that there are.
+-- Assumes nothing.
+use borrow.Author.Needs.{needs}
+use mathlib.Core.Path.{sym}
+use native.Mathlib.Omega.{arith}
+use denote.Ref.{now}
+use lib.Seq.{length-take-le}
+use Rattle.pairs.proofs.Listing.{listed-cut, listed-all}
+use Rattle.pairs.proofs.listed.sizes_to.Statement.{statement}
+use Rattle.pairs.proofs.listed.sizes_to.Tie as tie
+
+u32-at-requires : tie.Need-u32-at-requires
+u32-at-requires c κs = search needs
+
+slice-aggregate-result : tie.Need-slice-aggregate-result
+slice-aggregate-result c = search needs
+
+returns : tie.Need-returns
+returns c = search needs
+
+slice-aggregate-result-2 : tie.Need-slice-aggregate-result-2
+slice-aggregate-result-2 c = search needs
+
+returns-2 : tie.Need-returns-2
+returns-2 c = search needs
+
+run-sizes-requires : tie.Need-run-sizes-requires
+run-sizes-requires c κs = search needs
+
+sub-n : tie.Need-sub-n
+sub-n c = search needs
+
+mul-n : tie.Need-mul-n
+mul-n c = search needs
+
+slice-aggregate-result-3 : tie.Need-slice-aggregate-result-3
+slice-aggregate-result-3 c = sym (length-take-le _ (now (c .before .before .before .run-sizes .result)) (c .before .if3 .taken))
+
+returns-3 : tie.Need-returns-3
+returns-3 c =
+    let k = c .before .before .before in
+    let i = k .before in
+    let j = i .before .before in
+    listed-cut _ _ _ (j .before .u32-at .ensures) (j .if1 .left) (i .if2 .left) (k .run-sizes .ensures) _ (c .before .if3 .taken) (omega arith)
+
+returns-4 : tie.Need-returns-4
+returns-4 c =
+    let k = c .before .before in
+    let i = k .before in
+    let j = i .before .before in
+    listed-all _ _ _ (j .before .u32-at .ensures) (j .if1 .left) (i .if2 .left) (k .run-sizes .ensures) (omega (arith, c .if3 .left))
+
+pub sizes-to-spec : {M : Type 1} → statement M
+sizes-to-spec =
+    tie.close
+    (tie.spec
+    u32-at-requires
+    slice-aggregate-result
+    returns
+    slice-aggregate-result-2
+    returns-2
+    run-sizes-requires
+    sub-n
+    mul-n
+    slice-aggregate-result-3
+    returns-3
+    returns-4)

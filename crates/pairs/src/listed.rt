@@ -1,0 +1,74 @@
+// Whole chunks whose sizes are listed, one after the other from a place on: what the tables that they are read from are, and the pair of each.
+use super::ChunkPosition;
+use super::Pair;
+use super::run_sizes;
+use bigendian::u32_at;
+use words::number_in;
+use words::sum_words;
+ghost use mathlib.Core.Path.{_≡_};
+ghost use Prim.Native.Nat.{_*_, _≤_};
+ghost use lib.ListN.{length, drop};
+ghost use Rattle.words.specs.Words.{numbersIn, widthOf};
+ghost use Rattle.pairs.specs.Moves.{ListedTo, isWhole, listedPair};
+
+// A place that a walk came to, with the next place of the room and the bytes of the pairs put.
+pub struct Moved {
+    pub place: ChunkPosition,
+    pub at: usize,
+    pub bytes: u64,
+}
+
+// The sizes that are listed from a place's first sample up to, not including, the sample `stop`; none where the sizes are common.
+pub fn sizes_to<'a>(stsz: &'a [u8], p: ChunkPosition, stop: u32) -> &'a [u8]
+    ensures { λ r. ⌜ ListedTo (now (stsz .entry)) stop (p .begin) (now r) ⌝ }
+{
+    if u32_at(stsz, 12) != 0 {
+        return &stsz[..0];
+    }
+    if stop as u64 <= p.begin {
+        return &stsz[..0];
+    }
+    let z = run_sizes(stsz, p);
+    let n = (stop as u64 - p.begin) as usize * 4;
+    if n <= z.len() {
+        return &z[..n];
+    }
+    z
+}
+
+// Whether a chunk is ahead and the sizes of its samples are among the first `len` bytes, of which there are some.
+pub fn is_whole(p: ChunkPosition, len: usize) -> bool
+    ensures { λ r. ⌜ r ≡ isWhole p len ⌝ }
+{
+    let c = p.cursor;
+    if c.remaining == 0 {
+        return false;
+    }
+    if len == 0 {
+        return false;
+    }
+    c.per as usize * 4 <= len
+}
+
+// The pair of the chunk at a place, asked for whole: by the offsets of all chunks, and the sizes from its first sample on.
+pub fn listed_pair(offsets: &[u8], long: bool, sizes: &[u8], p: ChunkPosition) -> Pair
+    requires { ⌜ p .cursor .per * 4 ≤ length (now sizes) ⌝ }
+    ensures { λ r. ⌜ r ≡ listedPair (numbersIn (widthOf long) (now (offsets .entry))) (now (sizes .entry)) p ⌝ }
+{
+    let c = p.cursor;
+    let n = c.per as usize * 4;
+    Pair {
+        offset: number_in(offsets, long, p.chunk as usize),
+        length: sum_words(&sizes[..n]),
+    }
+}
+
+// The sizes after those of the chunk at a place.
+pub fn sizes_past<'a>(sizes: &'a [u8], p: ChunkPosition) -> &'a [u8]
+    requires { ⌜ p .cursor .per * 4 ≤ length (now sizes) ⌝ }
+    ensures { λ r. ⌜ now r ≡ drop (p .cursor .per * 4) (now (sizes .entry)) ⌝ }
+{
+    let c = p.cursor;
+    let n = c.per as usize * 4;
+    &sizes[n..]
+}
