@@ -45,10 +45,10 @@ pub fn strict_refusal<'a>(film: impl Into<Film<'a>>) -> Option<Refusal> {
 
 /// A movie that the reader has accepted.
 ///
-/// It borrows what is lent of its film and keeps the track list beside it, and of each track that was asked about where its tables are. See the
-/// [crate](crate) for what a question costs. Each question gets the library's own answer, also for an ID that no track has ([`Refusal::NoTrack`]). Of the film's
-/// refusals, 1 to 13 and 19, only [`Refusal::StoredDuration`] comes after [`Movie::open`], and only of a slip that is
-/// written.
+/// It borrows what is lent of its film and keeps the track list beside it, and of each track that was asked about where
+/// its tables are. See the [crate](crate) for what a question costs. Each question gets the library's own answer, also
+/// for an ID that no track has ([`Refusal::NoTrack`]). Of the film's refusals, 1 to 13 and 19, only
+/// [`Refusal::StoredDuration`] comes after [`Movie::open`], and only of a slip that is written.
 #[derive(Clone)]
 pub struct Movie<'a> {
     film: Film<'a>,
@@ -90,8 +90,8 @@ impl<'a> Movie<'a> {
         self.tracks().iter().find(|track| track.id == id)
     }
 
-    /// A track, opened once for many questions about its samples, times and stretches: the film is judged here, the first time that the track
-    /// is opened or asked such a question, and not again by them.
+    /// A track, opened once for many questions about its samples, times and stretches: the film is judged here, the first
+    /// time that the track is opened or asked such a question, and not again by them.
     ///
     /// # Errors
     ///

@@ -1,4 +1,4 @@
-//! Tracks opened once: by the handle, and by an index, each question has the answer that it has without, and handles and indices of other films are safe.
+//! Tracks opened once: by the handle, and by an index, each question has the answer that it has without. Those of other films are safe.
 use crate::case::{expected, Difference, Lengths};
 use crate::choose::by_handle;
 use crate::films::Comparison;
@@ -68,7 +68,8 @@ pub fn check_number(way: Way, asked: &str, number: u32, expected: u32) -> Result
     Err(difference(way, asked, &format!("the result is {number}, should be {expected}")))
 }
 
-/// What a call by the numbers of another film may answer and write: any answer that there is room for, or a refusal of the question, but never one of the film.
+/// What a call by the numbers of another film may answer and write: any answer that there is room for, or a refusal of the question, never one of
+/// the film.
 fn safe(question: Question, number: u32, room: &[u64], places: &[u64]) -> (u32, Answer) {
     let Some(places) = places.get(..question.places()) else {
         return (if number == OUTSIDE { OUTSIDE } else { NO_ROOM }, Answer::default());

@@ -48,7 +48,8 @@ const FUNCTIONS: [(&str, usize); 14] = [
     ("edits", 1),
 ];
 
-/// Every function of include/chaldoref.h but the step at top level: those of a whole file and of slips, then those of a moov alone, then the steps, those of a track that is opened once and those of its index.
+/// Every function of include/chaldoref.h but the step at top level: those of a whole file and of slips, then those of a moov alone, then the steps,
+/// those of a track that is opened once and those of its index.
 pub const KINDS: [&str; 2 * FUNCTIONS.len() - 3 + 13] = [
     "track_list",
     "sample",
