@@ -1,8 +1,9 @@
 // The slip of a stretch, into lent bytes.
-use atoms::kinds;
 use bigendian::u32_at;
 use edits::MediaTime;
-use questions::track_asked;
+use places::part_of;
+use places::trak::Parts;
+use questions::Ask;
 use slip_head::Head;
 use slip_head::head_len;
 use slip_head::put_head;
@@ -14,9 +15,7 @@ use spans::Span;
 use spans::count_in;
 use stretch::span_asked;
 use structure::source::Source;
-use structure::trak::media_scale;
-use structure::trak::offset_table;
-use structure::trak::table;
+use track::scale_in;
 ghost use mathlib.Core.Path.{_≡_};
 ghost use Prim.Native.Nat.{_+_, _≤_, _<_, _^_};
 ghost use lib.ListN.{length};
@@ -24,29 +23,30 @@ ghost use Rattle.pairs.specs.Pairs.{flat};
 ghost use Rattle.slip_head.specs.Bytes.{slipBytes};
 ghost use Rattle.slip_pairs.specs.Measures.{pairBytes, measuredOf, Wrote};
 ghost use Rattle.structure.specs.Source.{wholeFile};
+ghost use Rattle.places.specs.Places.{AreParts};
 ghost use Rattle.spans.specs.Spans.{Usable, spanPairs};
 ghost use Rattle.slip_writing.specs.Writing.{NarrowHead, PutSlip};
 ghost use Rattle.slip_writing.specs.Slips.{Slips};
 
 // In how many bytes the pairs of some samples of a track are written, and whether a number of them is 2^32 or more.
-fn measure_in(trak: &[u8], s: Span) -> Measured
-    requires { ⌜ Usable (2 ^ 64) (now trak) × (s .from ≤ s .stop) ⌝ }
+fn measure_in(trak: &[u8], p: Parts, s: Span) -> Measured
+    requires { ⌜ (AreParts (now trak) p) × Usable (2 ^ 64) (now trak) × (s .from ≤ s .stop) ⌝ }
     ensures { λ r. ⌜ r ≡ measuredOf (spanPairs (now (trak .entry)) s) ⌝ }
 {
-    let stsc = table(trak, kinds::STSC);
-    let stsz = table(trak, kinds::STSZ);
-    let offsets = offset_table(trak);
+    let stsc = part_of(trak, p.stsc);
+    let stsz = part_of(trak, p.stsz);
+    let offsets = part_of(trak, p.offsets);
     measure_pairs(stsc, stsz, offsets, u32_at(offsets, 12), s.from, s.stop)
 }
 
 // Writes the pairs of some samples of a track, from the place `at` on, and answers the place past them.
-fn write_in(trak: &[u8], s: Span, out: &mut [u8], at: usize) -> usize
-    requires { ⌜ Usable (2 ^ 64) (now trak) × (s .from ≤ s .stop) × (at + length (pairBytes (spanPairs (now trak) s)) ≤ length (now out)) ⌝ }
+fn write_in(trak: &[u8], p: Parts, s: Span, out: &mut [u8], at: usize) -> usize
+    requires { ⌜ (AreParts (now trak) p) × Usable (2 ^ 64) (now trak) × (s .from ≤ s .stop) × (at + length (pairBytes (spanPairs (now trak) s)) ≤ length (now out)) ⌝ }
     ensures { λ r. ⌜ Wrote (spanPairs (now (trak .entry)) s) (now (out .entry)) at r (now (out .exit)) ⌝ }
 {
-    let stsc = table(trak, kinds::STSC);
-    let stsz = table(trak, kinds::STSZ);
-    let offsets = offset_table(trak);
+    let stsc = part_of(trak, p.stsc);
+    let stsz = part_of(trak, p.stsz);
+    let offsets = part_of(trak, p.offsets);
     write_pairs(
         stsc,
         stsz,
@@ -80,17 +80,17 @@ fn head_of(id: u32, scale: u32, a: u32, b: u32, pairs: u64) -> Head
 }
 
 // Writes a slip with that head and the pairs of some samples, where it fits. Only the pairs can ask for form 2.
-fn put_slip(trak: &[u8], s: Span, head: Head, out: &mut [u8]) -> SlipAnswer
-    requires { ⌜ Usable (2 ^ 64) (now trak) × (s .from ≤ s .stop) × NarrowHead head ⌝ }
+fn put_slip(trak: &[u8], p: Parts, s: Span, head: Head, out: &mut [u8]) -> SlipAnswer
+    requires { ⌜ (AreParts (now trak) p) × Usable (2 ^ 64) (now trak) × (s .from ≤ s .stop) × NarrowHead head ⌝ }
     ensures { λ r. ⌜ PutSlip (slipBytes head (flat (spanPairs (now (trak .entry)) s))) (now (out .entry)) r (now (out .exit)) ⌝ }
 {
-    let m = measure_in(trak, s);
+    let m = measure_in(trak, p, s);
     let length = head_len(head) + m.bytes;
     if out.len() < length {
         return SlipAnswer::Refused(16);
     }
     let at = put_head(out, head, m.wide);
-    SlipAnswer::Written(write_in(trak, s, out, at))
+    SlipAnswer::Written(write_in(trak, p, s, out, at))
 }
 
 // The slip of a track's stretch from a to b of any film, lent whole or its moov alone, in the first bytes. The film is read strictly. A refusal leaves the
@@ -107,13 +107,16 @@ pub fn write_slip_of(
 {
     let first = a.0;
     let last = b.0;
-    match span_asked(lent, source.strictly(), id, first, last) {
+    let ask = Ask::of(lent, source.strictly(), id);
+    match span_asked(lent, ask, first, last) {
         Asked::Refused(r) => SlipAnswer::Refused(r),
         Asked::Samples(span) => {
-            let trak = track_asked(lent, id);
-            let pairs = count_in(trak, span);
-            let head = head_of(id, media_scale(trak), first, last, pairs);
-            put_slip(trak, span, head, out)
+            let trak = ask.trak;
+            let body = part_of(lent, trak.body);
+            let p = trak.parts;
+            let pairs = count_in(body, p, span);
+            let head = head_of(id, scale_in(body, p), first, last, pairs);
+            put_slip(body, p, span, head, out)
         }
     }
 }

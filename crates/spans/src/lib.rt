@@ -1,19 +1,19 @@
 // The samples of a stretch of a track, and their byte ranges in lent numbers of 32 or 64 bits.
-use atoms::kinds;
 use bigendian::u32_at;
 use pairs::count_pairs;
+use places::part_of;
+use places::trak::Parts;
 use runs::Lookup;
-use structure::trak::offset_table;
-use structure::trak::table;
 ghost use mathlib.Core.Path.{_≡_};
 ghost use Prim.Native.Nat.{_≤_, _<_, _*_, _^_};
 ghost use lib.ListN.{length};
 ghost use lib.Seq.{sets};
 ghost use Rattle.lists.specs.Lists.{sum, holder};
 ghost use Rattle.runs.specs.Runs.{perSample};
+ghost use Rattle.places.specs.Places.{AreParts};
 ghost use Rattle.pairs.specs.Pairs.{flat};
 ghost use Rattle.pairs.specs.Walks.{lengthsOf};
-ghost use Rattle.spans.specs.Spans.{Usable, spanIn, spanSaid, spanPairs};
+ghost use Rattle.spans.specs.Spans.{Usable, spanSaid, spanPairs};
 
 // Samples by their indices: from the first up to, not including, `stop`.
 pub struct Span {
@@ -62,33 +62,24 @@ pub fn span_of(stts: &[u8], samples: u32, a: u32, b: u32) -> Asked
     }
 }
 
-// The samples of the stretch from a to b of a track; 15 where it lies outside.
-pub fn span_in(trak: &[u8], a: u32, b: u32) -> Asked
-    requires { ⌜ Usable (2 ^ 64) (now trak) ⌝ }
-    ensures { λ r. ⌜ r ≡ spanIn (now (trak .entry)) a b ⌝ }
-{
-    let samples = u32_at(table(trak, kinds::STSZ), 16);
-    span_of(table(trak, kinds::STTS), samples, a, b)
-}
-
 // How many chunks some samples of a track touch.
-pub fn count_in(trak: &[u8], s: Span) -> u64
-    requires { ⌜ Usable (2 ^ 64) (now trak) ⌝ }
+pub fn count_in(trak: &[u8], p: Parts, s: Span) -> u64
+    requires { ⌜ (AreParts (now trak) p) × Usable (2 ^ 64) (now trak) ⌝ }
     ensures { λ r. ⌜ r ≡ length (spanPairs (now (trak .entry)) s) ⌝ }
 {
-    let stsc = table(trak, kinds::STSC);
-    let chunks = u32_at(offset_table(trak), 12);
+    let stsc = part_of(trak, p.stsc);
+    let chunks = u32_at(part_of(trak, p.offsets), 12);
     count_pairs(stsc, chunks, s.from, s.stop)
 }
 
 // Puts the pairs of some samples of a track into the first places of the room, and answers their lengths, added.
-pub fn put_in(trak: &[u8], s: Span, room: &mut [u32]) -> u64
-    requires { ⌜ Usable (2 ^ 32) (now trak) × (s .from ≤ s .stop) × (2 * length (spanPairs (now trak) s) ≤ length (now room)) ⌝ }
+pub fn put_in(trak: &[u8], p: Parts, s: Span, room: &mut [u32]) -> u64
+    requires { ⌜ (AreParts (now trak) p) × Usable (2 ^ 32) (now trak) × (s .from ≤ s .stop) × (2 * length (spanPairs (now trak) s) ≤ length (now room)) ⌝ }
     ensures { λ r. ⌜ (r ≡ sum (lengthsOf (spanPairs (now (trak .entry)) s))) × (now (room .exit) ≡ sets (now (room .entry)) 0 (flat (spanPairs (now (trak .entry)) s))) ⌝ }
 {
-    let stsc = table(trak, kinds::STSC);
-    let stsz = table(trak, kinds::STSZ);
-    let offsets = offset_table(trak);
+    let stsc = part_of(trak, p.stsc);
+    let stsz = part_of(trak, p.stsz);
+    let offsets = part_of(trak, p.offsets);
     narrow_pairs::put_pairs(
         stsc,
         stsz,

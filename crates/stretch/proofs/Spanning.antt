@@ -5,7 +5,8 @@ use mathlib.Core.Path.{_≡_, refl, sym, ap, subst, _∙_}
 use mathlib.Core.List.{List}
 use mathlib.Core.Bool.{Bool, true, false, cond, _&&_}
 use native.Mathlib.Omega.{arith}
-use borrow.Author.Tests.{ne-eqb, ltb-true, leb-true}
+use native.Mathlib.Decide.{ℕ-discrete}
+use borrow.Author.Tests.{eq-eqb, ne-eqb, ltb-true, leb-true}
 use lib.ListN.{length}
 use lib.Dec.{eqb, ltb, leb}
 use lib.Seq.{sets}
@@ -20,6 +21,7 @@ use Rattle.structure.specs.declared.source.Source.{Source}
 use Rattle.structure.specs.Source.{wholeFile, lengthOf}
 use Rattle.structure.specs.Track.{tableOf, offsetTable, samplesOf, chunksOf}
 use Rattle.structure.specs.Rows.{orElse}
+use Rattle.places.specs.Places.{partIn, AreParts}
 use Rattle.structure.proofs.Callers.{none-else}
 use Rattle.track.specs.Track.{trackOf}
 use Rattle.track.specs.Refusals.{totalIn}
@@ -32,13 +34,16 @@ use Rattle.pairs.specs.declared.Pair.{Pair}
 use Rattle.pairs.proofs.Touched.{touched-sum}
 use Rattle.spans.specs.Spans.{Usable, Spans, spanIn, spanPairs}
 use Rattle.spans.specs.declared.Span.{Span}
+use Rattle.spans.proofs.Spanning.{span-is}
 use Rattle.spans.specs.declared.Asked.{Asked}
 use Rattle.spans.specs.declared.Asked.the-variants.{Samples}
 use Rattle.spans.specs.declared.Asked.the-variants as asks
 use Rattle.questions.specs.Asked.{askRefusal, trackAsked}
-use Rattle.questions.proofs.Asking.{asked}
+use Rattle.questions.specs.Asking.{Asks}
+use Rattle.questions.specs.declared.Ask.{Ask}
+use Rattle.questions.proofs.Asking.{ask-body, ask-parts, asked}
 use Rattle.edits.specs.declared.MediaTime.{MediaTime}
-use Rattle.stretch.specs.Spans.{spanAsked}
+use Rattle.stretch.specs.Spans.{spanAsked, spanOfAsk}
 use Rattle.stretch.specs.Stretches.{firstIn, pastIn, pairsIn, bytesIn, stretchPairs, spanAt, spanRefusal, stretchRefusal, stretchAsked, stretchNumbers, Stretches}
 use Rattle.stretch.specs.Said.{PutsPairs}
 use Rattle.stretch.specs.declared.StretchAnswer.{StretchAnswer}
@@ -84,6 +89,11 @@ usable-whole s t w id e d h =
     let l : lengthOf w s ≡ length s = ap (λ (x : Bool). cond x (w .length) (length s)) h in
     usable-below (2 ^ 32) s t w id e d (omega (arith, l, asked s w id e .file .shape .short))
 
+-- the body and the parts that a question has of it
+pub ask-usable : (s : List ℕ) (w : Source) (id : ℕ) (k : Ask) → Asks s w id k → askRefusal s w id ≡ 0 → (t : List ℕ) → t ≡ partIn s (k .trak .body)
+    → AreParts t (k .trak .parts) × Usable (2 ^ 64) t
+ask-usable s w id k h z t e = let q = h .refusal ∙ z in (ask-parts s w id k h q t e, usable s t w id z (ask-body s w id k h q t e))
+
 -- ---- what is asked
 
 -- what is asked of a film: a refusal of its own, and samples where the stretch lies inside
@@ -120,6 +130,20 @@ module _ (s : List ℕ) (w : Source) (id a b : ℕ) where
   asked-samples p e =
       let k = by-samples (askRefusal s w id) (ltb a b && leb b (totalIn (trackAsked s id))) _ p e in
       (k .0, rw (k .1) (record { first = refl; past = refl }), in-span-of s w id a b (sym (k .0)))
+
+-- from what the question begins with
+pub ask-span : (s : List ℕ) (w : Source) (id : ℕ) (k : Ask) → Asks s w id k → (a b : ℕ) → spanOfAsk s k a b ≡ spanAsked s w id a b
+unfolding spanAsked spanOfAsk
+ask-span s w id k h a b = elim (ℕ-discrete (k .refusal) 0) [
+  | no n ↦ let e = h .refusal in rw (← e, ne-eqb (k .refusal) 0 n)
+  | yes z ↦
+      let e = h .refusal in
+      let t = partIn s (k .trak .body) in
+      let d = ask-body s w id k h z t refl in
+      let p = ask-parts s w id k h z t refl in
+      let q = span-is t _ _ _ a b _ (usable s t w id (sym e ∙ z) d) (p .stts) (p .stsz) refl refl in
+      rw (← e, eq-eqb (k .refusal) 0 z, ← d) q
+]
 
 -- ---- the stretch of the track that is asked
 

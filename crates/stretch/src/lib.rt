@@ -4,29 +4,30 @@ pub mod tables;
 use bigendian::u32_at;
 use edits::MediaTime;
 use places::part_of;
-use places::trak::parts_of;
-use questions::ask_refusal;
-use questions::track_asked;
+use questions::Ask;
 use spans::Asked;
 use spans::count_in;
 use spans::put_in;
-use spans::span_in;
+use spans::span_of;
 use structure::source::Source;
 use tables::stretch_in;
 ghost use mathlib.Core.Path.{_≡_};
 ghost use Rattle.structure.specs.Source.{wholeFile};
-ghost use Rattle.stretch.specs.Spans.{spanAsked};
+ghost use Rattle.stretch.specs.Spans.{spanOfAsk};
 ghost use Rattle.stretch.specs.Stretches.{spanRefusal, Stretches};
 
-// What the stretch from a to b of a track of a film asks for.
-pub fn span_asked(lent: &[u8], source: Source, id: u32, a: u32, b: u32) -> Asked
-    ensures { λ r. ⌜ r ≡ spanAsked (now (lent .entry)) source id a b ⌝ }
+// What the stretch from a to b of the track that is asked asks for.
+pub fn span_asked(lent: &[u8], ask: Ask, a: u32, b: u32) -> Asked
+    ensures { λ r. ⌜ r ≡ spanOfAsk (now (lent .entry)) ask a b ⌝ }
 {
-    let refused = ask_refusal(lent, source, id);
-    if refused != 0 {
-        return Asked::Refused(refused);
+    if ask.refusal != 0 {
+        return Asked::Refused(ask.refusal);
     }
-    span_in(track_asked(lent, id), a, b)
+    let trak = ask.trak;
+    let body = part_of(lent, trak.body);
+    let p = trak.parts;
+    let samples = u32_at(part_of(body, p.stsz), 16);
+    span_of(part_of(body, p.stts), samples, a, b)
 }
 
 // The refusal before the room is looked at: the film's, 14, or 15; 0 where there is none.
@@ -35,7 +36,8 @@ pub fn span_refusal(lent: &[u8], source: Source, id: u32, a: MediaTime, b: Media
 {
     let first = a.0;
     let last = b.0;
-    match span_asked(lent, source, id, first, last) {
+    let ask = Ask::of(lent, source, id);
+    match span_asked(lent, ask, first, last) {
         Asked::Samples(_) => 0,
         Asked::Refused(r) => r,
     }
@@ -60,15 +62,18 @@ pub fn stretch_of(
 {
     let first = a.0;
     let last = b.0;
-    match span_asked(file, Source::whole(), id, first, last) {
+    let ask = Ask::of(file, Source::whole(), id);
+    match span_asked(file, ask, first, last) {
         Asked::Refused(r) => StretchAnswer::Refused(r),
         Asked::Samples(span) => {
-            let trak = track_asked(file, id);
-            let n = count_in(trak, span) as usize;
+            let trak = ask.trak;
+            let body = part_of(file, trak.body);
+            let p = trak.parts;
+            let n = count_in(body, p, span) as usize;
             if room.len() / 2 < n {
                 return StretchAnswer::Refused(16);
             }
-            let bytes = put_in(trak, span, room);
+            let bytes = put_in(body, p, span, room);
             StretchAnswer::Pairs(n, bytes)
         }
     }
@@ -85,17 +90,18 @@ pub fn stretch_wide(
 ) -> StretchAnswer
     ensures { λ r. ⌜ Stretches (now (lent .entry)) source id a b (now (room .entry)) r (now (room .exit)) ⌝ }
 {
-    let refused = ask_refusal(lent, source, id);
-    if refused != 0 {
-        return StretchAnswer::Refused(refused);
+    let ask = Ask::of(lent, source, id);
+    if ask.refusal != 0 {
+        return StretchAnswer::Refused(ask.refusal);
     }
-    let trak = track_asked(lent, id);
-    let p = parts_of(trak);
-    let stsz = part_of(trak, p.stsz);
-    let offsets = part_of(trak, p.offsets);
+    let trak = ask.trak;
+    let body = part_of(lent, trak.body);
+    let p = trak.parts;
+    let stsz = part_of(body, p.stsz);
+    let offsets = part_of(body, p.offsets);
     stretch_in(
-        part_of(trak, p.stts),
-        part_of(trak, p.stsc),
+        part_of(body, p.stts),
+        part_of(body, p.stsc),
         stsz,
         offsets,
         u32_at(stsz, 16),

@@ -15,13 +15,13 @@ add-length : tie.Need-add-length
 add-length c =
     let h = c .before in
     let a = h .before .before .before .before in
-    record { fits = length-fits _ (a .args .s) (a .args .head) (a .pre .0) _ _ (h .head-len .ensures (h .before .measure-in .result .wide)) (h .before .measure-in .ensures) }
+    record { fits = length-fits _ (a .args .s) (a .args .head) (a .pre .1) _ _ (h .head-len .ensures (h .before .measure-in .result .wide)) (h .before .measure-in .ensures) }
 
 returns : tie.Need-returns
 returns c =
     let h = c .before .before in
     let a = h .before .before .before .before in
-    too-long (a .args .head) _ _ _ _ (a .pre .2) (h .head-len .ensures (h .before .measure-in .result .wide)) (h .before .measure-in .ensures) (c .if1 .taken)
+    too-long (a .args .head) _ _ _ _ (a .pre .3) (h .head-len .ensures (h .before .measure-in .result .wide)) (h .before .measure-in .ensures) (c .if1 .taken)
 
 put-head-requires : tie.Need-put-head-requires
 put-head-requires c κs = search needs
@@ -32,7 +32,7 @@ write-in-requires c κs =
     let i = p .before .before in
     let h = i .before .before in
     let a = h .before .before .before .before in
-    (a .pre .0, a .pre .1, pairs-after (a .args .head) _ _ _ _ (a .pre .2) (h .head-len .ensures (h .before .measure-in .result .wide)) (h .before .measure-in .ensures) (i .if1 .left) _ _ (p .put-head .ensures .0) (p .put-head .ensures .1))
+    (a .pre .0, a .pre .1, a .pre .2, pairs-after (a .args .head) _ _ _ _ (a .pre .3) (h .head-len .ensures (h .before .measure-in .result .wide)) (h .before .measure-in .ensures) (i .if1 .left) _ _ (p .put-head .ensures .0) (p .put-head .ensures .1))
 
 same-length : tie.Need-same-length
 same-length c = search needs
@@ -44,7 +44,7 @@ returns-2 c =
     let i = p .before .before in
     let h = i .before .before in
     let a = h .before .before .before .before in
-    all-put (a .args .head) _ _ _ _ (a .pre .2) (h .head-len .ensures (h .before .measure-in .result .wide)) (h .before .measure-in .ensures) (i .if1 .left) _ _ (p .put-head .ensures .0) (p .put-head .ensures .1) _ _ (w .write-in .ensures)
+    all-put (a .args .head) _ _ _ _ (a .pre .3) (h .head-len .ensures (h .before .measure-in .result .wide)) (h .before .measure-in .ensures) (i .if1 .left) _ _ (p .put-head .ensures .0) (p .put-head .ensures .1) _ _ (w .write-in .ensures)
 
 pub put-slip-spec : {M : Type 1} → statement M
 put-slip-spec =

@@ -1,26 +1,31 @@
 -- `spans::count_in` meets its contract.
 -- Assumes nothing.
-use borrow.Author.Needs.{needs}
+use mathlib.Core.Path.{_∙_}
 use Rattle.spans.proofs.Spanning.{table-fits, count-is}
 use Rattle.spans.proofs.count_in.Statement.{statement}
 use Rattle.spans.proofs.count_in.Tie as tie
 
-table-requires : tie.Need-table-requires
-table-requires c κs = search needs
+part-of-requires : tie.Need-part-of-requires
+part-of-requires c κs = tt
 
-offset-table-requires : tie.Need-offset-table-requires
-offset-table-requires c κs = search needs
+part-of-requires-2 : tie.Need-part-of-requires-2
+part-of-requires-2 c κs = tt
 
 u32-at-requires : tie.Need-u32-at-requires
-u32-at-requires c κs = search needs
+u32-at-requires c κs = tt
 
 count-pairs-requires : tie.Need-count-pairs-requires
-count-pairs-requires c κs = table-fits _ _ _ (c .before .before .table .ensures) (c .before .before .before .before .pre)
+count-pairs-requires c κs = table-fits _ _ _ (c .before .before .part-of .ensures ∙ c .before .before .before .before .pre .0 .stsc) (c .before .before .before .before .pre .1)
 
 returns : tie.Need-returns
-returns c = count-is _ _ _ _ _ _ (c .before .before .before .table .ensures) (c .before .before .offset-table .ensures) (c .before .u32-at .ensures) (c .count-pairs .ensures)
+returns c = count-is _ _ _ _ _ _ (c .before .before .before .part-of .ensures ∙ c .before .before .before .before .before .pre .0 .stsc) (c .before .before .part-of2 .ensures ∙ c .before .before .before .before .before .pre .0 .offsets) (c .before .u32-at .ensures) (c .count-pairs .ensures)
 
 pub count-in-spec : {M : Type 1} → statement M
 count-in-spec =
     tie.close
-    (tie.spec table-requires offset-table-requires u32-at-requires count-pairs-requires returns)
+    (tie.spec
+    part-of-requires
+    part-of-requires-2
+    u32-at-requires
+    count-pairs-requires
+    returns)

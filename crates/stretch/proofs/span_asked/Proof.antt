@@ -1,31 +1,46 @@
--- `stretch::span_asked` meets its contract.
+-- `stretch::span_asked` meets its contract: the refusal, or what the tables of the trak say.
 -- Assumes nothing.
-use borrow.Author.Needs.{needs}
-use mathlib.Core.Path.{sym, _∙_}
+use mathlib.Core.Path.{_∙_}
 use borrow.Author.Tests.{eq-eqb, ne-eqb}
-use Rattle.stretch.specs.Spans.{spanAsked}
-use Rattle.stretch.proofs.Spanning.{usable}
+use Rattle.stretch.specs.Spans.{spanOfAsk}
 use Rattle.stretch.proofs.span_asked.Statement.{statement}
 use Rattle.stretch.proofs.span_asked.Tie as tie
 
-ask-refusal-requires : tie.Need-ask-refusal-requires
-ask-refusal-requires c κs = search needs
-
 returns : tie.Need-returns
-unfolding spanAsked
-returns c = let e = c .before .ask-refusal .ensures in rw (← e, ne-eqb _ _ (c .if1 .taken))
+unfolding spanOfAsk
+returns c = rw (ne-eqb _ _ (c .if1 .taken))
 
-track-asked-requires : tie.Need-track-asked-requires
-track-asked-requires c κs = search needs
+part-of-requires : tie.Need-part-of-requires
+part-of-requires c κs = tt
 
-span-in-requires : tie.Need-span-in-requires
-span-in-requires c κs = usable _ _ _ _ (sym (c .before .before .ask-refusal .ensures) ∙ c .before .if1 .left) (c .track-asked .ensures)
+part-of-requires-2 : tie.Need-part-of-requires-2
+part-of-requires-2 c κs = tt
+
+u32-at-requires : tie.Need-u32-at-requires
+u32-at-requires c κs = tt
+
+part-of-requires-3 : tie.Need-part-of-requires-3
+part-of-requires-3 c κs = tt
+
+span-of-requires : tie.Need-span-of-requires
+span-of-requires c κs = tt
 
 returns-2 : tie.Need-returns-2
-unfolding spanAsked
-returns-2 c = rw (← c .before .before .before .ask-refusal .ensures, eq-eqb _ _ (c .before .before .if1 .left)) (c .span-in .ensures ∙ rw (c .before .track-asked .ensures))
+unfolding spanOfAsk
+returns-2 c =
+    let z = c .before .before .before in
+    let b = z .before .before in
+    let i = b .before .before in
+    c .span-of .ensures ∙ rw (eq-eqb _ _ (i .if1 .left), c .before .part-of3 .ensures, c .before .before .u32-at .ensures, z .part-of2 .ensures, b .part-of .ensures)
 
 pub span-asked-spec : {M : Type 1} → statement M
 span-asked-spec =
     tie.close
-    (tie.spec ask-refusal-requires returns track-asked-requires span-in-requires returns-2)
+    (tie.spec
+    returns
+    part-of-requires
+    part-of-requires-2
+    u32-at-requires
+    part-of-requires-3
+    span-of-requires
+    returns-2)
