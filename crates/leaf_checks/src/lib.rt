@@ -6,15 +6,13 @@ use leaves::holds_entries;
 use places::part_of;
 use places::trak::Parts;
 use structure::either;
-use structure::moov::movie_profile;
 ghost use mathlib.Core.Path.{_≡_};
 ghost use Rattle.leaf_checks.specs.LeafChecks.{profileOk, shortVideoDescription, wrongTrackSize};
 ghost use Rattle.structure.specs.Track.{profileOf};
-ghost use Rattle.structure.specs.Movie.{movieProfile};
 ghost use Rattle.places.specs.Places.{AreParts};
 
 // Whether a profile has its size; where there is none, nothing is asked.
-fn profile_ok(profile: &[u8]) -> bool
+pub fn is_profile_sized(profile: &[u8]) -> bool
     ensures { λ r. ⌜ r ≡ profileOk (now (profile .entry)) ⌝ }
 {
     if profile.len() == 0 {
@@ -43,13 +41,6 @@ pub fn is_wrong_track_size(trak: &[u8], p: Parts, profile: &[u8]) -> bool
     ensures { λ r. ⌜ r ≡ wrongTrackSize (now (trak .entry)) ⌝ }
 {
     let small = has_short_video_description(trak, p);
-    let sized = profile_ok(profile);
+    let sized = is_profile_sized(profile);
     either(small, !sized)
-}
-
-// Whether the movie's profile has its size, from the body of the moov.
-pub fn is_profile_sized(moov: &[u8]) -> bool
-    ensures { λ r. ⌜ r ≡ profileOk (movieProfile (now (moov .entry))) ⌝ }
-{
-    profile_ok(movie_profile(moov))
 }

@@ -3,12 +3,13 @@ use bigendian::u32_at;
 use places::part_of;
 use places::trak::Parts;
 use structure::either;
-use structure::moov::movie_profile;
-use structure::moov::track_count;
 ghost use mathlib.Core.Path.{_≡_};
+ghost use mathlib.Core.Bool.{_||_};
+ghost use lib.Dec.{ltb};
+ghost use Rattle.bigendian.specs.BigEndian.{u32At};
 ghost use Rattle.structure.specs.Track.{profileOf};
 ghost use Rattle.places.specs.Places.{AreParts};
-ghost use Rattle.limits.specs.Limits.{overLimits, tooMany};
+ghost use Rattle.limits.specs.Limits.{overLimits};
 
 // Of a track, from the body of its trak, its parts and its profile.
 pub fn is_over_limits(trak: &[u8], p: Parts, profile: &[u8]) -> bool
@@ -33,11 +34,10 @@ pub fn is_over_limits(trak: &[u8], p: Parts, profile: &[u8]) -> bool
     either(d, 64 < references)
 }
 
-// Of the movie, from the body of its moov.
-pub fn is_too_many(moov: &[u8]) -> bool
-    ensures { λ r. ⌜ r ≡ tooMany (now (moov .entry)) ⌝ }
+// Of a movie, from the number of its tracks and its profile.
+pub fn is_too_many(tracks: usize, profile: &[u8]) -> bool
+    ensures { λ r. ⌜ r ≡ (ltb 16 tracks || ltb 64 (u32At (now (profile .entry)) 12)) ⌝ }
 {
-    let tracks = track_count(moov);
-    let records = u32_at(movie_profile(moov), 12);
+    let records = u32_at(profile, 12);
     either(16 < tracks, 64 < records)
 }

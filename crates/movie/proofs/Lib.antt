@@ -1,5 +1,5 @@
 pub mod Repeats
-pub mod Places
+pub mod Traks
 pub mod Tables
 pub mod Accepted
 pub mod Strict

@@ -8,8 +8,6 @@ use lib.ListN.{length}
 use lib.Dec.{eqb·suc-zero}
 use native.Mathlib.Omega.{arith}
 use borrow.Author.Tests.{eq-eqb, ne-eqb}
-use Rattle.atoms.specs.Kinds.{file, moov}
-use Rattle.atoms.proofs.Lengths.{body-short}
 use Rattle.structure.specs.declared.source.Source.{Source}
 use Rattle.structure.specs.Rows.{first, rank, ranksRise, firstJudged, ofWhole, orElse}
 use Rattle.structure.specs.ByTracks.{ofTrack, ofTracks, earlierOf}
@@ -61,19 +59,16 @@ film-is s w =
     let len = lengthOf w s in
     ap (orElse (ofWhole (fileRows w) s)) (moov-is w len (moovOf s)) ∙ else-assoc (ofWhole (fileRows w) s) (movieRefusal (w .alone) (moovOf s)) (tablesRefusal w len (moovOf s))
 
--- ---- from what a caller has of `shape::refusal`, `moov_body`, `length_of` and `tables_refusal`
+-- ---- from what a caller has of `shape::judge`, `length_of` and `tables_refusal`
 
 pub refused-first : (s : List ℕ) (w : Source) (r : ℕ) → r ≡ refusalOf w s → (r ≡ 0 → ⊥) → r ≡ filmRefusal s w
 unfolding orElse
 refused-first s w r e n = sym (film-is s w ∙ rw (← e, ne-eqb r 0 n))
 
-pub then-tables : (s m : List ℕ) (w : Source) (r len q : ℕ) → r ≡ refusalOf w s → r ≡ 0 → m ≡ moovOf s → len ≡ lengthOf w s → q ≡ tablesRefusal w len m
+pub then-tables : (s : List ℕ) (w : Source) (r len q : ℕ) → r ≡ refusalOf w s → r ≡ 0 → len ≡ lengthOf w s → q ≡ tablesRefusal w len (moovOf s)
     → q ≡ filmRefusal s w
 unfolding orElse
-then-tables s m w r len q e z d l h = sym (film-is s w ∙ rw (← e, eq-eqb r 0 z, ← d, ← l, ← h))
+then-tables s w r len q e z l h = sym (film-is s w ∙ rw (← e, eq-eqb r 0 z, ← l, ← h))
 
-pub moov-fits : (s m : List ℕ) (w : Source) (r : ℕ) → r ≡ refusalOf w s → r ≡ 0 → m ≡ moovOf s → (length m < 2 ^ 32) × (length (tracksOf m) ≤ 16)
-unfolding moovOf
-moov-fits s m w r e z d =
-    let h = shaped s w (sym e ∙ z) in
-    (rw d (omega (arith, h .short, body-short file moov 0 s)), rw d (h .movie .few-tracks))
+pub film-fits : (s : List ℕ) (w : Source) (r : ℕ) → r ≡ refusalOf w s → r ≡ 0 → (length s < 2 ^ 32) × (length (tracksOf (moovOf s)) ≤ 16)
+film-fits s w r e z = let h = shaped s w (sym e ∙ z) in (omega (arith, h .short), h .movie .few-tracks)

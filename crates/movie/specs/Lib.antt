@@ -3,3 +3,4 @@ pub mod Refusals
 pub mod TableRows
 pub mod Rooms
 pub mod Answers
+pub mod Traks

@@ -1,33 +1,25 @@
-// The tracks of a movie by their IDs, from the body of its moov.
-use atoms::body_of;
-use atoms::kinds;
-use atoms::size_in;
-use bigendian::u32_at;
-use structure::trak::track_id;
+// The tracks of a movie by their IDs, from its traks.
+use places::moov::Traks;
+use places::moov::trak_at;
+use places::part_of;
+use places::trak::Trak;
 ghost use mathlib.Core.Path.{_≡_};
 ghost use Prim.Native.Nat.{_≤_};
 ghost use lib.ListN.{length, take};
 ghost use Rattle.words.specs.Words.{listed};
-ghost use Rattle.structure.specs.Movie.{tracksOf};
-ghost use Rattle.movie.specs.Tracks.{idsOf, repeats, hasTrack, trackWith};
+ghost use Rattle.structure.specs.Track.{idOf};
+ghost use Rattle.structure.specs.Movie.{moovOf, tracksOf};
+ghost use Rattle.places.specs.Places.{partIn, AreParts};
+ghost use Rattle.movie.specs.Tracks.{idsOf, repeats};
+ghost use Rattle.movie.specs.Traks.{FewTraks, StandsAt};
 
-// Whether a track of the movie has that ID.
-pub fn has_track(moov: &[u8], id: u32) -> bool
-    ensures { λ r. ⌜ r ≡ hasTrack id (now (moov .entry)) ⌝ }
+// The ID of the track with that trak.
+fn id_of(lent: &[u8], trak: Trak) -> u32
+    requires { ⌜ AreParts (partIn (now lent) (trak .body)) (trak .parts) ⌝ }
+    ensures { λ r. ⌜ r ≡ idOf (partIn (now (lent .entry)) (trak .body)) ⌝ }
 {
-    let mut t = moov;
-    loop {
-        let n = size_in(t, kinds::MOOV);
-        if n < 8 {
-            return false;
-        }
-        if u32_at(t, 4) == kinds::TRAK {
-            if track_id(body_of(&t[..n])) == id {
-                return true;
-            }
-        }
-        t = &t[n..];
-    }
+    let body = trak.body;
+    track::id_in(part_of(lent, body), trak.parts)
 }
 
 // Whether an ID is among the first n of some.
@@ -45,47 +37,37 @@ fn is_among(ids: &[u32; 16], n: usize, id: u32) -> bool
     false
 }
 
-// Whether two tracks have one ID: each is looked for among those before it, in one walk over the moov.
-pub(crate) fn ids_repeat(moov: &[u8]) -> bool
-    requires { ⌜ length (tracksOf (now moov)) ≤ 16 ⌝ }
-    ensures { λ r. ⌜ r ≡ repeats (idsOf (now (moov .entry))) ⌝ }
+// Whether two tracks have one ID: each is looked for among those before it.
+pub(crate) fn ids_repeat(lent: &[u8], traks: Traks) -> bool
+    requires { ⌜ FewTraks (now lent) (tracksOf (moovOf (now lent))) traks ⌝ }
+    ensures { λ r. ⌜ r ≡ repeats (idsOf (moovOf (now (lent .entry)))) ⌝ }
 {
-    let mut t = moov;
+    let count = traks.count;
     let mut ids = [0u32; 16];
-    let mut n: usize = 0;
-    loop {
-        let size = size_in(t, kinds::MOOV);
-        if size < 8 {
-            return false;
+    let mut i: usize = 0;
+    while i < count {
+        let id = id_of(lent, trak_at(traks, i));
+        if is_among(&ids, i, id) {
+            return true;
         }
-        if u32_at(t, 4) == kinds::TRAK {
-            let id = track_id(body_of(&t[..size]));
-            if is_among(&ids, n, id) {
-                return true;
-            }
-            ids[n] = id;
-            n += 1;
-        }
-        t = &t[size..];
+        ids[i] = id;
+        i += 1;
     }
+    false
 }
 
-// The body of the first trak with that ID; empty where no track has it.
-pub fn track_with<'a>(moov: &'a [u8], id: u32) -> &'a [u8]
-    ensures { λ r. ⌜ now r ≡ trackWith id (now (moov .entry)) ⌝ }
+// The place of the first track with that ID among the traks; their number where no track has it.
+pub fn place_of(lent: &[u8], traks: Traks, id: u32) -> usize
+    requires { ⌜ FewTraks (now lent) (tracksOf (moovOf (now lent))) traks ⌝ }
+    ensures { λ r. ⌜ StandsAt id (tracksOf (moovOf (now (lent .entry)))) r ⌝ }
 {
-    let mut t = moov;
-    loop {
-        let n = size_in(t, kinds::MOOV);
-        if n < 8 {
-            return &t[..0];
+    let count = traks.count;
+    let mut i: usize = 0;
+    while i < count {
+        if id_of(lent, trak_at(traks, i)) == id {
+            return i;
         }
-        if u32_at(t, 4) == kinds::TRAK {
-            let body = body_of(&t[..n]);
-            if track_id(body) == id {
-                return body;
-            }
-        }
-        t = &t[n..];
+        i += 1;
     }
+    i
 }

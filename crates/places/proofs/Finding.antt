@@ -17,8 +17,8 @@ use Rattle.atoms.proofs.Laws.{child-none, child-here, child-next}
 use Rattle.structure.specs.Track.{mdiaOf, minfOf, stblOf, tableOf, offsetTable, elstOf, drefOf, profileOf}
 use Rattle.structure.specs.Profile.{firstBefore, ofVersion0, profileIn}
 use Rattle.structure.proofs.Places.{profile-none, profile-head, profile-here, profile-next}
-use Rattle.places.specs.Places.{partIn, AreTables, AreParts}
-use Rattle.places.specs.Finding.{firstPart, nothing, noTables, NoTable, withAtom, offsetsIn, Finds, withOne, FindsThree, NoHead, firstProfile, withHead, FindsHeads}
+use Rattle.places.specs.Places.{partIn, nothing, AreTables, AreParts}
+use Rattle.places.specs.Finding.{firstPart, noTables, NoTable, withAtom, offsetsIn, Finds, withOne, FindsThree, NoHead, firstProfile, withHead, FindsHeads}
 use Rattle.places.specs.declared.Part.{Part}
 use Rattle.places.specs.declared.tables.Found.{Found}
 use Rattle.places.specs.declared.trak.Three.{Three}

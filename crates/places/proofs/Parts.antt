@@ -6,7 +6,7 @@ use mathlib.Core.List.{List, [], _∷_}
 use native.Mathlib.Omega.{arith}
 use native.Mathlib.Decide.{ℕ-discrete, decLe}
 use lib.ListN.{length, take, drop, length-take, length-drop, drop-of-length-le}
-use lib.Seq.{drop-drop, take-length}
+use lib.Seq.{drop-drop, take-length, take-all}
 use Rattle.lists.proofs.Cuts.{drop-take}
 use Rattle.atoms.specs.Atoms.{headerOf, bodyOf}
 use Rattle.places.specs.Places.{partIn}
@@ -85,3 +85,44 @@ module _ (s a b : List ℕ) (p : Part) (e : a ≡ partIn s p) (f : b ≡ bodyOf 
       let q : At s a (p .at) = rw e (part-at s p) in
       let n = at-next s a (p .at) (length a - length b) q (omega arith) in
       rw cut at (n .here) ∙ f ∙ ap bodyOf e
+
+-- ---- a part of a part
+
+-- all that is lent
+pub whole-part : (s : List ℕ) → partIn s (record { at = 0; len = length s }) ≡ s
+unfolding partIn
+whole-part s = take-length s
+
+module _ (s t : List ℕ) (o p : Part) (e : t ≡ partIn s o) where
+  pub within-past : length t ≤ p .at → partIn s (record { at = 0; len = 0 }) ≡ partIn (partIn s o) p
+  unfolding partIn
+  within-past h =
+      let z : drop (p .at) t ≡ [] = drop-of-length-le t {i = p .at} h in
+      let f : _≡_ {A = List ℕ} [] (take (p .len) (drop (p .at) t)) = rw z (take-none (p .len)) in
+      f ∙ ap (λ (x : List ℕ). take (p .len) (drop (p .at) x)) e
+    where
+      take-none : (n : ℕ) → _≡_ {A = List ℕ} [] (take n [])
+      take-none zero = refl
+      take-none (suc n) = refl
+
+  module _ (h : p .at < length t) where
+    stands : At s t (o .at)
+    stands = rw e (part-at s o)
+
+    pub within-sum : length s < 2 ^ 63 → o .at + p .at < 2 ^ 64
+    within-sum l = let g = stands .ends (omega arith) in omega arith
+
+    within : (n : ℕ) → n ≤ length t - p .at → take n (drop (o .at + p .at) s) ≡ take n (drop (p .at) t)
+    within n l = at-front s (drop (p .at) t) (o .at + p .at) n (at-next s t (o .at) (p .at) stands (omega arith)) (omega (arith, length-drop (p .at) t))
+
+    pub within-whole : p .len ≤ length t - p .at → partIn s (record { at = o .at + p .at; len = p .len }) ≡ partIn (partIn s o) p
+    unfolding partIn
+    within-whole l = within (p .len) l ∙ ap (λ (x : List ℕ). take (p .len) (drop (p .at) x)) e
+
+    pub within-cut : length t - p .at < p .len → partIn s (record { at = o .at + p .at; len = length t - p .at }) ≡ partIn (partIn s o) p
+    unfolding partIn
+    within-cut l =
+        within (length t - p .at) (omega arith)
+        ∙ take-all (length t - p .at) (drop (p .at) t) (omega (arith, length-drop (p .at) t))
+        ∙ sym (take-all (p .len) (drop (p .at) t) (omega (arith, length-drop (p .at) t)))
+        ∙ ap (λ (x : List ℕ). take (p .len) (drop (p .at) x)) e

@@ -8,7 +8,7 @@ use lib.Dec.{eqb}
 use Rattle.atoms.specs.Kinds as kinds
 use Rattle.atoms.specs.Atoms.{atoms, childIn}
 use Rattle.structure.specs.Profile.{firstBefore}
-use Rattle.places.specs.Places.{partIn}
+use Rattle.places.specs.Places.{partIn, nothing}
 use Rattle.places.specs.declared.Part.{Part}
 use Rattle.places.specs.declared.tables.Found.{Found}
 use Rattle.places.specs.declared.trak.Three.{Three}
@@ -17,9 +17,6 @@ use Rattle.places.specs.declared.trak.Heads.{Heads}
 -- the first part of a kind: the one found, or the next one if it is of that kind
 abbrev pub firstPart : Part → ℕ → ℕ → Part → Part
 firstPart found wanted kind next = cond (eqb (found .len) 0) (cond (eqb kind wanted) next found) found
-
-abbrev pub nothing : Part
-nothing = record { at = 0; len = 0 }
 
 abbrev pub noTables : Found
 noTables = record { stsd = nothing; stts = nothing; ctts = nothing; stsc = nothing; stsz = nothing; stco = nothing; co64 = nothing; stss = nothing }

@@ -9,6 +9,7 @@ use Rattle.structure.specs.Track.{mdiaOf, tableOf, offsetTable, elstOf, drefOf,
 use Rattle.places.specs.declared.Part.{Part}
 use Rattle.places.specs.declared.tables.Tables.{Tables}
 use Rattle.places.specs.declared.trak.Parts.{Parts}
+use Rattle.places.specs.declared.trak.Trak.{Trak}
 
 -- its bytes in s: what there is of them where it passes the end
 unfoldable pub partIn : List ℕ → Part → List ℕ
@@ -38,3 +39,32 @@ pub record AreParts (t : List ℕ) (p : Parts) : Type 0 where
   pub stsz : partIn t (p .stsz) ≡ tableOf kinds.stsz t
   pub offsets : partIn t (p .offsets) ≡ offsetTable t
   pub stss : partIn t (p .stss) ≡ tableOf kinds.stss t
+
+-- the trak with the body t, in what is lent
+pub record IsTrak (s t : List ℕ) (x : Trak) : Type 0 where
+  pub body : partIn s (x .body) ≡ t
+  pub parts : AreParts t (x .parts)
+
+abbrev pub nothing : Part
+nothing = record { at = 0; len = 0 }
+
+abbrev pub noTrak : Trak
+noTrak =
+    record {
+      body = nothing;
+      parts = record {
+        tkhd = nothing;
+        profile = nothing;
+        mdhd = nothing;
+        hdlr = nothing;
+        elst = nothing;
+        dref = nothing;
+        stsd = nothing;
+        stts = nothing;
+        ctts = nothing;
+        stsc = nothing;
+        stsz = nothing;
+        offsets = nothing;
+        stss = nothing;
+      };
+    }

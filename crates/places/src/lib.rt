@@ -1,15 +1,18 @@
 // Parts of what is lent, by value: where a part begins and how long it is. All parts of a track are found in one walk over each container.
 
+pub mod moov;
 pub mod tables;
 pub mod trak;
 
 use atoms::body_of;
+use atoms::kinds;
 use atoms::size_in;
 use bigendian::after;
 use bigendian::u32_at;
 ghost use mathlib.Core.Path.{_≡_};
 ghost use lib.ListN.{take};
 ghost use Rattle.atoms.specs.Atoms.{bodyOf, childIn};
+ghost use Rattle.structure.specs.Movie.{moovOf};
 ghost use Rattle.places.specs.Places.{partIn};
 ghost use Rattle.places.specs.Finding.{firstPart};
 
@@ -72,6 +75,40 @@ pub fn body_part(lent: &[u8], p: Part) -> Part
         at: p.at + (atom.len() - body.len()),
         len: body.len(),
     }
+}
+
+// A part of what a part is, as a part of what is lent.
+pub fn part_within(lent: &[u8], outer: Part, p: Part) -> Part
+    ensures { λ r. ⌜ partIn (now (lent .entry)) r ≡ partIn (partIn (now (lent .entry)) outer) p ⌝ }
+{
+    let inner = part_of(lent, outer);
+    let n = inner.len();
+    let at = p.at;
+    if n <= at {
+        return Part { at: 0, len: 0 };
+    }
+    if p.len <= n - at {
+        return Part {
+            at: outer.at + at,
+            len: p.len,
+        };
+    }
+    Part {
+        at: outer.at + at,
+        len: n - at,
+    }
+}
+
+// The body of the first moov; empty where there is none.
+pub fn moov_part(lent: &[u8]) -> Part
+    ensures { λ r. ⌜ partIn (now (lent .entry)) r ≡ moovOf (now (lent .entry)) ⌝ }
+{
+    let file = Part {
+        at: 0,
+        len: lent.len(),
+    };
+    let moov = child_part(lent, file, kinds::FILE, kinds::MOOV, 0);
+    body_part(lent, moov)
 }
 
 // The first part of the kind wanted: the one found before, or else the next one if it is of that kind.

@@ -1,16 +1,15 @@
 // The sample tables of a track.
 use super::Part;
-use super::body_part;
-use super::child_part;
 use super::first_part;
 use super::part_of;
+use super::part_within;
+use super::trak::Parts;
 use atoms::kinds;
 use atoms::size_in;
 use bigendian::u32_at;
 ghost use mathlib.Core.Path.{_≡_};
 ghost use mathlib.Core.Bool.{false};
-ghost use Rattle.structure.specs.Track.{stblOf};
-ghost use Rattle.places.specs.Places.{partIn, AreTables};
+ghost use Rattle.places.specs.Places.{partIn, AreTables, AreParts};
 ghost use Rattle.places.specs.Finding.{NoTable, withAtom, noTables, offsetsIn, Finds};
 
 // The part of each, its header included; empty where it is absent. The offsets are those of stco, and where there is none those of co64.
@@ -107,18 +106,6 @@ pub(crate) fn find_tables(lent: &[u8], stbl: Part) -> Found
     }
 }
 
-// The body of the stbl, from the body of a trak.
-fn stbl_part(lent: &[u8], trak: Part) -> Part
-    ensures { λ r. ⌜ partIn (now (lent .entry)) r ≡ stblOf (partIn (now (lent .entry)) trak) ⌝ }
-{
-    let mdia = child_part(lent, trak, kinds::TRAK, kinds::MDIA, 0);
-    let in_mdia = body_part(lent, mdia);
-    let minf = child_part(lent, in_mdia, kinds::MDIA, kinds::MINF, 0);
-    let in_minf = body_part(lent, minf);
-    let stbl = child_part(lent, in_minf, kinds::MINF, kinds::STBL, 0);
-    body_part(lent, stbl)
-}
-
 // The table of chunk offsets: stco, and where there is none co64.
 pub(crate) fn chosen(lent: &[u8], stco: Part, co64: Part) -> Part
     ensures { λ r. ⌜ r ≡ offsetsIn (now (lent .entry)) stco co64 ⌝ }
@@ -129,25 +116,17 @@ pub(crate) fn chosen(lent: &[u8], stco: Part, co64: Part) -> Part
     stco
 }
 
-// The sample tables of a track, from the body of its trak.
-pub fn tables_of(lent: &[u8], trak: Part) -> Tables
+// The sample tables of a track, from the place of its trak's body and its parts.
+pub fn tables_in(lent: &[u8], trak: Part, p: Parts) -> Tables
+    requires { ⌜ AreParts (partIn (now lent) trak) p ⌝ }
     ensures { λ r. ⌜ AreTables (now (lent .entry)) (partIn (now (lent .entry)) trak) r ⌝ }
 {
-    let found = find_tables(lent, stbl_part(lent, trak));
-    let stts = found.stts;
-    let ctts = found.ctts;
-    let stsc = found.stsc;
-    let stsz = found.stsz;
-    let stco = found.stco;
-    let co64 = found.co64;
-    let stss = found.stss;
-    let offsets = chosen(lent, stco, co64);
     Tables {
-        stts,
-        ctts,
-        stsc,
-        stsz,
-        offsets,
-        stss,
+        stts: part_within(lent, trak, p.stts),
+        ctts: part_within(lent, trak, p.ctts),
+        stsc: part_within(lent, trak, p.stsc),
+        stsz: part_within(lent, trak, p.stsz),
+        offsets: part_within(lent, trak, p.offsets),
+        stss: part_within(lent, trak, p.stss),
     }
 }

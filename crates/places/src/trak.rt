@@ -14,7 +14,7 @@ ghost use mathlib.Core.Path.{_≡_};
 ghost use mathlib.Core.Bool.{false, _||_};
 ghost use lib.Dec.{eqb};
 ghost use Rattle.structure.specs.Profile.{ofVersion0};
-ghost use Rattle.places.specs.Places.{partIn, AreParts};
+ghost use Rattle.places.specs.Places.{partIn, AreParts, IsTrak, noTrak};
 ghost use Rattle.places.specs.Finding.{withOne, FindsThree, NoHead, firstProfile, withHead, FindsHeads};
 
 // Each with its header, and empty where it is absent, as places in the body of the trak. The offsets are those of stco, and where there is none those of co64.
@@ -32,6 +32,12 @@ pub struct Parts {
     pub stsz: Part,
     pub offsets: Part,
     pub stss: Part,
+}
+
+// The body of a trak, as a place in what is lent, and its parts.
+pub struct Trak {
+    pub body: Part,
+    pub parts: Parts,
 }
 
 // The first atoms of three kinds.
@@ -166,7 +172,7 @@ fn find_heads(trak: &[u8]) -> Heads
 }
 
 // A profile of version 0; of another version there is none.
-fn of_version_0(trak: &[u8], prfl: Part) -> Part
+pub(crate) fn of_version_0(trak: &[u8], prfl: Part) -> Part
     ensures { λ r. ⌜ partIn (now (trak .entry)) r ≡ ofVersion0 (partIn (now (trak .entry)) prfl) ⌝ }
 {
     if byte_at(part_of(trak, prfl), 8) == 0 {
@@ -229,4 +235,35 @@ pub fn parts_of(trak: &[u8]) -> Parts
         offsets: chosen(trak, stco, co64),
         stss,
     }
+}
+
+// No trak: all its parts are empty.
+pub fn no_trak() -> Trak
+    ensures { λ r. ⌜ r ≡ noTrak ⌝ }
+{
+    let none = Part { at: 0, len: 0 };
+    let parts = Parts {
+        tkhd: none,
+        profile: none,
+        mdhd: none,
+        hdlr: none,
+        elst: none,
+        dref: none,
+        stsd: none,
+        stts: none,
+        ctts: none,
+        stsc: none,
+        stsz: none,
+        offsets: none,
+        stss: none,
+    };
+    Trak { body: none, parts }
+}
+
+// The trak with the body at that place.
+pub fn trak_of(lent: &[u8], body: Part) -> Trak
+    ensures { λ r. ⌜ IsTrak (now (lent .entry)) (partIn (now (lent .entry)) body) r ⌝ }
+{
+    let parts = parts_of(part_of(lent, body));
+    Trak { body, parts }
 }

@@ -8,7 +8,7 @@ use native.Mathlib.Omega.{arith}
 use native.Mathlib.Decide.{ℕ-discrete}
 use borrow.Author.Tests.{eq-eqb, ne-eqb, not-false}
 use mathlib.Core.Logic.{inl, inr}
-use lib.ListN.{length, drop, length-drop, length-replicate}
+use lib.ListN.{length, getD, drop, length-drop, length-replicate}
 use lib.Dec.{eqb}
 use Rattle.lists.proofs.Booleans.{cond-zero}
 use Rattle.bigendian.specs.BigEndian.{u32At}
@@ -28,7 +28,15 @@ use Rattle.track.proofs.Agreed.{agreed-tables}
 use Rattle.movie.specs.Refusals.{filmRefusal}
 use Rattle.movie.specs.Tracks.{withId, hasTrack, trackWith}
 use Rattle.movie.proofs.Accepted.{Accepted, AcceptedFile, accepted}
+use Rattle.places.specs.Places.{partIn, AreParts, IsTrak}
+use Rattle.places.specs.Movies.{AreTraks}
+use Rattle.places.specs.declared.trak.Trak.{Trak}
+use Rattle.places.specs.declared.moov.Traks.{Traks}
+use Rattle.movie.specs.Traks.{FewTraks, StandsAt}
+use Rattle.movie.proofs.Traks.{few-traks}
 use Rattle.questions.specs.Asked.{askRefusal, trackAsked}
+use Rattle.questions.specs.Asking.{Asks}
+use Rattle.questions.specs.declared.Ask.{Ask}
 
 -- ---- the refusal, from what the code has of the film's and of the IDs
 
@@ -39,6 +47,35 @@ ask-film s w id r e n = rw (← e, ne-eqb r 0 n)
 pub ask-track : (s m : List ℕ) (w : Source) (id r : ℕ) (h : Bool) → r ≡ filmRefusal s w → r ≡ 0 → m ≡ moovOf s → h ≡ hasTrack id m → askRefusal s w id ≡ cond h 0 14
 unfolding askRefusal orElse
 ask-track s m w id r h e z d q = rw (← e, eq-eqb r 0 z, ← d, ← q)
+
+-- ---- the track as the code finds it, of a film that is not refused
+
+pub asks-refused : (s : List ℕ) (w : Source) (id : ℕ) (a : Ask) (n : ℕ) → a .refusal ≡ n → n ≡ askRefusal s w id → (n ≡ 0 → ⊥) → Asks s w id a
+asks-refused s w id a n e f z = record { refusal = e ∙ f; movie = λ q. absurd (z (sym e ∙ q)); trak = λ q. absurd (z (sym e ∙ q)) }
+
+module _ (s : List ℕ) (w : Source) (id r : ℕ) (e : r ≡ filmRefusal s w) (z : r ≡ 0) where
+  pub asked-few : (q : Traks) → AreTraks s (tracksOf (moovOf s)) q → FewTraks s (tracksOf (moovOf s)) q
+  asked-few q a = few-traks s (tracksOf (moovOf s)) q a (accepted s w (sym e ∙ z) .shape .movie .few-tracks)
+
+  module _ (i : ℕ) (g : StandsAt id (tracksOf (moovOf s)) i) where
+    pub asked-none : i ≡ length (tracksOf (moovOf s)) → 14 ≡ askRefusal s w id
+    unfolding hasTrack
+    asked-none h = sym (ask-track s (moovOf s) w id r false e z refl (sym (g .none h)))
+
+    pub asked-found : i < length (tracksOf (moovOf s)) → (n : ℕ) → n ≡ movieScale (moovOf s) → (x : Trak) → IsTrak s (getD (tracksOf (moovOf s)) i []) x
+        → Asks s w id (record { refusal = 0; movie = n; trak = x })
+    unfolding hasTrack trackAsked trackWith
+    asked-found h n f x k =
+        let l = g .found h in
+        record { refusal = sym (ask-track s (moovOf s) w id r true e z refl (sym (l .0))); movie = λ q. f; trak = λ q. rw (l .1) k }
+
+-- what a question has of it
+module _ (s : List ℕ) (w : Source) (id : ℕ) (a : Ask) (h : Asks s w id a) (z : a .refusal ≡ 0) (b : List ℕ) (e : b ≡ partIn s (a .trak .body)) where
+  pub ask-body : b ≡ trackAsked s id
+  ask-body = e ∙ h .trak z .body
+
+  pub ask-parts : AreParts b (a .trak .parts)
+  ask-parts = rw ask-body (h .trak z .parts)
 
 -- ---- the track
 

@@ -1,3 +1,4 @@
 pub mod Asked
 pub mod Samples
 pub mod Said
+pub mod Asking

@@ -1,9 +1,7 @@
 // A sample by its number, and its bytes.
-use super::ask_refusal;
-use super::track_asked;
+use super::Ask;
 use bigendian::u32_at;
 use chunks::locate;
-use places::trak::parts_of;
 use runs::timing_of;
 use structure::source::Source;
 use words::is_sync;
@@ -119,21 +117,22 @@ pub fn sample_of(
 pub fn sample_by_number(lent: &[u8], source: Source, id: u32, n: u32) -> SampleAnswer
     ensures { λ r. ⌜ Samples (now (lent .entry)) source id n r ⌝ }
 {
-    let refused = ask_refusal(lent, source, id);
-    if refused != 0 {
-        return SampleAnswer::Refused(refused);
+    let ask = Ask::of(lent, source, id);
+    if ask.refusal != 0 {
+        return SampleAnswer::Refused(ask.refusal);
     }
-    let trak = track_asked(lent, id);
-    let p = parts_of(trak);
-    let stsz = places::part_of(trak, p.stsz);
-    let offsets = places::part_of(trak, p.offsets);
+    let trak = ask.trak;
+    let body = places::part_of(lent, trak.body);
+    let p = trak.parts;
+    let stsz = places::part_of(body, p.stsz);
+    let offsets = places::part_of(body, p.offsets);
     sample_of(
-        places::part_of(trak, p.stts),
-        places::part_of(trak, p.ctts),
-        places::part_of(trak, p.stsc),
+        places::part_of(body, p.stts),
+        places::part_of(body, p.ctts),
+        places::part_of(body, p.stsc),
         stsz,
         offsets,
-        places::part_of(trak, p.stss),
+        places::part_of(body, p.stss),
         u32_at(stsz, 16),
         u32_at(offsets, 12),
         n,

@@ -1,5 +1,4 @@
 // The refusals of a track, 7 to 13 and 19, from the body of its trak.
-use atoms::kinds;
 use bigendian::u32_at;
 use chunk_checks::deals_agree;
 use chunk_checks::total_dealt;
@@ -9,13 +8,11 @@ use edits::edits_total;
 use lists::Total;
 use places::part_of;
 use places::trak::Parts;
-use places::trak::parts_of;
 use presence::both;
 use references::all_in_this_file;
 use runs::counts;
 use runs::total_duration;
 use structure::source::Source;
-use structure::trak::table;
 use words::syncs_agree;
 ghost use mathlib.Core.Path.{_≡_};
 ghost use mathlib.Core.Bool.{_||_};
@@ -34,11 +31,11 @@ ghost use Rattle.track.specs.Refusals.{contradicts, totalIn, otherDurati
 ghost use Rattle.track.specs.TrackRows.{timedRows, trackRows};
 
 // The total of a track's sample durations.
-pub fn media_total(trak: &[u8]) -> u32
-    requires { ⌜ totalIn (now trak) < 4294967296 ⌝ }
+pub fn media_total(trak: &[u8], p: Parts) -> u32
+    requires { ⌜ (AreParts (now trak) p) × (totalIn (now trak) < 4294967296) ⌝ }
     ensures { λ r. ⌜ r ≡ totalIn (now (trak .entry)) ⌝ }
 {
-    match total_duration(table(trak, kinds::STTS)) {
+    match total_duration(part_of(trak, p.stts)) {
         Total::Sum(n) => n,
         Total::Over => 0,
     }
@@ -91,7 +88,7 @@ fn is_over(elst: &[u8]) -> bool
 }
 
 // The track's ID.
-fn id_in(trak: &[u8], p: Parts) -> u32
+pub fn id_in(trak: &[u8], p: Parts) -> u32
     requires { ⌜ AreParts (now trak) p ⌝ }
     ensures { λ r. ⌜ r ≡ idOf (now (trak .entry)) ⌝ }
 {
@@ -99,7 +96,7 @@ fn id_in(trak: &[u8], p: Parts) -> u32
 }
 
 // The media time scale.
-fn scale_in(trak: &[u8], p: Parts) -> u32
+pub fn scale_in(trak: &[u8], p: Parts) -> u32
     requires { ⌜ AreParts (now trak) p ⌝ }
     ensures { λ r. ⌜ r ≡ scaleOf (now (trak .entry)) ⌝ }
 {
@@ -150,11 +147,10 @@ fn timed_refusal(trak: &[u8], p: Parts, movie: u32, len: u64, source: Source, to
 }
 
 // The first of 7 to 13 and 19 that applies to a track, in a movie of that time scale and a file of that length, by that source; 0 where none does.
-pub fn refusal(trak: &[u8], movie: u32, len: u64, source: Source) -> u32
-    requires { ⌜ length (now trak) < 2 ^ 32 ⌝ }
+pub fn refusal(trak: &[u8], p: Parts, movie: u32, len: u64, source: Source) -> u32
+    requires { ⌜ (AreParts (now trak) p) × (length (now trak) < 2 ^ 32) ⌝ }
     ensures { λ r. ⌜ r ≡ ofTrack (trackRows source movie len) (now (trak .entry)) ⌝ }
 {
-    let p = parts_of(trak);
     if id_in(trak, p) == 0 {
         return 7;
     }

@@ -11,8 +11,8 @@ use Rattle.leaf_checks.proofs.is_wrong_track_size.Tie as tie
 has-short-video-description-requires : tie.Need-has-short-video-description-requires
 has-short-video-description-requires c κs = c .before .before .pre .0
 
-profile-ok-requires : tie.Need-profile-ok-requires
-profile-ok-requires c κs = tt
+is-profile-sized-requires : tie.Need-is-profile-sized-requires
+is-profile-sized-requires c κs = tt
 
 either-requires : tie.Need-either-requires
 either-requires c κs = tt
@@ -21,13 +21,13 @@ returns : tie.Need-returns
 unfolding wrongTrackSize
 returns c =
     let b = c .before in
-    either-are (c .either .ensures) (b .before .has-short-video-description .ensures) (ap not (b .profile-ok .ensures ∙ ap profileOk (b .before .before .before .before .pre .1)))
+    either-are (c .either .ensures) (b .before .has-short-video-description .ensures) (ap not (b .is-profile-sized .ensures ∙ ap profileOk (b .before .before .before .before .pre .1)))
 
 pub is-wrong-track-size-spec : {M : Type 1} → statement M
 is-wrong-track-size-spec =
     tie.close
     (tie.spec
     has-short-video-description-requires
-    profile-ok-requires
+    is-profile-sized-requires
     either-requires
     returns)

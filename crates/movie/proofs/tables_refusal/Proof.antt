@@ -1,101 +1,65 @@
--- `movie::tables_refusal` meets its contract; the loop's invariant: the earlier of what was found and of the rest's tracks is the refusal.
+-- `movie::tables_refusal` meets its contract; the loop's invariant: the earlier of what was found and of the tracks from i on is the refusal.
 -- Assumes nothing.
-use borrow.Author.Needs.{needs}
-use native.Mathlib.Omega.{arith}
-use Prim.Native.Nat.{_<_, _^_}
+use Prim.Native.Nat.{_+_, _-_, _≤_, _<_}
 use mathlib.Core.Path.{_≡_, sym, ap, _∙_}
-use mathlib.Core.Logic.{⊎-elim}
+use native.Mathlib.Omega.{arith}
 use denote.Ref.{now}
-use lib.ListN.{length, length-drop}
-use lib.Seq.{length-take-le}
-use Rattle.bigendian.proofs.Parts.{rest}
-use Rattle.structure.specs.ByTracks.{earlierOf, ofTracks}
-use Rattle.structure.specs.Movie.{tracksOf}
-use Rattle.structure.proofs.Places.{found-end, found-here, found-next}
+use lib.ListN.{length, drop}
+use Rattle.structure.specs.ByTracks.{earlierOf, ofTrack, ofTracks}
+use Rattle.structure.specs.Movie.{moovOf, tracksOf}
 use Rattle.movie.specs.TableRows.{tableRows, tablesRefusal}
-use Rattle.movie.proofs.Places.{body-within}
 use Rattle.movie.proofs.Tables.{track-rows, tables-by-tracks}
+use Rattle.movie.proofs.Traks.{in-tracks, in-room, body-is, body-parts, body-fits, found-past, found-more}
 use Rattle.movie.proofs.tables_refusal.Statement.{statement}
 use Rattle.movie.proofs.tables_refusal.Tie as tie
 
 abbrev Inv-loop : tie.InvT-loop
-Inv-loop moov len source scale t₀ found₀ t found = (length t < 2 ^ 32) × (earlierOf found (ofTracks (tableRows source scale len) (tracksOf t)) ≡ tablesRefusal source len moov)
+Inv-loop lent traks scale len source count found₀ i₀ found i = (i ≤ count) × (earlierOf found (ofTracks (tableRows source scale len) (drop i (tracksOf (moovOf lent)))) ≡ tablesRefusal source len (moovOf lent))
 
 abbrev μ-loop : tie.MeasureT-loop
-μ-loop moov len source scale t₀ found₀ t found = length t
-
-movie-scale-requires : tie.Need-movie-scale-requires Inv-loop μ-loop
-movie-scale-requires c κs = search needs
+μ-loop lent traks scale len source count found₀ i₀ found i = count - i
 
 own-refusal-requires : tie.Need-own-refusal-requires Inv-loop μ-loop
-own-refusal-requires c κs = (c .movie-scale .ensures, c .before .before .pre .1)
+own-refusal-requires c κs = (c .before .pre .0, c .before .pre .1)
 
 loop-holds : tie.Need-loop-holds Inv-loop μ-loop
 loop-holds c =
-    let a = c .before .before .before in
-    let m = now (a .args .moov) in
-    let scale = c .before .movie-scale .result in (
-      a .pre .0,
-      ap (λ x. earlierOf x (ofTracks (tableRows (a .args .source) scale (a .args .len)) (tracksOf m))) (c .own-refusal .ensures)
-          ∙ sym (tables-by-tracks (a .args .source) scale (a .args .len) m (c .before .movie-scale .ensures)),
+    let a = c .before .before .args in
+    let m = moovOf (now (a .lent)) in (
+      omega arith,
+      ap (λ x. earlierOf x (ofTracks (tableRows (a .source) (a .scale) (a .len)) (tracksOf m))) (c .own-refusal .ensures)
+          ∙ sym (tables-by-tracks (a .source) (a .scale) (a .len) m (c .before .before .pre .1)),
     )
 
-size-in-requires : tie.Need-size-in-requires Inv-loop μ-loop
-size-in-requires c κs = search needs
+trak-at-requires : tie.Need-trak-at-requires Inv-loop μ-loop
+trak-at-requires c κs = in-room _ _ _ (c .before .before .before .before .pre .0) (c .before .loop .i) (c .loop-test .taken)
 
-returns : tie.Need-returns Inv-loop μ-loop
-returns c =
-    let l = c .before .before .loop in
-    sym (found-end _ (l .found) (now (l .t)) _ (c .before .size-in .ensures .0) (c .if1 .taken)) ∙ l .inv .1
-
-u32-at-requires : tie.Need-u32-at-requires Inv-loop μ-loop
-u32-at-requires c κs = search needs
-
-slice-aggregate-body-of : tie.Need-slice-aggregate-body-of Inv-loop μ-loop
-slice-aggregate-body-of c = sym (length-take-le _ _ (c .before .before .before .before .size-in .ensures .1))
-
-body-of-requires : tie.Need-body-of-requires Inv-loop μ-loop
-body-of-requires c κs = search needs
+part-of-requires : tie.Need-part-of-requires Inv-loop μ-loop
+part-of-requires c κs = tt
 
 refusal-requires : tie.Need-refusal-requires Inv-loop μ-loop
-refusal-requires c κs =
-    let l = c .before .before .before .before .before .before .loop in
-    omega (arith, l .inv .0, body-within (now (l .t)) (c .before .before .before .before .before .size-in .result) _ (c .body-of .ensures))
+refusal-requires c κs = (body-parts _ _ _ (c .before .before .before .before .before .before .before .pre .0) (c .before .before .before .before .loop .i) (c .before .before .before .loop-test .taken) _ (c .before .before .trak-at .ensures) _ (c .part-of .ensures), body-fits _ _ _ (c .before .before .before .before .before .before .before .pre .0) (c .before .before .before .before .loop .i) (c .before .before .before .loop-test .taken) _ (c .before .before .trak-at .ensures) _ (c .part-of .ensures) (c .before .before .before .before .before .before .before .pre .2))
 
 earlier-of-requires : tie.Need-earlier-of-requires Inv-loop μ-loop
-earlier-of-requires c κs = search needs
+earlier-of-requires c κs = tt
 
-sub-t : tie.Need-sub-t Inv-loop μ-loop
-sub-t c = search needs
-
-part-t-start : tie.Need-part-t-start Inv-loop μ-loop
-part-t-start c = search needs
-
-part-t-end : tie.Need-part-t-end Inv-loop μ-loop
-part-t-end c = search needs
+add-i : tie.Need-add-i Inv-loop μ-loop
+add-i c = record { fits = omega (arith, in-room _ _ _ (c .before .before .before .before .before .before .before .before .before .pre .0) (c .before .before .before .before .before .before .loop .i) (c .before .before .before .before .before .loop-test .taken)) }
 
 loop-less : tie.Need-loop-less Inv-loop μ-loop
-loop-less c =
-    let t = now (c .before .before .before .before .before .loop .t) in
-    let n = c .before .before .before .before .size-in .result in
-    rw (rest n t) (omega (arith, length-drop n t))
+loop-less c = omega (arith, c .before .before .before .before .before .loop-test .taken)
 
 loop-again : tie.Need-loop-again Inv-loop μ-loop
 loop-again c =
-    let l = c .before .before .before .before .before .loop in
-    let n = c .before .before .before .before .size-in .result in
-    let e = c .before .before .before .before .size-in .ensures .0 in
-    let h = c .before .before .before .if1 .left in
-    let u = c .before .before .u32-at .ensures in
-    let b = c .before .before .before .before .before .before in
-    let rs = tableRows (b .before .before .before .args .source) (b .before .movie-scale .result) (b .before .before .before .args .len) in
-    rw (rest n (now (l .t))) (
-      omega (arith, l .inv .0, length-drop n (now (l .t))),
-      ⊎-elim
-          (λ w. found-here rs (l .found) (now (l .t)) n e _ _ _ h (sym u ∙ w .0 .taken) (w .2 .ensures) (w .3 .ensures ∙ track-rows _ _ _ _) (w .5 ∙ w .4 .ensures) ∙ l .inv .1)
-          (λ w. found-next rs (l .found) (now (l .t)) n e _ h (λ q. w .0 .left (u ∙ q)) (w .1) ∙ l .inv .1)
-          (c .before .if2 .came),
+    let a = c .before .before .before .before .before .before .before .before .before .args in
+    let rs = tableRows (a .source) (a .scale) (a .len) in
+    let b = body-is _ _ _ (c .before .before .before .before .before .before .before .before .before .pre .0) (c .before .before .before .before .before .before .loop .i) (c .before .before .before .before .before .loop-test .taken) _ (c .before .before .before .before .trak-at .ensures) _ (c .before .before .part-of .ensures) in (
+      omega (arith, c .before .before .before .before .before .loop-test .taken),
+      found-more _ (c .before .before .before .before .before .before .loop .i) (in-tracks _ _ _ (c .before .before .before .before .before .before .before .before .before .pre .0) (c .before .before .before .before .before .before .loop .i) (c .before .before .before .before .before .loop-test .taken)) rs (c .before .before .before .before .before .before .loop .found) _ _ (c .before .refusal .ensures ∙ track-rows _ _ _ _ ∙ ap (ofTrack rs) b) (c .earlier-of .ensures) ∙ c .before .before .before .before .before .before .loop .inv .1,
     )
+
+returns : tie.Need-returns Inv-loop μ-loop
+returns c = sym (found-past _ (c .before .loop .i) _ (c .before .loop .found) (omega (arith, c .before .before .before .before .pre .0 .count, c .loop-test .left))) ∙ c .before .loop .inv .1
 
 pub tables-refusal-spec : {M : Type 1} → statement M
 tables-refusal-spec =
@@ -103,18 +67,13 @@ tables-refusal-spec =
     (tie.spec
     Inv-loop
     μ-loop
-    movie-scale-requires
     own-refusal-requires
     loop-holds
-    size-in-requires
-    returns
-    u32-at-requires
-    slice-aggregate-body-of
-    body-of-requires
+    trak-at-requires
+    part-of-requires
     refusal-requires
     earlier-of-requires
-    sub-t
-    part-t-start
-    part-t-end
+    add-i
     loop-less
-    loop-again)
+    loop-again
+    returns)

@@ -6,14 +6,11 @@ use Rattle.shape.specs.MovieRows.{movieRows}
 use Rattle.shape.proofs.track_refusal.Statement.{statement}
 use Rattle.shape.proofs.track_refusal.Tie as tie
 
-parts-of-requires : tie.Need-parts-of-requires
-parts-of-requires c κs = tt
-
 part-of-requires : tie.Need-part-of-requires
 part-of-requires c κs = tt
 
 is-wrong-track-size-requires : tie.Need-is-wrong-track-size-requires
-is-wrong-track-size-requires c κs = let h = c .before .parts-of .ensures in (h, c .part-of .ensures ∙ h .profile)
+is-wrong-track-size-requires c κs = let h = c .before .before .pre in (h, c .part-of .ensures ∙ h .profile)
 
 returns : tie.Need-returns
 unfolding movieRows first
@@ -22,7 +19,7 @@ returns c = simp (← c .before .is-wrong-track-size .ensures, c .if1 .taken)
 is-over-limits-requires : tie.Need-is-over-limits-requires
 is-over-limits-requires c κs =
     let p = c .before .before in
-    let h = p .before .parts-of .ensures in
+    let h = p .before .before .pre in
     (h, p .part-of .ensures ∙ h .profile)
 
 returns-2 : tie.Need-returns-2
@@ -40,4 +37,4 @@ returns-3 c =
 pub track-refusal-spec : {M : Type 1} → statement M
 track-refusal-spec =
     tie.close
-    (tie.spec parts-of-requires part-of-requires is-wrong-track-size-requires returns is-over-limits-requires returns-2 returns-3)
+    (tie.spec part-of-requires is-wrong-track-size-requires returns is-over-limits-requires returns-2 returns-3)

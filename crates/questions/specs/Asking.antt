@@ -1,0 +1,15 @@
+-- What a question of a track begins with, from what judging its film finds. These need not be believed: they are between the crates' own functions.
+use Prim.Native.Nat.{ℕ}
+use mathlib.Core.Path.{_≡_}
+use mathlib.Core.List.{List}
+use Rattle.structure.specs.declared.source.Source.{Source}
+use Rattle.structure.specs.Movie.{moovOf, movieScale}
+use Rattle.places.specs.Places.{IsTrak}
+use Rattle.questions.specs.Asked.{askRefusal, trackAsked}
+use Rattle.questions.specs.declared.Ask.{Ask}
+
+-- the refusal, and where there is none the movie's time scale and the trak of the track that is asked
+pub record Asks (s : List ℕ) (w : Source) (id : ℕ) (r : Ask) : Type 0 where
+  pub refusal : r .refusal ≡ askRefusal s w id
+  pub movie : r .refusal ≡ 0 → r .movie ≡ movieScale (moovOf s)
+  pub trak : r .refusal ≡ 0 → IsTrak s (trackAsked s id) (r .trak)
