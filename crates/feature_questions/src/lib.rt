@@ -2,11 +2,9 @@
 use features::feature_of;
 use features::peak_for;
 use peaks::Peak;
-use questions::ask_refusal;
-use questions::track_asked;
+use places::part_of;
+use questions::Ask;
 use rates::Feature;
-use structure::moov::moov_body;
-use structure::moov::movie_scale;
 use structure::source::Source;
 ghost use mathlib.Core.Path.{_≡_};
 ghost use Rattle.feature_questions.specs.Feature.{toValue, Computes, toRun, Locates};
@@ -30,12 +28,13 @@ fn to_value(f: Feature) -> FeatureAnswer
 pub fn feature_by_code(lent: &[u8], source: Source, id: u32, code: u32) -> FeatureAnswer
     ensures { λ r. ⌜ Computes (now (lent .entry)) source id code r ⌝ }
 {
-    let refused = ask_refusal(lent, source, id);
-    if refused != 0 {
-        return FeatureAnswer::Refused(refused);
+    let ask = Ask::of(lent, source, id);
+    if ask.refusal != 0 {
+        return FeatureAnswer::Refused(ask.refusal);
     }
-    let movie = movie_scale(moov_body(lent));
-    to_value(feature_of(track_asked(lent, id), movie, code))
+    let trak = ask.trak;
+    let body = part_of(lent, trak.body);
+    to_value(feature_of(body, trak.parts, ask.movie, code))
 }
 
 // The answer of `peak_by_code`: the number of the first sample of the run with the highest rate, from 1, and how many samples that run has; or the number
@@ -62,9 +61,10 @@ fn to_run(p: Peak) -> PeakAnswer
 pub fn peak_by_code(lent: &[u8], source: Source, id: u32, code: u32) -> PeakAnswer
     ensures { λ r. ⌜ Locates (now (lent .entry)) source id code r ⌝ }
 {
-    let refused = ask_refusal(lent, source, id);
-    if refused != 0 {
-        return PeakAnswer::Refused(refused);
+    let ask = Ask::of(lent, source, id);
+    if ask.refusal != 0 {
+        return PeakAnswer::Refused(ask.refusal);
     }
-    to_run(peak_for(track_asked(lent, id), code))
+    let trak = ask.trak;
+    to_run(peak_for(part_of(lent, trak.body), trak.parts, code))
 }

@@ -1,24 +1,25 @@
 // Features of a track: rates, rounded up, and the greatest picture.
 use atoms::kinds;
 use averages::edited_average;
+use bigendian::u32_at;
 use descriptions::description_count;
 use descriptions::greatest_size;
 use peaks::Peak;
 use peaks::peak_of;
+use places::part_of;
+use places::trak::Parts;
 use rates::Feature;
 use rates::rate;
 use runs::least_duration;
-use structure::trak::edit_list;
-use structure::trak::media_scale;
-use structure::trak::subtype;
-use structure::trak::table;
 use track::media_total;
+use track::scale_in;
 use words::all_bytes;
 ghost use mathlib.Core.Path.{_≡_};
 ghost use Prim.Native.Nat.{_<_, _^_};
 ghost use lib.ListN.{length};
 ghost use Rattle.atoms.specs.Kinds.{vide};
 ghost use Rattle.structure.specs.Track.{subtypeOf};
+ghost use Rattle.places.specs.Places.{AreParts};
 ghost use Rattle.track.specs.Track.{trackOf};
 ghost use Rattle.track.specs.Refusals.{totalIn};
 ghost use Rattle.peaks.specs.Peaks.{rateIn};
@@ -39,36 +40,44 @@ pub const MABR: u32 = 0x6d616272;
 
 pub const SOUN: u32 = 0x736f756e;
 
+// The component subtype.
+fn subtype_in(trak: &[u8], p: Parts) -> u32
+    requires { ⌜ AreParts (now trak) p ⌝ }
+    ensures { λ r. ⌜ r ≡ subtypeOf (now (trak .entry)) ⌝ }
+{
+    u32_at(part_of(trak, p.hdlr), 16)
+}
+
 // The average rate of the whole media, in bits a second.
-fn whole_average(trak: &[u8]) -> Feature
-    requires { ⌜ (length (now trak) < 2 ^ 32) × (totalIn (now trak) < 4294967296) ⌝ }
+fn whole_average(trak: &[u8], p: Parts) -> Feature
+    requires { ⌜ (AreParts (now trak) p) × (length (now trak) < 2 ^ 32) × (totalIn (now trak) < 4294967296) ⌝ }
     ensures { λ r. ⌜ r ≡ wholeAverage (trackOf (now (trak .entry))) ⌝ }
 {
-    let bytes = all_bytes(table(trak, kinds::STSZ));
-    let eight = 8 * (media_scale(trak) as u64);
-    rate(bytes, eight, media_total(trak) as u64)
+    let bytes = all_bytes(part_of(trak, p.stsz));
+    let eight = 8 * (scale_in(trak, p) as u64);
+    rate(bytes, eight, media_total(trak, p) as u64)
 }
 
 // The average rate of what the edit list shows; of the whole media without one.
-fn average_rate(trak: &[u8], movie: u32) -> Feature
-    requires { ⌜ Averaged movie (now trak) ⌝ }
+fn average_rate(trak: &[u8], p: Parts, movie: u32) -> Feature
+    requires { ⌜ (AreParts (now trak) p) × Averaged movie (now trak) ⌝ }
     ensures { λ r. ⌜ r ≡ average movie (trackOf (now (trak .entry))) ⌝ }
 {
-    let elst = edit_list(trak);
+    let elst = part_of(trak, p.elst);
     if elst.len() == 0 {
-        return whole_average(trak);
+        return whole_average(trak, p);
     }
-    let stts = table(trak, kinds::STTS);
-    let stsz = table(trak, kinds::STSZ);
-    edited_average(stts, stsz, elst, media_scale(trak), movie)
+    let stts = part_of(trak, p.stts);
+    let stsz = part_of(trak, p.stsz);
+    edited_average(stts, stsz, elst, scale_in(trak, p), movie)
 }
 
 // The greatest width and height of a track of pictures.
-fn picture_size(trak: &[u8]) -> Feature
-    requires { ⌜ subtypeOf (now trak) ≡ vide ⌝ }
+fn picture_size(trak: &[u8], p: Parts) -> Feature
+    requires { ⌜ (AreParts (now trak) p) × (subtypeOf (now trak) ≡ vide) ⌝ }
     ensures { λ r. ⌜ r ≡ picture (trackOf (now (trak .entry))) ⌝ }
 {
-    let stsd = table(trak, kinds::STSD);
+    let stsd = part_of(trak, p.stsd);
     if description_count(stsd, 36) == 0 {
         return Feature::NotComputed;
     }
@@ -77,46 +86,47 @@ fn picture_size(trak: &[u8]) -> Feature
 }
 
 // The greatest number of frames a second, by the least duration of a sample.
-fn frame_rate(trak: &[u8]) -> Feature
+fn frame_rate(trak: &[u8], p: Parts) -> Feature
+    requires { ⌜ AreParts (now trak) p ⌝ }
     ensures { λ r. ⌜ r ≡ frames (trackOf (now (trak .entry))) ⌝ }
 {
-    let least = least_duration(table(trak, kinds::STTS));
-    rate(65536, media_scale(trak) as u64, least as u64)
+    let least = least_duration(part_of(trak, p.stts));
+    rate(65536, scale_in(trak, p) as u64, least as u64)
 }
 
 // The highest rate over a second, and where it is, of a track of one subtype.
-fn peak_only_in(trak: &[u8], wanted: u32) -> Peak
-    requires { ⌜ Computable (now trak) ⌝ }
+fn peak_only_in(trak: &[u8], p: Parts, wanted: u32) -> Peak
+    requires { ⌜ (AreParts (now trak) p) × Computable (now trak) ⌝ }
     ensures { λ r. ⌜ r ≡ peakOnlyIn wanted (trackOf (now (trak .entry))) ⌝ }
 {
-    if subtype(trak) != wanted {
+    if subtype_in(trak, p) != wanted {
         return Peak::NotComputed;
     }
     peak_of(
-        table(trak, kinds::STTS),
-        table(trak, kinds::STSZ),
-        media_scale(trak),
+        part_of(trak, p.stts),
+        part_of(trak, p.stsz),
+        scale_in(trak, p),
     )
 }
 
 // The same by the code of the feature.
-pub fn peak_for(trak: &[u8], code: u32) -> Peak
-    requires { ⌜ Computable (now trak) ⌝ }
+pub fn peak_for(trak: &[u8], p: Parts, code: u32) -> Peak
+    requires { ⌜ (AreParts (now trak) p) × Computable (now trak) ⌝ }
     ensures { λ r. ⌜ r ≡ peakFor (trackOf (now (trak .entry))) code ⌝ }
 {
     match code {
-        MVBR => peak_only_in(trak, kinds::VIDE),
-        MABR => peak_only_in(trak, SOUN),
+        MVBR => peak_only_in(trak, p, kinds::VIDE),
+        MABR => peak_only_in(trak, p, SOUN),
         _ => Peak::NotComputed,
     }
 }
 
 // Its rate alone.
-fn peak_rate(trak: &[u8], code: u32) -> Feature
-    requires { ⌜ Computable (now trak) ⌝ }
+fn peak_rate(trak: &[u8], p: Parts, code: u32) -> Feature
+    requires { ⌜ (AreParts (now trak) p) × Computable (now trak) ⌝ }
     ensures { λ r. ⌜ r ≡ rateIn (peakFor (trackOf (now (trak .entry))) code) ⌝ }
 {
-    match peak_for(trak, code) {
+    match peak_for(trak, p, code) {
         Peak::Highest {
             rate,
             first: _,
@@ -127,38 +137,38 @@ fn peak_rate(trak: &[u8], code: u32) -> Feature
 }
 
 // A feature of a track, by its code. `movie` is the movie's time scale.
-pub fn feature_of(trak: &[u8], movie: u32, code: u32) -> Feature
-    requires { ⌜ Computable (now trak) × Averaged movie (now trak) ⌝ }
+pub fn feature_of(trak: &[u8], p: Parts, movie: u32, code: u32) -> Feature
+    requires { ⌜ (AreParts (now trak) p) × Computable (now trak) × Averaged movie (now trak) ⌝ }
     ensures { λ r. ⌜ r ≡ featureOf movie (trackOf (now (trak .entry))) code ⌝ }
 {
-    let kind = subtype(trak);
+    let kind = subtype_in(trak, p);
     match code {
         AVVB => {
             if kind == kinds::VIDE {
-                return average_rate(trak, movie);
+                return average_rate(trak, p, movie);
             }
             Feature::NotComputed
         }
         AVAB => {
             if kind == SOUN {
-                return average_rate(trak, movie);
+                return average_rate(trak, p, movie);
             }
             Feature::NotComputed
         }
         TVSZ => {
             if kind == kinds::VIDE {
-                return picture_size(trak);
+                return picture_size(trak, p);
             }
             Feature::NotComputed
         }
         VFPS => {
             if kind == kinds::VIDE {
-                return frame_rate(trak);
+                return frame_rate(trak, p);
             }
             Feature::NotComputed
         }
-        MVBR => peak_rate(trak, code),
-        MABR => peak_rate(trak, code),
+        MVBR => peak_rate(trak, p, code),
+        MABR => peak_rate(trak, p, code),
         _ => Feature::NotComputed,
     }
 }

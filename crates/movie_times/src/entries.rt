@@ -2,10 +2,9 @@
 use bigendian::after;
 use bigendian::i32_at;
 use bigendian::u32_at;
-use questions::ask_refusal;
-use questions::track_asked;
+use places::part_of;
+use questions::Ask;
 use structure::source::Source;
-use structure::trak::edit_list;
 ghost use mathlib.Core.Path.{_≡_};
 ghost use mathlib.Core.List.{[], _∷_};
 ghost use Prim.Native.Nat.{_+_, _*_, _≤_};
@@ -55,11 +54,13 @@ pub enum EditsAnswer {
 pub fn stored_edits(lent: &[u8], source: Source, id: u32, room: &mut [i64]) -> EditsAnswer
     ensures { λ r. ⌜ StoresEdits (now (lent .entry)) source id (now (room .entry)) r (now (room .exit)) ⌝ }
 {
-    let refused = ask_refusal(lent, source, id);
-    if refused != 0 {
-        return EditsAnswer::Refused(refused);
+    let ask = Ask::of(lent, source, id);
+    if ask.refusal != 0 {
+        return EditsAnswer::Refused(ask.refusal);
     }
-    let part = after(edit_list(track_asked(lent, id)), 16);
+    let trak = ask.trak;
+    let p = trak.parts;
+    let part = after(part_of(part_of(lent, trak.body), p.elst), 16);
     let n = part.len() / 12;
     if room.len() / ENTRY < n {
         return EditsAnswer::Refused(16);

@@ -1,30 +1,22 @@
 // A track opened once: where its tables stand and its numbers, held by value. A question by it does not judge the film again, and walks over no atoms.
-use atoms::kinds;
 use bigendian::u32_at;
 use edits::MediaTime;
 use edits::MovieTime;
 use places::Part;
-use places::body_part;
-use places::child_part;
 use places::part_of;
+use places::part_within;
 use places::tables::Tables;
-use places::tables::tables_of;
-use questions::ask_refusal;
+use places::tables::tables_in;
+use questions::Ask;
 use questions::samples::SampleAnswer;
 use questions::samples::sample_of;
-use stepping::asked::track_part;
-use structure::moov::moov_body;
-use structure::moov::movie_scale;
 use structure::source::Source;
-use structure::trak::media_scale;
 use time_questions::NumberAnswer;
 use time_questions::TimeAnswer;
 use time_questions::media_time_in;
 use time_questions::sample_number_in;
 use track::media_total;
-ghost use mathlib.Core.Path.{_≡_};
-ghost use Rattle.structure.specs.Track.{elstOf};
-ghost use Rattle.places.specs.Places.{partIn};
+use track::scale_in;
 ghost use Rattle.opened.specs.Opened.{OpenAnswers, SampleBy, NumberBy, TimeBy};
 
 // The sample tables of the track and its edit list, the numbers of its samples and chunks, the media's and the movie's time scale, and the total of the
@@ -45,38 +37,30 @@ pub enum Opening {
     Refused(u32),
 }
 
-// The edit list of a track, from the body of its trak.
-fn elst_part(lent: &[u8], trak: Part) -> Part
-    ensures { λ r. ⌜ partIn (now (lent .entry)) r ≡ elstOf (partIn (now (lent .entry)) trak) ⌝ }
-{
-    let edts = child_part(lent, trak, kinds::TRAK, kinds::EDTS, 0);
-    let in_edts = body_part(lent, edts);
-    child_part(lent, in_edts, kinds::EDTS, kinds::ELST, 0)
-}
-
 impl Opened {
     // A track by its ID. The film is judged here, and not again by the handle.
     pub fn of(lent: &[u8], source: Source, id: u32) -> Opening
         ensures { λ r. ⌜ OpenAnswers (now (lent .entry)) source id r ⌝ }
     {
-        let refused = ask_refusal(lent, source, id);
-        if refused != 0 {
-            return Opening::Refused(refused);
+        let ask = Ask::of(lent, source, id);
+        if ask.refusal != 0 {
+            return Opening::Refused(ask.refusal);
         }
-        let place = track_part(lent, id);
-        let tables = tables_of(lent, place);
-        let elst = elst_part(lent, place);
+        let trak = ask.trak;
+        let place = trak.body;
+        let parts = trak.parts;
+        let tables = tables_in(lent, place, parts);
         let stsz = tables.stsz;
         let offsets = tables.offsets;
-        let trak = part_of(lent, place);
+        let body = part_of(lent, place);
         Opening::Track(Opened {
             tables,
-            elst,
+            elst: part_within(lent, place, parts.elst),
             samples: u32_at(part_of(lent, stsz), 16),
             chunks: u32_at(part_of(lent, offsets), 12),
-            scale: media_scale(trak),
-            movie: movie_scale(moov_body(lent)),
-            total: media_total(trak),
+            scale: scale_in(body, parts),
+            movie: ask.movie,
+            total: media_total(body, parts),
         })
     }
 

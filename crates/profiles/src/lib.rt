@@ -1,18 +1,18 @@
 // The stored profile of a movie or of one of its tracks, in lent 32-bit numbers.
 use bigendian::after;
 use bigendian::u32_at;
-use questions::ask_refusal;
-use questions::track_asked;
-use structure::moov::moov_body;
-use structure::moov::movie_profile;
+use places::Part;
+use places::part_of;
+use places::part_within;
+use questions::Ask;
 use structure::source::Source;
-use structure::trak::track_profile;
 ghost use mathlib.Core.Path.{_≡_};
 ghost use mathlib.Core.List.{[], _∷_};
 ghost use Prim.Native.Nat.{_+_, _*_, _≤_, _<_, _^_};
 ghost use lib.ListN.{length};
 ghost use lib.Seq.{sets};
-ghost use Rattle.profiles.specs.Profiles.{keptOf, recordNumbers, profileAsked, idRefusal, Profiles};
+ghost use Rattle.profiles.specs.Asking.{AsksProfile};
+ghost use Rattle.profiles.specs.Profiles.{keptOf, recordNumbers, idRefusal, Profiles};
 
 // How many numbers the answer has for a record.
 pub const RECORD: usize = 3;
@@ -58,24 +58,39 @@ fn put_records(profile: &[u8], room: &mut [u32])
     }
 }
 
-// The refusal before the room is looked at: ID 0 asks for the movie's own profile, and no track has it.
+// The refusal before the room is looked at, and where there is none the profile that is asked for; empty where there is none.
+struct AskedProfile {
+    pub refusal: u32,
+    pub profile: Part,
+}
+
+// ID 0 asks for the movie's own profile, and no track has it.
+fn ask_profile(lent: &[u8], source: Source, id: u32) -> AskedProfile
+    ensures { λ r. ⌜ AsksProfile (now (lent .entry)) source id r ⌝ }
+{
+    if id == 0 {
+        let judged = movie::judge(lent, source);
+        let movie = judged.movie;
+        let heads = movie.heads;
+        let profile = heads.profile;
+        return AskedProfile {
+            refusal: judged.refusal,
+            profile,
+        };
+    }
+    let ask = Ask::of(lent, source, id);
+    let trak = ask.trak;
+    let parts = trak.parts;
+    AskedProfile {
+        refusal: ask.refusal,
+        profile: part_within(lent, trak.body, parts.profile),
+    }
+}
+
 pub fn id_refusal(lent: &[u8], source: Source, id: u32) -> u32
     ensures { λ r. ⌜ r ≡ idRefusal (now (lent .entry)) source id ⌝ }
 {
-    if id == 0 {
-        return movie::refusal(lent, source);
-    }
-    ask_refusal(lent, source, id)
-}
-
-// The profile that is asked for; empty where there is none.
-fn profile_asked<'a>(lent: &'a [u8], id: u32) -> &'a [u8]
-    ensures { λ r. ⌜ now r ≡ profileAsked (now (lent .entry)) id ⌝ }
-{
-    if id == 0 {
-        return movie_profile(moov_body(lent));
-    }
-    track_profile(track_asked(lent, id))
+    ask_profile(lent, source, id).refusal
 }
 
 // The answer of `stored_profile`: how many records; or the number of a refusal.
@@ -89,11 +104,11 @@ pub enum ProfileAnswer {
 pub fn stored_profile(lent: &[u8], source: Source, id: u32, room: &mut [u32]) -> ProfileAnswer
     ensures { λ r. ⌜ Profiles (now (lent .entry)) source id (now (room .entry)) r (now (room .exit)) ⌝ }
 {
-    let refused = id_refusal(lent, source, id);
-    if refused != 0 {
-        return ProfileAnswer::Refused(refused);
+    let asked = ask_profile(lent, source, id);
+    if asked.refusal != 0 {
+        return ProfileAnswer::Refused(asked.refusal);
     }
-    let profile = profile_asked(lent, id);
+    let profile = part_of(lent, asked.profile);
     let n = kept_count(profile);
     if room.len() / RECORD < n {
         return ProfileAnswer::Refused(16);

@@ -8,7 +8,6 @@ use native.Mathlib.Omega.{arith}
 use borrow.Author.Tests.{not-false}
 use lib.Dec.{eqb}
 use lib.ListN.{length}
-use lib.Seq.{take-all}
 use Rattle.atoms.specs.Kinds as kinds
 use Rattle.bigendian.specs.BigEndian.{u32At}
 use Rattle.lists.specs.Lists.{sum, before}
@@ -74,11 +73,6 @@ module _ (s : List ℕ) (w : Source) (id : ℕ) (e : askRefusal s w id ≡ 0) wh
 -- the parts' bytes are those of the tables
 pub in-film : (s t : List ℕ) (p : Tables) → AreTables s t p → bytesIn s p ≡ bytesOf t
 in-film s t p a = λ i. record { stts = a .stts i; ctts = a .ctts i; stsc = a .stsc i; stsz = a .stsz i; offsets = a .offsets i; stss = a .stss i }
-
--- all that is lent, as a part
-pub whole-part : (s : List ℕ) → partIn s (record { at = 0; len = length s }) ≡ s
-unfolding partIn
-whole-part s = take-all (length s) s (omega arith)
 
 -- ---- the places at the start, from what the code has of the parts
 

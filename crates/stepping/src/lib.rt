@@ -1,9 +1,7 @@
 // Stepping through a track: a position in each of its tables, held by value, made at a sample number, and moved past one sample after the other.
-pub mod asked;
 pub mod moves;
 pub mod parts;
 
-use asked::track_part;
 use bigendian::u32_at;
 use chunks::ChunkCursor;
 use moves::Move;
@@ -12,9 +10,9 @@ use moves::step_in;
 use parts::moving_at;
 use places::part_of;
 use places::tables::Tables;
-use places::tables::tables_of;
+use places::tables::tables_in;
 use positions::moving::Moving;
-use questions::ask_refusal;
+use questions::Ask;
 use questions::samples::Sample;
 use structure::source::Source;
 ghost use Rattle.stepping.specs.Stepping.{Starts, Steps};
@@ -57,14 +55,15 @@ impl Stepper {
     pub fn at(lent: &[u8], source: Source, id: u32, n: u32) -> Start
         ensures { λ r. ⌜ Starts (now (lent .entry)) source id n r ⌝ }
     {
-        let refused = ask_refusal(lent, source, id);
-        if refused != 0 {
-            return Start::Refused(refused);
+        let ask = Ask::of(lent, source, id);
+        if ask.refusal != 0 {
+            return Start::Refused(ask.refusal);
         }
         if n == 0 {
             return Start::Refused(15);
         }
-        let tables = tables_of(lent, track_part(lent, id));
+        let trak = ask.trak;
+        let tables = tables_in(lent, trak.body, trak.parts);
         let stsz = tables.stsz;
         let samples = u32_at(part_of(lent, stsz), 16);
         if samples < n {

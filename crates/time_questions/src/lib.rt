@@ -1,21 +1,16 @@
 // The sample at a media time, and movie time to media time.
-use atoms::kinds;
 use bigendian::u32_at;
 use edits::Mapped;
 use edits::MediaTime;
 use edits::MovieTime;
 use edits::media_at;
-use questions::ask_refusal;
-use questions::track_asked;
+use places::part_of;
+use questions::Ask;
 use runs::Looked;
 use runs::look_up;
-use structure::moov::moov_body;
-use structure::moov::movie_scale;
 use structure::source::Source;
-use structure::trak::edit_list;
-use structure::trak::media_scale;
-use structure::trak::table;
 use track::media_total;
+use track::scale_in;
 ghost use mathlib.Core.Path.{_≡_};
 ghost use Rattle.edits.specs.Edits.{mediaAt};
 ghost use Rattle.time_questions.specs.Said.{numberSaid};
@@ -50,13 +45,15 @@ pub fn sample_number_in(stts: &[u8], samples: u32, t: MediaTime) -> NumberAnswer
 pub fn sample_at_time(lent: &[u8], source: Source, id: u32, t: MediaTime) -> NumberAnswer
     ensures { λ r. ⌜ SampleAt (now (lent .entry)) source id t r ⌝ }
 {
-    let refused = ask_refusal(lent, source, id);
-    if refused != 0 {
-        return NumberAnswer::Refused(refused);
+    let ask = Ask::of(lent, source, id);
+    if ask.refusal != 0 {
+        return NumberAnswer::Refused(ask.refusal);
     }
-    let trak = track_asked(lent, id);
-    let samples = u32_at(table(trak, kinds::STSZ), 16);
-    sample_number_in(table(trak, kinds::STTS), samples, t)
+    let trak = ask.trak;
+    let body = part_of(lent, trak.body);
+    let p = trak.parts;
+    let samples = u32_at(part_of(body, p.stsz), 16);
+    sample_number_in(part_of(body, p.stts), samples, t)
 }
 
 // The answer of `media_time_of`: the media time that is shown; or that nothing is; or the number of a refusal.
@@ -87,17 +84,18 @@ pub fn media_time_in(elst: &[u8], scale: u32, movie: u32, total: u32, t: MovieTi
 pub fn media_time_of(lent: &[u8], source: Source, id: u32, t: MovieTime) -> TimeAnswer
     ensures { λ r. ⌜ Maps (now (lent .entry)) source id t r ⌝ }
 {
-    let refused = ask_refusal(lent, source, id);
-    if refused != 0 {
-        return TimeAnswer::NotMapped(refused);
+    let ask = Ask::of(lent, source, id);
+    if ask.refusal != 0 {
+        return TimeAnswer::NotMapped(ask.refusal);
     }
-    let trak = track_asked(lent, id);
-    let movie = movie_scale(moov_body(lent));
+    let trak = ask.trak;
+    let body = part_of(lent, trak.body);
+    let p = trak.parts;
     media_time_in(
-        edit_list(trak),
-        media_scale(trak),
-        movie,
-        media_total(trak),
+        part_of(body, p.elst),
+        scale_in(body, p),
+        ask.movie,
+        media_total(body, p),
         t,
     )
 }

@@ -14,8 +14,12 @@ use Rattle.structure.specs.Rows.{orElse}
 use Rattle.structure.proofs.Callers.{Each}
 use Rattle.track.specs.Refusals.{totalIn}
 use Rattle.movie.specs.Refusals.{filmRefusal}
+use Rattle.places.specs.Movies.{AreTraks}
+use Rattle.places.specs.declared.moov.Traks.{Traks}
+use Rattle.movie.specs.Traks.{FewTraks}
 use Rattle.movie.specs.Rooms.{noRoom, filledRoom, refusedWith}
 use Rattle.movie.proofs.Accepted.{Accepted, accepted}
+use Rattle.movie.proofs.Traks.{few-traks}
 use Rattle.movie.proofs.Answers.{puts-refused, puts-answer}
 use Rattle.track_list.specs.TrackList.{linesOf, trackLines, listRefusal, listed, trackListNumbers, Lists}
 use Rattle.track_list.specs.Lines.{TotalsFit}
@@ -24,8 +28,8 @@ use Rattle.track_list.proofs.Lines.{lines-length, all-lines}
 
 -- ---- what the code may ask of a film that is not refused
 
-pub few : (s m : List ℕ) (w : Source) (r n : ℕ) → r ≡ filmRefusal s w → r ≡ 0 → m ≡ moovOf s → n ≡ length (tracksOf m) → n ≤ 16
-few s m w r n e z d c = rw (c, d) (accepted s w (sym e ∙ z) .movie .shape .few-tracks)
+pub listed-few : (s : List ℕ) (w : Source) (r : ℕ) → r ≡ filmRefusal s w → r ≡ 0 → (q : Traks) → AreTraks s (tracksOf (moovOf s)) q → FewTraks s (tracksOf (moovOf s)) q
+listed-few s w r e z q a = few-traks s (tracksOf (moovOf s)) q a (accepted s w (sym e ∙ z) .movie .shape .few-tracks)
 
 fitting-each : (w : Source) (scale len : ℕ) (ts : List (List ℕ)) → Each (Accepted w scale len) ts → TotalsFit ts
 fitting-each w scale len [] h = tt

@@ -1,19 +1,18 @@
 // The list of a movie's tracks, in lent 32-bit numbers.
-use atoms::body_of;
-use atoms::kinds;
-use atoms::size_in;
 use bigendian::u32_at;
+use places::moov::Traks;
+use places::moov::trak_at;
 use places::part_of;
-use places::trak::parts_of;
-use structure::moov::moov_body;
-use structure::moov::track_count;
+use places::trak::Parts;
 use structure::source::Source;
 use track::media_total;
 ghost use mathlib.Core.Path.{_≡_};
 ghost use Prim.Native.Nat.{_+_, _*_, _≤_, _<_};
 ghost use lib.ListN.{length};
 ghost use lib.Seq.{sets};
-ghost use Rattle.structure.specs.Movie.{tracksOf};
+ghost use Rattle.structure.specs.Movie.{moovOf, tracksOf};
+ghost use Rattle.places.specs.Places.{AreParts};
+ghost use Rattle.movie.specs.Traks.{FewTraks};
 ghost use Rattle.track.specs.Refusals.{totalIn};
 ghost use Rattle.track_list.specs.TrackList.{lineOf, linesOf, Lists};
 ghost use Rattle.track_list.specs.Lines.{fields, TotalsFit};
@@ -33,17 +32,16 @@ pub struct Line {
     pub stored: u32,
 }
 
-fn line_of(trak: &[u8]) -> Line
-    requires { ⌜ totalIn (now trak) < 4294967296 ⌝ }
+fn line_of(trak: &[u8], p: Parts) -> Line
+    requires { ⌜ (AreParts (now trak) p) × (totalIn (now trak) < 4294967296) ⌝ }
     ensures { λ r. ⌜ fields r ≡ lineOf (now (trak .entry)) ⌝ }
 {
-    let p = parts_of(trak);
     let mdhd = part_of(trak, p.mdhd);
     Line {
         id: u32_at(part_of(trak, p.tkhd), 20),
         subtype: u32_at(part_of(trak, p.hdlr), 16),
         scale: u32_at(mdhd, 20),
-        total: media_total(trak),
+        total: media_total(trak, p),
         samples: u32_at(part_of(trak, p.stsz), 16),
         chunks: u32_at(part_of(trak, p.offsets), 12),
         edits: u32_at(part_of(trak, p.elst), 12),
@@ -66,24 +64,18 @@ fn put_line(line: Line, room: &mut [u32], at: usize)
     room[at + 7] = line.stored;
 }
 
-// Puts the list of a movie's tracks, from the body of its moov, into the first places of the room.
-fn put_lines(moov: &[u8], room: &mut [u32])
-    requires { ⌜ TotalsFit (tracksOf (now moov)) × (8 * length (tracksOf (now moov)) ≤ length (now room)) ⌝ }
-    ensures { λ _. ⌜ now (room .exit) ≡ sets (now (room .entry)) 0 (linesOf (tracksOf (now (moov .entry)))) ⌝ }
+// Puts the list of a movie's tracks, from its traks, into the first places of the room.
+fn put_lines(lent: &[u8], traks: Traks, room: &mut [u32])
+    requires { ⌜ FewTraks (now lent) (tracksOf (moovOf (now lent))) traks × TotalsFit (tracksOf (moovOf (now lent))) × (8 * length (tracksOf (moovOf (now lent))) ≤ length (now room)) ⌝ }
+    ensures { λ _. ⌜ now (room .exit) ≡ sets (now (room .entry)) 0 (linesOf (tracksOf (moovOf (now (lent .entry))))) ⌝ }
 {
-    let mut t = moov;
-    let mut at = 0;
-    loop {
-        let n = size_in(t, kinds::MOOV);
-        if n < 8 {
-            return;
-        }
-        if u32_at(t, 4) == kinds::TRAK {
-            let line = line_of(body_of(&t[..n]));
-            put_line(line, room, at);
-            at += LINE;
-        }
-        t = &t[n..];
+    let count = traks.count;
+    let mut i: usize = 0;
+    while i < count {
+        let trak = trak_at(traks, i);
+        let line = line_of(part_of(lent, trak.body), trak.parts);
+        put_line(line, room, i * LINE);
+        i += 1;
     }
 }
 
@@ -97,15 +89,16 @@ pub enum TrackList {
 pub fn track_list(lent: &[u8], source: Source, room: &mut [u32]) -> TrackList
     ensures { λ r. ⌜ Lists (now (lent .entry)) source (now (room .entry)) r (now (room .exit)) ⌝ }
 {
-    let refused = movie::refusal(lent, source);
-    if refused != 0 {
-        return TrackList::Refused(refused);
+    let judged = movie::judge(lent, source);
+    if judged.refusal != 0 {
+        return TrackList::Refused(judged.refusal);
     }
-    let moov = moov_body(lent);
-    let n = track_count(moov);
+    let movie = judged.movie;
+    let traks = movie.traks;
+    let n = traks.count;
     if room.len() < LINE * n {
         return TrackList::Refused(16);
     }
-    put_lines(moov, room);
+    put_lines(lent, traks, room);
     TrackList::Tracks(n)
 }

@@ -1,50 +1,43 @@
--- `features::average_rate` meets its contract, with an edit list and without one.
+-- `features::average_rate` meets its contract: the edits count where there is a list of them.
 -- Assumes nothing.
-use borrow.Author.Needs.{needs}
+use mathlib.Core.Path.{_∙_}
 use Rattle.features.proofs.Fields.{averaged-total, average-whole, average-edited, average-asks}
 use Rattle.features.proofs.average_rate.Statement.{statement}
 use Rattle.features.proofs.average_rate.Tie as tie
 
-edit-list-requires : tie.Need-edit-list-requires
-edit-list-requires c κs = search needs
+part-of-requires : tie.Need-part-of-requires
+part-of-requires c κs = tt
 
 whole-average-requires : tie.Need-whole-average-requires
-whole-average-requires c κs = let s = c .before .before .before in (s .pre .short, averaged-total _ _ (s .pre))
+whole-average-requires c κs = (c .before .before .before .pre .0, c .before .before .before .pre .1 .short, averaged-total _ _ (c .before .before .before .pre .1))
 
 returns : tie.Need-returns
-returns c = let i = c .before in average-whole _ _ _ (i .before .edit-list .ensures) _ (i .if1 .taken) (c .whole-average .ensures)
+returns c = average-whole _ _ _ (c .before .before .part-of .ensures ∙ c .before .before .before .before .pre .0 .elst) _ (c .before .if1 .taken) (c .whole-average .ensures)
 
-table-requires : tie.Need-table-requires
-table-requires c κs = search needs
+part-of-requires-2 : tie.Need-part-of-requires-2
+part-of-requires-2 c κs = tt
 
-table-requires-2 : tie.Need-table-requires-2
-table-requires-2 c κs = search needs
+part-of-requires-3 : tie.Need-part-of-requires-3
+part-of-requires-3 c κs = tt
 
-media-scale-requires : tie.Need-media-scale-requires
-media-scale-requires c κs = search needs
+scale-in-requires : tie.Need-scale-in-requires
+scale-in-requires c κs = c .before .before .before .before .before .pre .0
 
 edited-average-requires : tie.Need-edited-average-requires
-edited-average-requires c κs =
-    let d = c .before .before in
-    let l = d .before .before in
-    average-asks _ _ _ (l .edit-list .ensures) _ _ (l .before .before .pre) (d .table .ensures) (c .media-scale .ensures)
+edited-average-requires c κs = average-asks _ _ _ (c .before .before .before .before .part-of .ensures ∙ c .before .before .before .before .before .before .pre .0 .elst) _ _ (c .before .before .before .before .before .before .pre .1) (c .before .before .part-of2 .ensures ∙ c .before .before .before .before .before .before .pre .0 .stts) (c .scale-in .ensures)
 
 returns-2 : tie.Need-returns-2
-returns-2 c =
-    let m = c .before in
-    let d = m .before .before in
-    let l = d .before .before in
-    average-edited _ _ _ (l .edit-list .ensures) _ _ _ _ (d .before .if1 .left) (d .table .ensures) (m .before .table2 .ensures) (m .media-scale .ensures) (c .edited-average .ensures)
+returns-2 c = average-edited _ _ _ (c .before .before .before .before .before .part-of .ensures ∙ c .before .before .before .before .before .before .before .pre .0 .elst) _ _ _ _ (c .before .before .before .before .if1 .left) (c .before .before .before .part-of2 .ensures ∙ c .before .before .before .before .before .before .before .pre .0 .stts) (c .before .before .part-of3 .ensures ∙ c .before .before .before .before .before .before .before .pre .0 .stsz) (c .before .scale-in .ensures) (c .edited-average .ensures)
 
 pub average-rate-spec : {M : Type 1} → statement M
 average-rate-spec =
     tie.close
     (tie.spec
-    edit-list-requires
+    part-of-requires
     whole-average-requires
     returns
-    table-requires
-    table-requires-2
-    media-scale-requires
+    part-of-requires-2
+    part-of-requires-3
+    scale-in-requires
     edited-average-requires
     returns-2)

@@ -1,18 +1,19 @@
--- `features::frame_rate` meets its contract: its calls return the parts that the definition is made of.
+-- `features::frame_rate` meets its contract.
 -- Assumes nothing.
-use borrow.Author.Needs.{needs}
+use mathlib.Core.Path.{_∙_}
 use Rattle.features.proofs.Fields.{frames-are}
+use borrow.Author.Needs.{needs}
 use Rattle.features.proofs.frame_rate.Statement.{statement}
 use Rattle.features.proofs.frame_rate.Tie as tie
 
-table-requires : tie.Need-table-requires
-table-requires c κs = search needs
+part-of-requires : tie.Need-part-of-requires
+part-of-requires c κs = tt
 
 least-duration-requires : tie.Need-least-duration-requires
-least-duration-requires c κs = search needs
+least-duration-requires c κs = tt
 
-media-scale-requires : tie.Need-media-scale-requires
-media-scale-requires c κs = search needs
+scale-in-requires : tie.Need-scale-in-requires
+scale-in-requires c κs = c .before .before .before .pre
 
 cast-rate : tie.Need-cast-rate
 cast-rate c = search needs
@@ -21,21 +22,18 @@ cast-rate-2 : tie.Need-cast-rate-2
 cast-rate-2 c = search needs
 
 rate-requires : tie.Need-rate-requires
-rate-requires c κs = search needs
+rate-requires c κs = tt
 
 returns : tie.Need-returns
-returns c =
-    let m = c .before in
-    let l = m .before in
-    frames-are _ _ _ _ _ (l .before .table .ensures) (l .least-duration .ensures) (m .media-scale .ensures) (c .rate .ensures)
+returns c = frames-are _ _ _ _ _ (c .before .before .before .part-of .ensures ∙ c .before .before .before .before .before .pre .stts) (c .before .before .least-duration .ensures) (c .before .scale-in .ensures) (c .rate .ensures)
 
 pub frame-rate-spec : {M : Type 1} → statement M
 frame-rate-spec =
     tie.close
     (tie.spec
-    table-requires
+    part-of-requires
     least-duration-requires
-    media-scale-requires
+    scale-in-requires
     cast-rate
     cast-rate-2
     rate-requires

@@ -6,20 +6,17 @@ use borrow.Author.Needs.{needs}
 use Rattle.stepping.proofs.Stepper.at.Statement.{statement}
 use Rattle.stepping.proofs.Stepper.at.Tie as tie
 
-ask-refusal-requires : tie.Need-ask-refusal-requires
-ask-refusal-requires c κs = tt
+of-requires : tie.Need-of-requires
+of-requires c κs = tt
 
 returns : tie.Need-returns
-returns c = start-asked _ _ _ _ _ (c .before .ask-refusal .ensures) (c .if1 .taken)
+returns c = start-asked _ _ _ _ _ (c .before .before .of .ensures .refusal) (c .if1 .taken)
 
 returns-2 : tie.Need-returns-2
-returns-2 c = start-zero _ _ _ _ _ (c .before .before .ask-refusal .ensures) (c .before .if1 .left) (c .if2 .taken)
+returns-2 c = start-zero _ _ _ _ _ (c .before .before .before .of .ensures .refusal) (c .before .if1 .left) (c .if2 .taken)
 
-track-part-requires : tie.Need-track-part-requires
-track-part-requires c κs = tt
-
-tables-of-requires : tie.Need-tables-of-requires
-tables-of-requires c κs = tt
+tables-in-requires : tie.Need-tables-in-requires
+tables-in-requires c κs = let k = c .before .before .before .before .of .ensures .trak (c .before .before .if1 .left) in rw (k .body) (k .parts)
 
 part-of-requires : tie.Need-part-of-requires
 part-of-requires c κs = tt
@@ -28,28 +25,25 @@ u32-at-requires : tie.Need-u32-at-requires
 u32-at-requires c κs = tt
 
 returns-3 : tie.Need-returns-3
-returns-3 c = start-past _ _ _ _ _ (c .before .before .before .before .before .before .before .before .ask-refusal .ensures) (c .before .before .before .before .before .before .before .if1 .left) _ _ _ _ (c .before .before .before .before .before .track-part .ensures) (c .before .before .before .before .tables-of .ensures) (c .before .before .part-of .ensures) (c .before .u32-at .ensures) (c .before .before .before .before .before .before .if2 .left) (c .if3 .taken)
+returns-3 c = start-past _ _ _ _ _ (c .before .before .before .before .before .before .before .before .before .of .ensures .refusal) (c .before .before .before .before .before .before .before .if1 .left) _ _ _ _ (c .before .before .before .before .before .before .before .before .before .of .ensures .trak (c .before .before .before .before .before .before .before .if1 .left) .body) (c .before .before .before .before .tables-in .ensures) (c .before .before .part-of .ensures) (c .before .u32-at .ensures) (c .before .before .before .before .before .before .if2 .left) (c .if3 .taken)
 
 sub-moving-at : tie.Need-sub-moving-at
 sub-moving-at c = search needs
 
 moving-at-requires : tie.Need-moving-at-requires
-moving-at-requires c κs =
-    let n = c .before .before .before .before .before .before .if2 .left in
-    (start-agrees _ _ _ 0 _ (c .before .before .before .before .before .before .before .before .ask-refusal .ensures) (c .before .before .before .before .before .before .before .if1 .left) _ _ _ _ (c .before .before .before .before .before .track-part .ensures) (c .before .before .before .before .tables-of .ensures) (c .before .before .part-of .ensures) (c .before .u32-at .ensures), omega (arith, n, c .if3 .left), start-short _ _ _ 0 _ (c .before .before .before .before .before .before .before .before .ask-refusal .ensures) (c .before .before .before .before .before .before .before .if1 .left) _ _ _ _ (c .before .before .before .before .before .track-part .ensures) (c .before .before .before .before .tables-of .ensures) (c .before .before .part-of .ensures) (c .before .u32-at .ensures))
+moving-at-requires c κs = (start-agrees _ _ _ 0 _ (c .before .before .before .before .before .before .before .before .before .of .ensures .refusal) (c .before .before .before .before .before .before .before .if1 .left) _ _ _ _ (c .before .before .before .before .before .before .before .before .before .of .ensures .trak (c .before .before .before .before .before .before .before .if1 .left) .body) (c .before .before .before .before .tables-in .ensures) (c .before .before .part-of .ensures) (c .before .u32-at .ensures), omega (arith, c .before .before .before .before .before .before .if2 .left, c .if3 .left), start-short _ _ _ 0 _ (c .before .before .before .before .before .before .before .before .before .of .ensures .refusal) (c .before .before .before .before .before .before .before .if1 .left) _ _ _ _ (c .before .before .before .before .before .before .before .before .before .of .ensures .trak (c .before .before .before .before .before .before .before .if1 .left) .body) (c .before .before .before .before .tables-in .ensures) (c .before .before .part-of .ensures) (c .before .u32-at .ensures))
 
 returns-4 : tie.Need-returns-4
-returns-4 c = start-found _ _ _ _ _ (c .before .before .before .before .before .before .before .before .before .ask-refusal .ensures) (c .before .before .before .before .before .before .before .before .if1 .left) _ _ _ _ (c .before .before .before .before .before .before .track-part .ensures) (c .before .before .before .before .before .tables-of .ensures) (c .before .before .before .part-of .ensures) (c .before .before .u32-at .ensures) (c .before .before .before .before .before .before .before .if2 .left) (c .before .if3 .left) _ (c .moving-at .ensures)
+returns-4 c = start-found _ _ _ _ _ (c .before .before .before .before .before .before .before .before .before .before .of .ensures .refusal) (c .before .before .before .before .before .before .before .before .if1 .left) _ _ _ _ (c .before .before .before .before .before .before .before .before .before .before .of .ensures .trak (c .before .before .before .before .before .before .before .before .if1 .left) .body) (c .before .before .before .before .before .tables-in .ensures) (c .before .before .before .part-of .ensures) (c .before .before .u32-at .ensures) (c .before .before .before .before .before .before .before .if2 .left) (c .before .if3 .left) _ (c .moving-at .ensures)
 
 pub at-spec : {M : Type 1} → statement M
 at-spec =
     tie.close
     (tie.spec
-    ask-refusal-requires
+    of-requires
     returns
     returns-2
-    track-part-requires
-    tables-of-requires
+    tables-in-requires
     part-of-requires
     u32-at-requires
     returns-3
