@@ -1,7 +1,7 @@
 -- The numbers of some pairs as a slip writes them: how long they are, and what writing them leaves. Between the crates' own functions.
 use Prim.Native.Nat.{ℕ, _+_, _≤_}
 use mathlib.Core.Path.{_≡_}
-use mathlib.Core.List.{List}
+use mathlib.Core.List.{List, [], _∷_}
 use lib.ListN.{length}
 use lib.Seq.{sets}
 use Rattle.leb128.specs.Numbers.{writes}
@@ -13,6 +13,11 @@ use Rattle.slip_pairs.specs.declared.Measured.{Measured}
 -- their bytes
 unfoldable pub pairBytes : List Pair → List ℕ
 pairBytes qs = writes (flat qs)
+
+-- pairs of a common length, by their offsets
+abbrev pub commonPairs : ℕ → List ℕ → List Pair
+commonPairs bytes [] = []
+commonPairs bytes (c ∷ cs) = record { offset = c; length = bytes } ∷ commonPairs bytes cs
 
 -- how many these are, and whether "some number is 2^32 or more"
 abbrev pub measuredOf : List Pair → Measured

@@ -25,7 +25,7 @@ ghost use Rattle.words.specs.Words.{numbersIn, wordsIn, widthOf};
 ghost use Rattle.leb128.specs.Numbers.{writes};
 ghost use Rattle.slip_head.specs.Bytes.{anyWide};
 ghost use Rattle.pairs.specs.Walks.{pairsBetween, Fitting, AtOnce, runPairs, pairsAtOnce};
-ghost use Rattle.slip_pairs.specs.Measures.{pairBytes, measuredOf, Wrote};
+ghost use Rattle.slip_pairs.specs.Measures.{pairBytes, commonPairs, measuredOf, Wrote};
 
 // How many bytes some pairs are written in, and whether one of their numbers is 2^32 or more.
 pub struct Measured {
@@ -181,8 +181,8 @@ fn write_pair(q: Pair, out: &mut [u8], at: usize) -> usize
     store_number(out, middle, q.length)
 }
 
-// Writes the pairs of whole chunks of a run, one for each of the offsets, and answers the place past them.
-fn write_run(offsets: &[u8], sizes: &[u8], r: WholeRun, out: &mut [u8], at: usize) -> usize
+// Writes the pairs of whole chunks of a run, one for each of the offsets, pair by pair, and answers the place past them.
+fn write_each(offsets: &[u8], sizes: &[u8], r: WholeRun, out: &mut [u8], at: usize) -> usize
     requires { ⌜ at + length (pairBytes (runPairs r (numbersIn (widthOf (r .long)) (now offsets)) (wordsIn (now sizes)))) ≤ length (now out) ⌝ }
     ensures { λ past. ⌜ Wrote (runPairs r (numbersIn (widthOf (r .long)) (now (offsets .entry))) (wordsIn (now (sizes .entry)))) (now (out .entry)) at past (now (out .exit)) ⌝ }
 {
@@ -198,6 +198,42 @@ fn write_run(offsets: &[u8], sizes: &[u8], r: WholeRun, out: &mut [u8], at: usiz
         z = others;
     }
     k
+}
+
+// Writes the pairs of chunks with 32-bit offsets and a common length, and answers the place past them.
+fn write_common(offsets: &[u8], bytes: u64, out: &mut [u8], at: usize) -> usize
+    requires { ⌜ at + length (pairBytes (commonPairs bytes (wordsIn (now offsets)))) ≤ length (now out) ⌝ }
+    ensures { λ past. ⌜ Wrote (commonPairs bytes (wordsIn (now (offsets .entry)))) (now (out .entry)) at past (now (out .exit)) ⌝ }
+{
+    let mut t = offsets;
+    let mut k = at;
+    while 4 <= t.len() {
+        let offset = whole32(t, 0) as u64;
+        k = write_pair(
+            Pair {
+                offset,
+                length: bytes,
+            },
+            out,
+            k,
+        );
+        t = &t[4..];
+    }
+    k
+}
+
+// The same as `write_each`, without a look at the sizes where they are common.
+fn write_run(offsets: &[u8], sizes: &[u8], r: WholeRun, out: &mut [u8], at: usize) -> usize
+    requires { ⌜ at + length (pairBytes (runPairs r (numbersIn (widthOf (r .long)) (now offsets)) (wordsIn (now sizes)))) ≤ length (now out) ⌝ }
+    ensures { λ past. ⌜ Wrote (runPairs r (numbersIn (widthOf (r .long)) (now (offsets .entry))) (wordsIn (now (sizes .entry)))) (now (out .entry)) at past (now (out .exit)) ⌝ }
+{
+    if r.long {
+        return write_each(offsets, sizes, r, out, at);
+    }
+    if r.listed {
+        return write_each(offsets, sizes, r, out, at);
+    }
+    write_common(offsets, r.bytes, out, at)
 }
 
 // Writes the pairs of some chunks of the run at a place: of one, or of whole ones.
