@@ -83,7 +83,7 @@ module _ (s : List ℕ) (w : Source) (id : ℕ) (places : List ℕ) (r : ℕ) (a
   unfolding noRoom openedNumbers
   enough = ltb-false _ _ (room-enough (ltb (length places) 19) (rw values at (judged .1)))
 
-  long : 19 ≤ length after
+  pub long : 19 ≤ length after
   unfolding noRoom roomAfter filledRoom openedNumbers
   long =
       let e : after ≡ openedNumbers (found .handle) ++ drop 19 places = rw (values, le-ltb (length places) 19 enough) at (d .handed .placed) in

@@ -16,10 +16,10 @@ ghost use Rattle.host_opened.specs.Handle.{openedIn, HandsHandle};
 ghost use Rattle.host_opened.specs.Hands.{HandsOpening, HandsSample, HandsNumber, HandsTime};
 
 // How many they are.
-const NUMBERS: usize = 19;
+pub const NUMBERS: usize = 19;
 
 // The handle that the first 19 numbers are: one too large for its field is cut to the field's width, and one that is not there is 0.
-fn handle_in(numbers: &[u64]) -> Opened
+pub fn handle_in(numbers: &[u64]) -> Opened
     ensures { λ r. ⌜ r ≡ openedIn (now (numbers .entry)) ⌝ }
 {
     Opened {
