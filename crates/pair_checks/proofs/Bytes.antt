@@ -1,7 +1,7 @@
 -- How large the numbers of stsz and of the chunk offsets are, which are read from bytes.
 -- Assumes nothing.
-use Prim.Native.Nat.{ℕ, zero, suc, _+_, _*_, _-_, _/_, _≤_, _<_}
-use mathlib.Core.Path.{refl, ap, _∙_}
+use Prim.Native.Nat.{ℕ, zero, suc, _+_, _*_, _-_, _/_, _^_, _≤_, _<_}
+use mathlib.Core.Path.{_≡_, refl, sym, ap, _∙_}
 use mathlib.Core.Bool.{Bool, true, false}
 use mathlib.Core.List.{List, [], _∷_}
 use native.Mathlib.Omega.{arith}
@@ -10,7 +10,7 @@ use native.Mathlib.Decide.{ℕ-discrete, decLt}
 use lib.Dec.{eqb, lit<}
 use lib.ListN.{length, getD, take, drop, replicate, length-replicate, getD-replicate, List·getD-eq-default}
 use lib.Seq.{getD-drop}
-use Rattle.bigendian.specs.BigEndian.{beAt, u32At}
+use Rattle.bigendian.specs.BigEndian.{u32At}
 use Rattle.bigendian.proofs.Laws.{beAt-below}
 use Rattle.atoms.specs.Atoms.{kindOf}
 use Rattle.atoms.specs.Kinds.{co64}
@@ -36,26 +36,27 @@ size-low z h i = elim (ℕ-discrete (u32At z 12) 0) [
   ]
 ]
 
--- those of fewer than 2 ^ 32 samples add up to a number of 64 bits
-pub between-low : (z : List ℕ) → ((i : ℕ) → getD z i 0 < 256) → (i j : ℕ) → j ≤ 4294967295 → between (sizes z) i j < 18446744073709551616
+-- those of fewer than 2 ^ 32 samples, added
+pub between-low : (z : List ℕ) → ((i : ℕ) → getD z i 0 < 256) → (i j : ℕ) → j ≤ 4294967295 → between (sizes z) i j ≤ 4294967295 * 4294967295
 between-low z h i j l =
     let a = all-low 4294967295 (j - i) (drop i (sizes z)) (λ k. let g = getD-drop i (sizes z) k 0 in omega (arith, size-low z h (i + k))) in
     let n : j - i ≤ 4294967295 = omega arith in
     omega (arith, mul-le-mul-right 4294967295 n)
 
--- no offset is above 64 bits
-pub offset-low : (o : List ℕ) → ((i : ℕ) → getD o i 0 < 256) → (k : ℕ) → getD (chunkOffsets o) k 0 < 18446744073709551616
-offset-low o h k = rw (offsets-of o refl refl) (go (eqb (kindOf o) co64))
-  where
-    byte : (i : ℕ) → getD (drop 16 o) i 0 < 256
-    byte i = let g = getD-drop 16 o i 0 in omega (arith, h (16 + i))
+-- no offset is above 64 bits, and in stco none is above 32
+module _ (o : List ℕ) (h : (i : ℕ) → getD o i 0 < 256) (k : ℕ) where
+  below : (w b : ℕ) → 0 < w → 0 < b → 256 ^ w ≤ b → getD (numbersIn w (drop 16 o)) k 0 < b
+  below w b p q l = elim (decLt k (length (drop 16 o) / w)) [
+    | yes i ↦ omega (arith, numbers-at w p (drop 16 o) k i, beAt-below w (drop 16 o) (k * w) (λ j. let g = getD-drop 16 o j 0 in omega (arith, h (16 + j))))
+    | no i ↦ omega (arith, numbers-past w p (drop 16 o) k (omega arith))
+  ]
 
-    below : (w b : ℕ) → 0 < w → ((at : ℕ) → beAt w (drop 16 o) at < b) → 0 < b → getD (numbersIn w (drop 16 o)) k 0 < b
-    below w b p l z = elim (decLt k (length (drop 16 o) / w)) [
-      | yes i ↦ omega (arith, numbers-at w p (drop 16 o) k i, l (k * w))
-      | no i ↦ omega (arith, numbers-past w p (drop 16 o) k (omega arith))
-    ]
+  pub offset-low : getD (chunkOffsets o) k 0 < 18446744073709551616
+  offset-low = rw (offsets-of o refl refl) (go (eqb (kindOf o) co64))
+    where
+      go : (long : Bool) → getD (numbersIn (widthOf long) (drop 16 o)) k 0 < 18446744073709551616
+      go true = below 8 18446744073709551616 (lit< tt) (lit< tt) (omega arith)
+      go false = below 4 18446744073709551616 (lit< tt) (lit< tt) (omega arith)
 
-    go : (long : Bool) → getD (numbersIn (widthOf long) (drop 16 o)) k 0 < 18446744073709551616
-    go true = below 8 18446744073709551616 (lit< tt) (λ at. beAt-below 8 (drop 16 o) at byte) (lit< tt)
-    go false = below 4 18446744073709551616 (lit< tt) (λ at. omega (arith, beAt-below 4 (drop 16 o) at byte)) (lit< tt)
+  pub narrow-low : eqb (kindOf o) co64 ≡ false → getD (chunkOffsets o) k 0 < 4294967296
+  narrow-low e = rw (offsets-of o (sym e) refl) (below 4 4294967296 (lit< tt) (lit< tt) (omega arith))

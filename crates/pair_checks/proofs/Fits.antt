@@ -10,6 +10,8 @@ use borrow.Author.Tests.{lt-ltb, le-ltb, le-leb, lt-leb, ltb-true}
 use lib.Dec.{eqb, ltb, leb}
 use lib.ListN.{length, getD, drop}
 use lib.Seq.{getD-drop}
+use Rattle.atoms.specs.Atoms.{kindOf}
+use Rattle.atoms.specs.Kinds.{co64}
 use Rattle.lists.specs.Lists.{sum, before, between}
 use Rattle.lists.proofs.Booleans.{and-both}
 use Rattle.lists.proofs.Places.{between-split}
@@ -24,7 +26,7 @@ use Rattle.pairs.specs.declared.ChunkPosition.{ChunkPosition}
 use Rattle.pairs.proofs.Touched.{is-touched, past-last, before-first, touched-none, none-between}
 use Rattle.pairs.proofs.Walking.{at-end, at-next, some-remain, from-start}
 use Rattle.pair_checks.specs.Fits.{allFit, pairsFit, startFits}
-use Rattle.pair_checks.proofs.Bytes.{between-low, offset-low}
+use Rattle.pair_checks.proofs.Bytes.{between-low, offset-low, narrow-low}
 
 -- ---- the test, and what is asked where pairs are put
 
@@ -39,28 +41,37 @@ pub fitting-all : (b : ℕ) (qs : List Pair) → Fitting b qs → allFit b qs �
 fitting-all b [] f = refl
 fitting-all b (q ∷ qs) f = rw (lt-ltb (q .offset) b (f .0), lt-ltb (q .length) b (f .1)) (fitting-all b qs (f .2))
 
--- ---- the chunks from the sample i on
+-- ---- chunk after chunk
 
 module _ (b i j : ℕ) (zs : List ℕ) (low : (k n : ℕ) → n ≤ j → between zs k n < b) where
   length-fits : (begin p c : ℕ) → pairOf i j begin p c zs .length < b
   unfolding pairOf
   length-fits begin p c = low (max i begin) (min j (begin + p)) (omega arith)
 
-  whole-fits : (begin p c : ℕ) → i ≤ begin → c < b → pairOf i j begin p c zs .offset < b
-  unfolding pairOf
-  whole-fits begin p c h g = let e : max i begin ≡ begin = omega arith in rw e (omega (arith, none-between zs begin begin (omega arith)))
-
-  later-fit : (begin : ℕ) (ps cs : List ℕ) → i ≤ begin → ((k : ℕ) → getD cs k 0 < b) → Fitting b (touched i j begin ps cs zs)
-  later-fit begin [] cs h g = tt
-  later-fit begin (p ∷ ps) cs h g =
-      let r = later-fit (begin + p) ps (drop 1 cs) (omega arith) (λ k. let d = getD-drop 1 cs k 0 in omega (arith, g (1 + k))) in
+  -- where an offset below the limit fits in each chunk from a sample on
+  each-fits : (limit first : ℕ) → ((begin p c : ℕ) → first ≤ begin → begin < j → c < limit → pairOf i j begin p c zs .offset < b) → (begin : ℕ) (ps cs : List ℕ) → first ≤ begin
+      → ((k : ℕ) → getD cs k 0 < limit) → Fitting b (touched i j begin ps cs zs)
+  each-fits limit first f begin [] cs h g = tt
+  each-fits limit first f begin (p ∷ ps) cs h g =
+      let r = each-fits limit first f (begin + p) ps (drop 1 cs) (omega arith) (λ k. let d = getD-drop 1 cs k 0 in omega (arith, g (1 + k))) in
       elim (decLt begin j) [
         | no n ↦ rw (past-last i j begin p (omega arith)) r
         | yes n ↦ elim (decLt i (begin + p)) [
           | no m ↦ rw (before-first i j begin p (omega arith)) r
-          | yes m ↦ rw (is-touched i j begin p n m) (whole-fits begin p _ h (g 0), length-fits begin p _, r)
+          | yes m ↦ rw (is-touched i j begin p n m) (f begin p (getD cs 0 0) h n (g 0), length-fits begin p (getD cs 0 0), r)
         ]
       ]
+
+  -- a chunk from the sample i on is asked for from its first sample on
+  whole-fits : (begin p c : ℕ) → i ≤ begin → begin < j → c < b → pairOf i j begin p c zs .offset < b
+  unfolding pairOf
+  whole-fits begin p c h n g = let e : max i begin ≡ begin = omega arith in rw e (omega (arith, none-between zs begin begin (omega arith)))
+
+-- an offset of 32 bits, and sizes
+narrow-fits : (i j : ℕ) (z : List ℕ) → ((k : ℕ) → getD z k 0 < 256) → i ≤ 4294967295 → j ≤ 4294967295 → (begin p c : ℕ) → 0 ≤ begin → begin < j → c < 4294967296
+    → pairOf i j begin p c (sizes z) .offset < 18446744073709551616
+unfolding pairOf
+narrow-fits i j z y l m begin p c h n g = omega (arith, between-low z y begin (max i begin) (omega arith))
 
 -- ---- from the place where the walk starts
 
@@ -86,6 +97,19 @@ too-long stsc stsz offsets chunks i j h = rw (le-ltb (length stsc) 4294967296 (o
 pub start-low : (stsc : List ℕ) (chunks i : ℕ) (p : ChunkPosition) → StartsAt stsc chunks i p → p .begin ≤ i
 start-low stsc chunks i p w = omega (arith, w .at .begins, ap (before (perChunk stsc chunks)) (w .place), before-holder (perChunk stsc chunks) i)
 
+-- the sizes of samples before j, added
+sizes-low : (z : List ℕ) (j : ℕ) → ((k : ℕ) → getD z k 0 < 256) → j ≤ 4294967295 → (k n : ℕ) → n ≤ j → between (sizes z) k n < 18446744073709551616
+sizes-low z j y l k n h = omega (arith, between-low z y k n (omega arith))
+
+pub short-fits : (stsc stsz offsets : List ℕ) (chunks i j : ℕ) → length stsc ≤ 4294967295 → eqb (kindOf offsets) co64 ≡ false → ((k : ℕ) → getD stsz k 0 < 256) → ((k : ℕ) → getD offsets k 0 < 256)
+    → i ≤ 4294967295 → j ≤ 4294967295 → true ≡ pairsFit stsc stsz offsets chunks i j
+unfolding pairsFit
+short-fits stsc stsz offsets chunks i j l e yz yo m n =
+    rw (lt-ltb (length stsc) 4294967296 (omega arith)) (
+    sym (fitting-all 18446744073709551616 (pairsBetween stsc stsz offsets chunks i j) (
+    each-fits 18446744073709551616 i j (sizes stsz) (sizes-low stsz j yz n) 4294967296 0 (narrow-fits i j stsz yz m n) 0 (perChunk stsc chunks) (chunkOffsets offsets) (omega arith)
+    (λ k. narrow-low offsets yo k e))))
+
 module _ (stsc stsz offsets : List ℕ) (chunks i j : ℕ) (p : ChunkPosition) (w : StartsAt stsc chunks i p) where
   pub past-fits : length stsc ≤ 4294967295 → (eqb (p .cursor .remaining) 0 || leb j (p .begin)) ≡ true → true ≡ pairsFit stsc stsz offsets chunks i j
   unfolding pairsFit
@@ -96,12 +120,12 @@ module _ (stsc stsz offsets : List ℕ) (chunks i j : ℕ) (p : ChunkPosition) (
     rest-fit : allFit 18446744073709551616 (pairsAhead stsc stsz offsets chunks i j (placeAfter stsc chunks p)) ≡ true
     rest-fit =
         fitting-all 18446744073709551616 (pairsAhead stsc stsz offsets chunks i j (placeAfter stsc chunks p)) (
-        later-fit 18446744073709551616 i j (sizes stsz) (λ k m h. between-low stsz yz k m (omega arith)) (p .begin + p .cursor .per) (ahead stsc chunks (placeAfter stsc chunks p .cursor))
-        (drop (p .chunk + 1) (chunkOffsets offsets)) (omega (arith, w .at .reaches (some-remain stsc stsz offsets chunks i j p (w .at) e)))
+        each-fits 18446744073709551616 i j (sizes stsz) (sizes-low stsz j yz n) 18446744073709551616 i (whole-fits 18446744073709551616 i j (sizes stsz) (sizes-low stsz j yz n)) (p .begin + p .cursor .per)
+        (ahead stsc chunks (placeAfter stsc chunks p .cursor)) (drop (p .chunk + 1) (chunkOffsets offsets)) (omega (arith, w .at .reaches (some-remain stsc stsz offsets chunks i j p (w .at) e)))
         (λ k. let d = getD-drop (p .chunk + 1) (chunkOffsets offsets) k 0 in omega (arith, offset-low offsets yo (p .chunk + 1 + k))))
 
     first-length : pairOf i j (p .begin) (p .cursor .per) (getD (chunkOffsets offsets) (p .chunk) 0) (sizes stsz) .length < 18446744073709551616
-    first-length = length-fits 18446744073709551616 i j (sizes stsz) (λ k m h. between-low stsz yz k m (omega arith)) (p .begin) (p .cursor .per) (getD (chunkOffsets offsets) (p .chunk) 0)
+    first-length = length-fits 18446744073709551616 i j (sizes stsz) (sizes-low stsz j yz n) (p .begin) (p .cursor .per) (getD (chunkOffsets offsets) (p .chunk) 0)
 
     pub first-fits : length stsc ≤ 4294967295 → (r : Bool) → r ≡ startFits stsz offsets p i → r ≡ pairsFit stsc stsz offsets chunks i j
     unfolding pairsFit startFits pairOf

@@ -4,6 +4,7 @@ use pairs::is_past;
 use pairs::start_place;
 use words::bytes_between;
 use words::chunk_offset;
+use words::is_long;
 ghost use mathlib.Core.Path.{_≡_};
 ghost use Prim.Native.Nat.{_<_, _^_};
 ghost use Rattle.pair_checks.specs.Fits.{pairsFit, startFits};
@@ -18,7 +19,7 @@ fn start_fits(stsz: &[u8], offsets: &[u8], p: ChunkPosition, from: u32) -> bool
 }
 
 // Whether stsc is short enough to be walked and both numbers of each pair of the samples from `from` up to `stop` have 64 bits. Only the first pair can
-// begin inside its chunk, so that no other offset is a sum.
+// begin inside its chunk, so that no other offset is a sum, and a sum of an offset of 32 bits and the sizes before a sample fits.
 pub fn pairs_fit(
     stsc: &[u8],
     stsz: &[u8],
@@ -31,6 +32,9 @@ pub fn pairs_fit(
 {
     if 4294967295 < stsc.len() {
         return false;
+    }
+    if !is_long(offsets) {
+        return true;
     }
     let p = start_place(stsc, chunks, from);
     if is_past(p, stop) {
