@@ -1,13 +1,14 @@
 -- The promises of stepping for a caller in another language, from what the code has of the position, the steps and the places.
 -- Assumes nothing.
-use Prim.Native.Nat.{ℕ, suc, _*_, _≤_, _<_}
+use Prim.Native.Nat.{ℕ, suc, _+_, _*_, _≤_, _<_}
 use mathlib.Core.Path.{_≡_, refl, sym, ap, _∙_}
-use mathlib.Core.List.{List, [], _∷_, _++_}
+use mathlib.Core.List.{List, [], _∷_, _++_, append-nil}
 use mathlib.Core.Logic.{_⊎_, ⊎-elim}
 use native.Mathlib.Omega.{arith}
 use borrow.Author.Tests.{le-ltb}
-use lib.ListN.{length, getD, drop, set, replicate}
-use lib.Seq.{sets-eq}
+use borrow.Rule.Slice.PartMut.{putMid, same-len-mid, drop-put}
+use lib.ListN.{length, take, drop, set, replicate, length-append, length-take, length-drop}
+use lib.Seq.{sets-eq, drop-length}
 use lib.IntN.{ℤ, pos}
 use Rattle.structure.specs.declared.source.Source.{Source}
 use Rattle.structure.specs.Rows.{orElse}
@@ -21,10 +22,11 @@ use Rattle.stepping.specs.declared.Start.the-variants.{At, Refused}
 use Rattle.stepping.specs.declared.Step.{Step}
 use Rattle.stepping.specs.declared.Step.the-variants.{Next, Done}
 use Rattle.steps_into.specs.Into.{flatSamples, StepsInto}
+use Rattle.steps_into.proofs.Chained.{flat-length}
 use Rattle.steps_into.specs.declared.Reached.{Reached}
 use Rattle.hand.specs.Places.{Hands}
 use Rattle.position_numbers.specs.Position.{stepperNumbers, stepperIn, HandsPosition}
-use Rattle.host_steps.specs.Hands.{startValues, HandsStart, stepperAfter, Stepped, HandsStep, Filled, HandsSteps}
+use Rattle.host_steps.specs.Hands.{startValues, HandsStart, Advanced, stepperAfter, Stepped, HandsStep, Filled, HandsSteps}
 
 -- values that the places are enough for
 module _ {A : Type 0} (values places : List A) (r : ℕ) (after : List A) (h : Hands 0 values places r after) (l : length values ≤ length places) where
@@ -65,39 +67,6 @@ short-step s stepper places h = record {
   stepped = λ a b. absurd (⊎-elim (λ l. omega arith) (λ l. omega arith) h);
 }
 
-module _ (s stepper : List ℕ) (places : List ℤ) (r : ℕ) (p : Stepper) (y : Step) (d : p ≡ stepperIn stepper) (g : Steps s p y) (j : 29 ≤ length stepper) (k : 9 ≤ length places) where
-  enough : {A : Type 0} → (length stepper < 29) ⊎ (length places < 9) → A
-  enough h = absurd (⊎-elim (λ l. omega arith) (λ l. omega arith) h)
-
-  pub step-next : (x : Sample) (q : Stepper) (o : ℕ) (values placed : List ℤ) (after : List ℕ) → y ≡ Next x q → Hands 0 values places o placed → values ≡ pos 1 ∷ sampleValues x
-      → HandsPosition q stepper r after → HandsStep s stepper places r after placed
-  unfolding stepNumbers stepperAfter stepperNumbers
-  step-next x q o values placed after e i f h = record {
-    short = enough;
-    stepped = λ _ _. record {
-      step = Next x q;
-      steps = rw (e, d) at g;
-      result = handed-none (stepperNumbers q) stepper r after (h .handed) j;
-      numbers = handed-all (pos 1 ∷ sampleValues x) places o placed (rw f at i) k;
-      position = handed-all (stepperNumbers q) stepper r after (h .handed) j;
-      again = λ z v c. let o : q ≡ v = cc in h .again j ∙ o;
-    };
-  }
-
-  pub step-done : (placed : List ℤ) → y ≡ Done → Hands 0 (replicate 9 (pos 0)) places r placed → HandsStep s stepper places r stepper placed
-  unfolding stepNumbers stepperAfter
-  step-done placed e h = record {
-    short = enough;
-    stepped = λ _ _. record {
-      step = Done;
-      steps = rw (e, d) at g;
-      result = handed-none (replicate 9 (pos 0)) places r placed h k;
-      numbers = handed-all (replicate 9 (pos 0)) places r placed h k;
-      position = refl;
-      again = λ z v c. let o : _≡_ {A = ℕ} 0 1 = cc in absurd (omega arith);
-    };
-  }
-
 -- ---- one step, in room for one sample
 
 module _ (s : List ℕ) (p q : Stepper) where
@@ -116,22 +85,93 @@ module _ (s : List ℕ) (p q : Stepper) where
   one (x ∷ []) c n h = record { sample = x; steps = rw (c .2) at (c .1); same = refl }
   one (x ∷ y ∷ zs) c n h = absurd (omega arith)
 
-module _ (s : List ℕ) (p : Stepper) (y : Reached) (room : List ℤ) (g : StepsInto s p (replicate 8 (pos 0)) y room) where
-  pub no-step : y .count ≡ 0 → Steps s p Done
-  no-step e = none-left s p (y .position) (g .samples) (g .chain) (sym (g .count) ∙ e) (g .ends)
+-- ---- the ways out of `advance`
 
-  pub one-step : (y .count ≡ 0 → ⊥) → One s p (y .position) room
+module _ (s stepper : List ℕ) (room : List ℤ) (least : ℕ) (p : Stepper) (y : Reached) (room′ : List ℤ) (d : p ≡ stepperIn stepper) (g : StepsInto s p room y room′) where
+  pub advanced-none : y .count < least → Advanced s stepper room least (y .count) stepper room′
+  advanced-none h = record {
+    position = y .position;
+    steps = rw d at g;
+    kept = λ _. refl;
+    numbers = λ l. absurd (omega arith);
+    again = λ l. absurd (omega arith);
+  }
+
+  pub advanced-some : (r : ℕ) (after : List ℕ) → 29 ≤ length stepper → least ≤ y .count → HandsPosition (y .position) stepper r after → Advanced s stepper room least (y .count) after room′
+  unfolding stepperNumbers
+  advanced-some r after j h a = record {
+    position = y .position;
+    steps = rw d at g;
+    kept = λ l. absurd (omega arith);
+    numbers = λ _. handed-all (stepperNumbers (y .position)) stepper r after (a .handed) j;
+    again = λ _. a .again j;
+  }
+
+-- the room for one sample: the last eight of nine places
+part-eight : (places : List ℤ) → 9 ≤ length places → length (take 8 (drop 1 places)) ≡ 8
+part-eight places h = simp (length-take, length-drop) (omega arith)
+
+drop-end : (room : List ℤ) → length room ≡ 8 → drop 8 room ≡ []
+drop-end room f = rw f at (drop-length room)
+
+nine-places : (places room : List ℤ) → 9 ≤ length places → set (putMid 1 8 places room) 0 (pos 1) ≡ pos 1 ∷ (room ++ drop 9 places)
+nine-places [] room h = absurd (omega arith)
+nine-places (x ∷ xs) room h = refl
+
+module _ (s stepper : List ℕ) (places room : List ℤ) (n : ℕ) (after : List ℕ) (a : Advanced s stepper (take 8 (drop 1 places)) 1 n after room) (j : 29 ≤ length stepper) (k : 9 ≤ length places) where
+  enough : {A : Type 0} → (length stepper < 29) ⊎ (length places < 9) → A
+  enough h = absurd (⊎-elim (λ l. omega arith) (λ l. omega arith) h)
+
+  eight : length (take 8 (drop 1 places)) ≡ 8
+  eight = part-eight places k
+
+  room-same : length room ≡ 8
   unfolding filledRoom
-  one-step n =
-      let o = one s p (y .position) (g .samples) (g .chain) (λ e. n (g .count ∙ e)) (g .within) in
-      record { sample = o .sample; steps = o .steps; same = g .filled ∙ ap (λ (l : List ℤ). l ++ drop (length l) (replicate 8 (pos 0))) (o .same) }
+  room-same =
+      ap length (a .steps .filled)
+      ∙ length-append (flatSamples (a .steps .samples)) _
+      ∙ ap (λ (l : ℕ). length (flatSamples (a .steps .samples)) + l) (length-drop (length (flatSamples (a .steps .samples))) (take 8 (drop 1 places)))
+      ∙ omega (arith, eight, flat-length (a .steps .samples), a .steps .within)
 
--- the sample's numbers, copied out of that room
-pub copied : (l : List ℤ) (x : Sample) → l ≡ sampleValues x → (a b c d e f g h : ℤ)
-    → a ≡ getD l 0 (pos 0) → b ≡ getD l 1 (pos 0) → c ≡ getD l 2 (pos 0) → d ≡ getD l 3 (pos 0)
-    → e ≡ getD l 4 (pos 0) → f ≡ getD l 5 (pos 0) → g ≡ getD l 6 (pos 0) → h ≡ getD l 7 (pos 0)
-    → pos 1 ∷ a ∷ b ∷ c ∷ d ∷ e ∷ f ∷ g ∷ h ∷ [] ≡ pos 1 ∷ sampleValues x
-copied l x s a b c d e f g h ea eb ec ed ee ef eg eh = rw (ea, eb, ec, ed, ee, ef, eg, eh, s)
+  no-step : n ≡ 0 → Steps s (stepperIn stepper) Done
+  no-step e = none-left s (stepperIn stepper) (a .position) (a .steps .samples) (a .steps .chain) (sym (a .steps .count) ∙ e) (rw eight at (a .steps .ends))
+
+  pub step-done : (r : ℕ) (placed : List ℤ) → n ≡ 0 → Hands 0 (replicate 9 (pos 0)) (putMid 1 8 places room) r placed → HandsStep s stepper places r after placed
+  unfolding stepNumbers stepperAfter filledRoom
+  step-done r placed e h =
+      let l : 9 ≤ length (putMid 1 8 places room) = omega (arith, same-len-mid 1 8 places room (room-same ∙ sym eight)) in
+      let q : drop 9 (putMid 1 8 places room) ≡ drop 9 places = drop-put 1 9 places room (omega arith) k room-same in
+      record {
+        short = enough;
+        stepped = λ _ _. record {
+          step = Done;
+          steps = no-step e;
+          result = handed-none (replicate 9 (pos 0)) (putMid 1 8 places room) r placed h l;
+          numbers = handed-all (replicate 9 (pos 0)) (putMid 1 8 places room) r placed h l ∙ ap (λ (t : List ℤ). replicate 9 (pos 0) ++ t) q;
+          position = a .kept (omega arith);
+          again = λ z v c. let o : _≡_ {A = ℕ} 0 1 = cc in absurd (omega arith);
+        };
+      }
+
+  one-step : (n ≡ 0 → ⊥) → One s (stepperIn stepper) (a .position) (flatSamples (a .steps .samples))
+  one-step e = one s (stepperIn stepper) (a .position) (a .steps .samples) (a .steps .chain) (λ z. e (a .steps .count ∙ z)) (rw eight at (a .steps .within))
+
+  pub step-next : (n ≡ 0 → ⊥) → HandsStep s stepper places 0 after (set (putMid 1 8 places room) 0 (pos 1))
+  unfolding stepNumbers stepperAfter filledRoom
+  step-next e =
+      let o = one-step e in
+      let v : room ≡ sampleValues (o .sample) = a .steps .filled ∙ ap (λ (l : List ℤ). l ++ drop (length l) (take 8 (drop 1 places))) (o .same) ∙ rw (drop-end (take 8 (drop 1 places)) eight) (append-nil (sampleValues (o .sample))) in
+      record {
+        short = enough;
+        stepped = λ _ _. record {
+          step = Next (o .sample) (a .position);
+          steps = o .steps;
+          result = refl;
+          numbers = nine-places places room k ∙ ap (λ (l : List ℤ). pos 1 ∷ (l ++ drop 9 places)) v;
+          position = a .numbers (omega arith);
+          again = λ z w c. let i : a .position ≡ w = cc in a .again (omega arith) ∙ i;
+        };
+      }
 
 -- ---- the next samples
 
@@ -141,18 +181,17 @@ short-steps s stepper room places h = record {
   filled = λ a b. absurd (⊎-elim (λ l. omega arith) (λ l. omega arith) h);
 }
 
-pub filled-steps : (s stepper : List ℕ) (room : List ℤ) (places : List ℕ) (r : ℕ) (p : Stepper) (y : Reached) (after : List ℕ) (room′ : List ℤ) (placed : List ℕ)
-    → p ≡ stepperIn stepper → StepsInto s p room y room′ → 29 ≤ length stepper → 1 ≤ length places → placed ≡ set places 0 (y .count) → HandsPosition (y .position) stepper r after
-    → HandsSteps s stepper room places r after room′ placed
-unfolding stepperNumbers filledRoom
-filled-steps s stepper room places r p y after room′ placed d g j k f h = record {
-  short = λ o. absurd (⊎-elim (λ l. omega arith) (λ l. omega arith) o);
+pub filled-steps : (s stepper : List ℕ) (room : List ℤ) (places : List ℕ) (n : ℕ) (after : List ℕ) (room′ : List ℤ) (placed : List ℕ) → Advanced s stepper room 0 n after room′
+    → 29 ≤ length stepper → 1 ≤ length places → placed ≡ set places 0 n → HandsSteps s stepper room places 0 after room′ placed
+unfolding filledRoom
+filled-steps s stepper room places n after room′ placed a j k e = record {
+  short = λ h. absurd (⊎-elim (λ l. omega arith) (λ l. omega arith) h);
   filled = λ _ _. record {
-    reached = y;
-    steps = rw d at g;
-    result = handed-none (stepperNumbers (y .position)) stepper r after (h .handed) j;
-    count = f ∙ sets-eq (y .count ∷ []) places 0 k;
-    numbers = handed-all (stepperNumbers (y .position)) stepper r after (h .handed) j;
-    again = h .again j;
+    reached = record { count = n; position = a .position };
+    steps = a .steps;
+    result = refl;
+    count = e ∙ sets-eq (n ∷ []) places 0 k;
+    numbers = a .numbers (omega arith);
+    again = a .again (omega arith);
   };
 }

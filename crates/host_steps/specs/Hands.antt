@@ -35,6 +35,15 @@ pub record HandsStart (s : List ℕ) (w : Source) (id n : ℕ) (stepper : List �
   -- what then stands in the places is the position
   pub again : (p : Stepper) → start ≡ At p → 29 ≤ length stepper → stepperIn after ≡ p
 
+-- ---- between the crate's own functions: the samples in the room, r of them, and the position put back where they are at least that many
+
+pub record Advanced (s stepper : List ℕ) (room : List ℤ) (least r : ℕ) (stepper′ : List ℕ) (room′ : List ℤ) : Type 0 where
+  pub position : Stepper
+  pub steps : StepsInto s (stepperIn stepper) room (record { count = r; position = position }) room′
+  pub kept : r < least → stepper′ ≡ stepper
+  pub numbers : least ≤ r → stepper′ ≡ filledRoom (stepperNumbers position) stepper
+  pub again : least ≤ r → stepperIn stepper′ ≡ position
+
 -- ---- a step
 
 -- the position past the sample; done leaves the position as it was

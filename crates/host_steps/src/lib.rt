@@ -9,7 +9,9 @@ use stepping::Stepper;
 use steps_into::SAMPLE;
 use steps_into::steps_into;
 use structure::source::Source;
-ghost use Rattle.host_steps.specs.Hands.{HandsStart, HandsStep, HandsSteps};
+ghost use Prim.Native.Nat.{_≤_};
+ghost use lib.ListN.{length};
+ghost use Rattle.host_steps.specs.Hands.{HandsStart, Advanced, HandsStep, HandsSteps};
 
 // A position before sample n of a track, in 29 places.
 pub fn hand_step_start(lent: &[u8], source: Source, id: u32, n: u32, stepper: &mut [u64]) -> u32
@@ -19,6 +21,27 @@ pub fn hand_step_start(lent: &[u8], source: Source, id: u32, n: u32, stepper: &m
         Start::At(p) => hand_position(p, stepper),
         Start::Refused(r) => hand(r, &[0u64; 29], stepper),
     }
+}
+
+// The next samples in the room, and the position past them in the first places of `stepper` where they are at least that many; answers how many.
+// Both functions below go by it, so that a position is read, moved and written with no copy between. The test is theirs too: made here, no number
+// is tested by itself.
+fn advance(lent: &[u8], stepper: &mut [u64], room: &mut [i64], least: usize) -> usize
+    requires { ⌜ 29 ≤ length (now stepper) ⌝ }
+    ensures { λ r. ⌜ Advanced (now (lent .entry)) (now (stepper .entry)) (now (room .entry)) least r (now (stepper .exit)) (now (room .exit)) ⌝ }
+{
+    if stepper.len() < NUMBERS {
+        return 0;
+    }
+    let from = position_in(&stepper[..]);
+    let reached = steps_into(lent, from, room);
+    let n = reached.count;
+    if n < least {
+        return n;
+    }
+    let position = reached.position;
+    hand_position(position, stepper);
+    n
 }
 
 // The next sample in nine places, 1 and its eight values, and the position past it; or nine zeros where there is none.
@@ -31,20 +54,12 @@ pub fn hand_sample_step(lent: &[u8], stepper: &mut [u64], places: &mut [i64]) ->
     if places.len() <= SAMPLE {
         return 16;
     }
-    let from = position_in(&stepper[..]);
-    let mut v = [0i64; 8];
-    let reached = steps_into(lent, from, &mut v);
-    let n = reached.count;
+    let n = advance(lent, stepper, &mut places[1..9], 1);
     if n == 0 {
         return hand_signed(0, &[0i64; 9], places);
     }
-    hand_signed(
-        0,
-        &[1, v[0], v[1], v[2], v[3], v[4], v[5], v[6], v[7]],
-        places,
-    );
-    let next = reached.position;
-    hand_position(next, stepper)
+    places[0] = 1;
+    0
 }
 
 // The next samples in the room, eight values each, as `steps_into` has them; in one place how many, and the position past them.
@@ -62,9 +77,7 @@ pub fn hand_sample_steps(
     if places.len() < 1 {
         return 16;
     }
-    let from = position_in(&stepper[..]);
-    let reached = steps_into(lent, from, room);
-    let position = reached.position;
-    places[0] = reached.count as u64;
-    hand_position(position, stepper)
+    let n = advance(lent, stepper, room, 0);
+    places[0] = n as u64;
+    0
 }

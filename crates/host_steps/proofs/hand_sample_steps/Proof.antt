@@ -13,17 +13,11 @@ returns c = short-steps _ _ _ _ (inl (c .if1 .taken))
 returns-2 : tie.Need-returns-2
 returns-2 c = short-steps _ _ _ _ (inr (c .if2 .taken))
 
-position-in-requires : tie.Need-position-in-requires
-position-in-requires c κs = search needs
-
-steps-into-requires : tie.Need-steps-into-requires
-steps-into-requires c κs = search needs
+advance-requires : tie.Need-advance-requires
+advance-requires c κs = search needs
 
 slice-write-places : tie.Need-slice-write-places
 slice-write-places c = search needs
-
-hand-position-requires : tie.Need-hand-position-requires
-hand-position-requires c κs = search needs
 
 same-length : tie.Need-same-length
 same-length c = search needs
@@ -35,9 +29,7 @@ same-length-3 : tie.Need-same-length-3
 same-length-3 c = search needs
 
 returns-3 : tie.Need-returns-3
-returns-3 c =
-    let i = c .before .before .before .before .before .before in
-    filled-steps _ _ _ _ _ _ _ _ _ _ (i .before .before .position-in .ensures) (i .steps-into .ensures) (i .before .before .before .before .before .if1 .left) (i .before .before .before .before .if2 .left) refl (c .before .before .hand-position .ensures)
+returns-3 c = filled-steps _ _ _ _ _ _ _ _ (c .before .before .before .advance .ensures) (c .before .before .before .before .before .before .before .if1 .left) (c .before .before .before .before .before .before .if2 .left) refl
 
 pub hand-sample-steps-spec : {M : Type 1} → statement M
 hand-sample-steps-spec =
@@ -45,10 +37,8 @@ hand-sample-steps-spec =
     (tie.spec
     returns
     returns-2
-    position-in-requires
-    steps-into-requires
+    advance-requires
     slice-write-places
-    hand-position-requires
     same-length
     same-length-2
     same-length-3
