@@ -1,6 +1,6 @@
 -- The handle from what the code has of the track, and the answers by a handle from what the tables at its parts say.
 -- Assumes nothing.
-use Prim.Native.Nat.{ℕ, _<_}
+use Prim.Native.Nat.{ℕ}
 use mathlib.Core.Path.{_≡_, refl, sym, ap, _∙_}
 use mathlib.Core.List.{List}
 use Rattle.bigendian.specs.BigEndian.{u32At}
@@ -23,7 +23,7 @@ use Rattle.time_questions.specs.Times.{toAnswer}
 use Rattle.time_questions.specs.declared.NumberAnswer.{NumberAnswer}
 use Rattle.time_questions.specs.declared.TimeAnswer.{TimeAnswer}
 use Rattle.time_questions.proofs.Mapping.{number-samples, number-15, number-few, is-mapped, time-15, time-low}
-use Rattle.opened.specs.Opened.{Opens, OpenAnswers, SampleBy, NumberBy, TimeBy}
+use Rattle.opened.specs.Opened.{OpenAnswers, SampleBy, NumberBy, TimeBy}
 use Rattle.opened.specs.declared.Opened.{Opened}
 use Rattle.opened.specs.declared.Opening.the-variants.{Track, Refused}
 
@@ -66,6 +66,7 @@ by-sample s h n a y c z o k r ea ey ec ez eo ek e =
       right = λ w id b.
           let t = b .tables in
           rw (e, ea ∙ t .stts, ey ∙ t .ctts, ec ∙ t .stsc, ez ∙ t .stsz, eo ∙ t .offsets, ek ∙ t .stss, b .samples, b .chunks) (said-samples s w id n (b .asked));
+      said = e ∙ rw (ea, ey, ec, ez, eo, ek);
       elsewhere = λ i q. said-15 a y c z o k (h .samples) (h .chunks) n i (sym e ∙ q);
       few = λ x q. let g = said-few a y c z o k (h .samples) (h .chunks) n x (sym e ∙ q) in (g .0, g .1);
       low = λ x q. let g = said-few a y c z o k (h .samples) (h .chunks) n x (sym e ∙ q) in (g .2, g .3, g .4);
@@ -75,6 +76,7 @@ pub by-number : (s : List ℕ) (h : Opened) (t : MediaTime) (a : List ℕ) (r : 
 by-number s h t a r ea e =
     record {
       right = λ w id b. rw (e, ea ∙ b .tables .stts, b .samples) (number-samples s w id t (b .asked));
+      said = e ∙ rw ea;
       elsewhere = λ i q. number-15 a (h .samples) t i (sym e ∙ q);
       few = λ n k q. number-few a (h .samples) t n k (sym e ∙ q);
     }
@@ -84,6 +86,7 @@ by-time s h t l r el e =
     record {
       right = λ w id b.
           is-mapped s (moovOf s) (trackAsked s id) l w id t (askRefusal s w id) (h .movie) (h .scale) (h .total) refl (b .asked) refl refl (b .movie) (el ∙ b .elst) (b .scale) (b .total) r e;
+      said = e ∙ rw el;
       elsewhere = λ i q. time-15 _ i (sym e ∙ q);
       low = λ m q. time-low (h .scale) (h .movie) (h .total) m l t (sym e ∙ q);
     }

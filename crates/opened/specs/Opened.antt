@@ -6,15 +6,18 @@ use Rattle.structure.specs.declared.source.Source.{Source}
 use Rattle.structure.specs.Track.{scaleOf, elstOf, samplesOf, chunksOf}
 use Rattle.structure.specs.Movie.{moovOf, movieScale}
 use Rattle.track.specs.Refusals.{totalIn}
+use Rattle.edits.specs.Edits.{mediaAt}
 use Rattle.edits.specs.declared.MediaTime.{MediaTime}
 use Rattle.edits.specs.declared.MovieTime.{MovieTime}
 use Rattle.places.specs.Places.{partIn, AreTables}
 use Rattle.questions.specs.Asked.{askRefusal, trackAsked}
+use Rattle.questions.specs.Said.{sampleSaid}
 use Rattle.questions.specs.Samples.{Samples}
 use Rattle.questions.specs.declared.samples.Sample.{Sample}
 use Rattle.questions.specs.declared.samples.SampleAnswer.{SampleAnswer}
 use Rattle.questions.specs.declared.samples.SampleAnswer.the-variants as sample
-use Rattle.time_questions.specs.Times.{SampleAt, Maps}
+use Rattle.time_questions.specs.Said.{numberSaid}
+use Rattle.time_questions.specs.Times.{SampleAt, toAnswer, Maps}
 use Rattle.time_questions.specs.declared.NumberAnswer.{NumberAnswer}
 use Rattle.time_questions.specs.declared.NumberAnswer.the-variants as number
 use Rattle.time_questions.specs.declared.TimeAnswer.{TimeAnswer}
@@ -54,20 +57,26 @@ pub record OpenAnswers (s : List ℕ) (w : Source) (id : ℕ) (r : Opening) : Ty
   pub opened : askRefusal s w id ≡ 0 → HandleOf s w id r
 
 -- ---- by a handle: the question's own promise where the handle is of the film lent (`right`). Of a handle of another film, or of no film, the
--- answer may differ from one correct program to another; of it holds what the other fields say
+-- answer may differ from one correct program to another; this one's is what the bytes at the handle's places say (`said`), of which the other
+-- fields hold
 
 pub record SampleBy (s : List ℕ) (h : Opened) (n : ℕ) (r : SampleAnswer) : Type 0 where
   pub right : (w : Source) (id : ℕ) → Opens s w id h → Samples s w id n r
+  pub said : r
+      ≡ sampleSaid (partIn s (h .tables .stts)) (partIn s (h .tables .ctts)) (partIn s (h .tables .stsc)) (partIn s (h .tables .stsz))
+      (partIn s (h .tables .offsets)) (partIn s (h .tables .stss)) (h .samples) (h .chunks) n
   pub elsewhere : (k : ℕ) → r ≡ sample.Refused k → k ≡ 15
   pub few : (x : Sample) → r ≡ sample.Found x → (0 < n) × (n ≤ h .samples)
   pub low : (x : Sample) → r ≡ sample.Found x → (x .decode < 2 ^ 32) × (x .chunk ≤ h .chunks) × (x .offset < 2 ^ 63)
 
 pub record NumberBy (s : List ℕ) (h : Opened) (t : MediaTime) (r : NumberAnswer) : Type 0 where
   pub right : (w : Source) (id : ℕ) → Opens s w id h → SampleAt s w id t r
+  pub said : r ≡ numberSaid (partIn s (h .tables .stts)) (h .samples) t
   pub elsewhere : (k : ℕ) → r ≡ number.Refused k → k ≡ 15
   pub few : (n entry : ℕ) → r ≡ number.Number n entry → (0 < n) × (n ≤ h .samples)
 
 pub record TimeBy (s : List ℕ) (h : Opened) (t : MovieTime) (r : TimeAnswer) : Type 0 where
   pub right : (w : Source) (id : ℕ) → Opens s w id h → Maps s w id t r
+  pub said : r ≡ toAnswer (mediaAt (h .scale) (h .movie) (h .total) (partIn s (h .elst)) t)
   pub elsewhere : (k : ℕ) → r ≡ time.NotMapped k → k ≡ 15
   pub low : (m : MediaTime) → r ≡ time.Shown m → m .0 < h .total
