@@ -90,9 +90,9 @@ loop-again c =
       at-next _ t (l .at) n (l .inv .0) (c .before .before .before .before .size-in .ensures .1),
       ⊎-elim
           (λ w.
-              let k = w .5 .ensures ∙ w .2 .ensures .body in
-              walk-here _ _ _ t n e (l .refusal) (l .traks) (l .inv .1) h _ _ _ _ _ (sym u ∙ w .0 .taken) (k ∙ w .1 .ensures ∙ ap bodyOf f) (rw k (w .2 .ensures)) (w .6 .ensures)
-              (w .9 ∙ w .7 .ensures) (w .10 ∙ w .8 .ensures))
+          let k = w .5 .ensures ∙ w .2 .ensures .body in
+          walk-here _ _ _ t n e (l .refusal) (l .traks) (l .inv .1) h _ _ _ _ _ (sym u ∙ w .0 .taken) (k ∙ w .1 .ensures ∙ ap bodyOf f) (rw k (w .2 .ensures)) (w .6 .ensures)
+          (w .9 ∙ w .7 .ensures) (w .10 ∙ w .8 .ensures))
           (λ w. walk-next _ _ _ t n e (l .refusal) (l .traks) (l .inv .1) h _ _ (λ q. w .0 .left (u ∙ q)) (w .1) (w .2))
           (c .before .if2 .came),
     )

@@ -15,7 +15,7 @@ use Rattle.track_list.proofs.put_lines.Statement.{statement}
 use Rattle.track_list.proofs.put_lines.Tie as tie
 
 abbrev Inv-loop : tie.InvT-loop
-Inv-loop lent traks room₀ count i₀ room i = 
+Inv-loop lent traks room₀ count i₀ room i =
     (i ≤ count)
     × TotalsFit (drop i (tracksOf (moovOf lent)))
     × (i * 8 + 8 * length (drop i (tracksOf (moovOf lent))) ≤ length room)
