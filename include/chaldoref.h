@@ -27,11 +27,12 @@
  *   stepper      a position in a track, which steps read and move on
  *   handle       a track that is opened once: chaldoref_open writes it, as places, and
  *                questions read it
- *   index        where in the tables of an opened track some of its samples are:
- *                chaldoref_index writes it, as room, and lookups read it
+ *   index        checkpoints of the tables of an opened track: chaldoref_index
+ *                writes it, as room, and lookups read it
  *
  * Places fewer than a function names are refused 16 as room is, and then nothing
- * at all is written. The order of refusals is: the file's (1 to 13 and 19, which is
+ * at all is written; so is a stepper or a handle of too few numbers, before anything
+ * else is looked at. The order of refusals is: the file's (1 to 13 and 19, which is
  * judged after 11 and before 12), 14, 15 or 18, then 16; in reading a slip 17, then
  * 16. Of the file's, 11 is the slip writer's alone: every other function accepts a
  * film whose stored duration is not the total of its samples' durations.
@@ -145,7 +146,7 @@ enum {
     CHALDOREF_OPENED_NUMBERS = 19
 };
 
-/* From one checkpoint of an index to the next are as many samples, and each has as many numbers. */
+/* An index has as many numbers for each so many samples begun: a checkpoint of each of three tables. */
 enum {
     CHALDOREF_CHECKPOINT_SAMPLES = 64,
     CHALDOREF_CHECKPOINT_NUMBERS = 6
@@ -324,9 +325,9 @@ uint32_t chaldoref_opened_stretch(
     uint64_t *places, size_t places_len);
 
 /*
- * The index of a track that was opened, with which a lookup takes no more time late in a track
- * than at its beginning: it starts at the checkpoint before what is asked, and not at the first
- * entry. Refusal 16, whatever the bytes and the handle.
+ * The index of a track that was opened: a lookup by it starts at the checkpoint before what is asked
+ * and not at the first entry, so that it goes over at most 64 entries of each table, and over the
+ * sizes of the samples before it in its chunk. Refusal 16, whatever the bytes and the handle.
  * index: as many numbers as chaldoref_index_numbers says of the track's samples, which the caller
  *        keeps. As a handle they hold no pointer, and what each of them is may change with the
  *        version. A longer one is filled so far and left from there on.

@@ -1,5 +1,5 @@
-// The index of a track that was opened, in lent room: filled once, it spares each lookup the entries before the answer. It has six numbers for each 64 samples
-// begun. `lent` and `handle` are those of the opening.
+// The index of a track that was opened, in lent room: filled once, it lets each lookup start at the checkpoint before its answer. It has six numbers for each 64
+// samples begun. `lent` and `handle` are those of the opening.
 use host_index::hand_index;
 use host_index::hand_indexed_sample;
 use host_index::hand_indexed_sample_at;

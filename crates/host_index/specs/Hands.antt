@@ -36,11 +36,13 @@ pub record HandsIndex (s handle index places : List ℕ) (r : ℕ) (after filled
 
 abbrev pub HandsIndexedSample : List ℕ → List ℕ → List ℕ → ℕ → List ℤ → ℕ → List ℤ → Type 0
 HandsIndexedSample s handle index n places r after =
-    HandsBy {X = SampleAnswer} handle (SampleByIndex s (openedIn handle) index n) (λ a. SignedAnswers (sampleNumbers a) places r after) places r after
+    HandsBy {X = SampleAnswer} handle (SampleByIndex s (openedIn handle) index n)
+    (λ a. SignedAnswers (sampleNumbers a) places r after) places r after
 
 abbrev pub HandsIndexedNumber : List ℕ → List ℕ → List ℕ → ℕ → List ℕ → ℕ → List ℕ → Type 0
 HandsIndexedNumber s handle index t places r after =
-    HandsBy {X = NumberAnswer} handle (NumberByIndex s (openedIn handle) index (media t)) (λ a. Answers (numberNumbers a) places r after) places r after
+    HandsBy {X = NumberAnswer} handle (NumberByIndex s (openedIn handle) index (media t))
+    (λ a. Answers (numberNumbers a) places r after) places r after
 
 -- ---- the three together
 

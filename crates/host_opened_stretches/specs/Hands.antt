@@ -18,8 +18,8 @@ use Rattle.host_stretches.specs.Numbers.{ofStretch}
 abbrev pub ofStretchBy : List ℕ → Opened → ℕ → ℕ → List ℕ → List ℕ
 ofStretchBy s h a b room = stretchNumbers (byAnswer s h (media a) (media b) room)
 
--- the promise of `hand_opened_stretch`: too few numbers of the handle are refused 16, and nothing is written; else what the question itself hands over,
--- where the handle is of the film lent (`right`), and of any film what the bytes at the handle's places say
+-- the promise of `hand_opened_stretch`: too few numbers of the handle are refused 16, and nothing is written; else what the question itself hands
+-- over, where the handle is of the film lent (`right`), and of any film what the bytes at the handle's places say
 pub record HandsStretch (s handle : List ℕ) (a b : ℕ) (room places : List ℕ) (r : ℕ) (filled after : List ℕ) : Type 0 where
   pub short : length handle < 19 → (r ≡ 16) × (filled ≡ room) × (after ≡ places)
   pub right : 19 ≤ length handle → (w : Source) (id : ℕ) → Opens s w id (openedIn handle)

@@ -1,4 +1,5 @@
--- A stretch by the handle of a track: exact for the film and track that it was opened in, and of any other what the bytes at the handle's places say.
+-- A stretch by the handle of a track: exact for the film and track that it was opened in, and of any other what the bytes at the handle's
+-- places say.
 use Prim.Native.Nat.{ℕ}
 use mathlib.Core.Path.{_≡_}
 use mathlib.Core.List.{List}

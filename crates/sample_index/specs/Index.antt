@@ -1,5 +1,5 @@
--- The index of a track, and the questions put by a handle and it: exact for the film and track that was opened and the index that was filled of them, and
--- safe for any other.
+-- The index of a track, and the questions put by a handle and it: exact for the film and track that was opened and the index that was filled of
+-- them, and safe for any other.
 use Prim.Native.Nat.{ℕ, _+_, _*_, _/_, _≤_, _<_, _^_}
 use mathlib.Core.Path.{_≡_}
 use mathlib.Core.List.{List, _++_}
@@ -47,8 +47,8 @@ pub record IndexInto (s : List ℕ) (h : Opened) (room : List ℕ) (r : ℕ) (af
 abbrev pub Indexes : List ℕ → Opened → List ℕ → Type 0
 Indexes s h index = take (indexLength h) index ≡ indexNumbers s h
 
--- the question's own promise where the handle is of the film lent and the index is theirs (`right`); too short an index is refused 16. Of any other the
--- answer may differ from one correct program to another; of it holds what the other fields say
+-- the question's own promise where the handle is of the film lent and the index is theirs (`right`); too short an index is refused 16. Of any
+-- other the answer may differ from one correct program to another; of it holds what the other fields say
 pub record SampleByIndex (s : List ℕ) (h : Opened) (index : List ℕ) (n : ℕ) (r : SampleAnswer) : Type 0 where
   pub right : (w : Source) (id : ℕ) → Opens s w id h → Indexes s h index → Samples s w id n r
   pub short : length index < indexLength h → r ≡ sample.Refused 16

@@ -32,6 +32,7 @@ pub record Points (s : List ℕ) (h : Opened) (index : List ℕ) (count : ℕ) :
 
 pub record LookedUp (s : List ℕ) (h : Opened) (index : List ℕ) (count k : ℕ) (r : SampleAnswer) : Type 0 where
   pub right : Points s h index count
-      → r ≡ saidIn (partIn s (h .tables .stts)) (partIn s (h .tables .ctts)) (partIn s (h .tables .stsc)) (partIn s (h .tables .stsz)) (partIn s (h .tables .offsets)) (partIn s (h .tables .stss)) (h .chunks) k
+      → r ≡ saidIn (partIn s (h .tables .stts)) (partIn s (h .tables .ctts)) (partIn s (h .tables .stsc)) (partIn s (h .tables .stsz))
+      (partIn s (h .tables .offsets)) (partIn s (h .tables .stss)) (h .chunks) k
   pub elsewhere : (i : ℕ) → r ≡ Refused i → i ≡ 15
   pub low : (x : Sample) → r ≡ Found x → (x .decode < 2 ^ 32) × (x .chunk ≤ h .chunks) × (x .offset < 2 ^ 63)

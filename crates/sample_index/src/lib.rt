@@ -1,5 +1,5 @@
-// An index of a track in lent room, filled once: the checkpoints of stts, ctts and stsc, one for each 64 samples begun. A lookup by it does not go over the
-// entries before its answer.
+// An index of a track in lent room, filled once: the checkpoints of stts, ctts and stsc, one for each 64 samples begun. A lookup by it starts at the
+// checkpoint before its answer.
 use chunk_lookups::locate_from;
 use edits::MediaTime;
 use opened::Opened;

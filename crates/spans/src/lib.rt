@@ -1,4 +1,4 @@
-// The samples of a stretch of a track, and their byte ranges in lent numbers of 32 or 64 bits.
+// The samples of a stretch of a track, and their byte ranges in lent numbers of 32 bits.
 use bigendian::u32_at;
 use pairs::count_pairs;
 use places::part_of;

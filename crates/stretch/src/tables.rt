@@ -1,4 +1,4 @@
-// A stretch by the bytes of its track's tables, whatever these are: the question and the handle both go by it.
+// A stretch by the bytes of its track's tables, whatever these are: the question in numbers of 64 bits and the handle both go by it.
 use super::StretchAnswer;
 use edits::MediaTime;
 use pair_checks::pairs_fit;
