@@ -1,4 +1,5 @@
--- The traks of a movie that has no more than 16, and the place of one among them. These need not be believed: they are between the crates' own functions.
+-- The traks of a movie that has no more than 16, and the place of one among them. These need not be believed: they are between the crates' own
+-- functions.
 use Prim.Native.Nat.{ℕ, _≤_, _<_}
 use mathlib.Core.Path.{_≡_}
 use mathlib.Core.List.{List, [], map}

@@ -47,7 +47,8 @@ pub record Putting (b : ℕ) (stsc stsz offsets : List ℕ) (chunks i j places :
 
 -- the pairs of the chunks from a place on
 abbrev pub pairsAhead : List ℕ → List ℕ → List ℕ → ℕ → ℕ → ℕ → ChunkPosition → List Pair
-pairsAhead stsc stsz offsets chunks i j p = touched i j (p .begin) (ahead stsc chunks (p .cursor)) (drop (p .chunk) (chunkOffsets offsets)) (sizes stsz)
+pairsAhead stsc stsz offsets chunks i j p =
+    touched i j (p .begin) (ahead stsc chunks (p .cursor)) (drop (p .chunk) (chunkOffsets offsets)) (sizes stsz)
 
 -- a place before a chunk, if one is ahead, whose samples begin at the place's own; sample i does not lie behind that chunk
 pub record At (stsc : List ℕ) (chunks i : ℕ) (p : ChunkPosition) : Type 0 where

@@ -15,7 +15,8 @@ use Rattle.structure.specs.declared.source.Source.{Source}
 use Rattle.leaf_checks.specs.LeafChecks.{wrongVersion, wrongSize, wrongTrackSize}
 use Rattle.shape.specs.Refusals.{fileRows}
 
--- what the walk over the tree finds: atoms fill every body of the file; the read leaves of a movie, from the body of its moov, have their version, and their size
+-- what the walk over the tree finds: atoms fill every body of the file; the read leaves of a movie, from the body of its moov, have their
+-- version, and their size
 abbrev pub filledTree : List ℕ → Bool
 filledTree s = everywhere filled 6 file s
 
