@@ -11,7 +11,7 @@ use lib.Dec.{ltb}
 use lib.ListN.{length, getD, length-drop}
 use Rattle.lists.specs.Lists.{sum, before, holder, Holds}
 use Rattle.lists.proofs.Places.{before-suc, before-all, holder-holds, holder-only, holds-below}
-use Rattle.words.specs.Words.{chunkOffsets}
+use Rattle.words.specs.Words.{sizes, chunkOffsets}
 use Rattle.chunks.specs.Chunks.{perChunk, descriptionIds, offsetOf}
 use Rattle.chunks.specs.Computed.{locatedIn, locatedOffset}
 use Rattle.chunks.specs.Cursors.{ahead, Valid, Stands, readied, past, sought}
@@ -21,7 +21,7 @@ use Rattle.chunks.specs.declared.Sought.{Sought}
 use Rattle.chunks.proofs.Cursors.{ready-same, ready-valid, past-valid, no-samples, stands-at}
 use Rattle.chunks.proofs.Dealt.{first-chunk, first-offset, next-offset}
 use Rattle.chunks.proofs.Finding.{Finds, finds, located-some, offset-located}
-use Rattle.positions.specs.Dealing.{DealtAt, begun, readiedDealt, mayDeal, aheadOf, pastDealt}
+use Rattle.positions.specs.Dealing.{DealtAt, begun, readiedDealt, mayDeal, aheadOf, pastDealt, soughtDealt}
 use Rattle.positions.specs.declared.dealt.Dealt.{Dealt}
 use Rattle.positions.specs.declared.dealt.Ahead.the-variants.{At, End}
 
@@ -146,7 +146,7 @@ module _ (stsc o zs : List ℕ) (chunks k : ℕ) (h : k < sum (perChunk stsc chu
   sought-in : Holds (perChunk stsc chunks) k (r .chunk)
   sought-in = rw (f .place) (holder-holds (perChunk stsc chunks) k h)
 
-  pub sought-low : length (perChunk stsc chunks) ≤ chunks → r .chunk < chunks
+  sought-low : length (perChunk stsc chunks) ≤ chunks → r .chunk < chunks
   sought-low l = omega (arith, holds-below (perChunk stsc chunks) k (r .chunk) sought-in .1)
 
   sought-remains : 0 < r .cursor .remaining
@@ -160,15 +160,10 @@ module _ (stsc o zs : List ℕ) (chunks k : ℕ) (h : k < sum (perChunk stsc chu
   within-is : r .within ≡ k - before (perChunk stsc chunks) (r .chunk)
   within-is = f .start ∙ ap (λ (i : ℕ). k - before (perChunk stsc chunks) i) (sym (f .place))
 
-  pub sought-within : r .within < r .cursor .per
-  sought-within =
-      let s = stands-at stsc chunks (r .cursor) sought-remains (f .valid) in
-      omega (arith, s .0, within-is, sought-in .from, sought-in .to)
-
-  pub dealt-sought : offsetOf (perChunk stsc chunks) (chunkOffsets o) zs k < 2 ^ 63 → (c : ChunkCursor) (off : ℕ) → c ≡ past 1 (r .cursor)
+  sought-at : offsetOf (perChunk stsc chunks) (chunkOffsets o) zs k < 2 ^ 63 → (c : ChunkCursor) (off : ℕ) → c ≡ past 1 (r .cursor)
       → off ≡ min (locatedOffset (chunkOffsets o) zs (record { chunk = r .chunk; within = r .within; description = r .cursor .description }) k) 18446744073709551615
       → DealtAt stsc chunks (chunkOffsets o) zs k (record { cursor = c; chunk = r .chunk + 1; rest = r .cursor .per - r .within; offset = off })
-  dealt-sought l c off a b =
+  sought-at l c off a b =
       let ps = perChunk stsc chunks in
       let s = stands-at stsc chunks (r .cursor) sought-remains (f .valid) in
       let g = located-some r f (λ z. omega (arith, sought-remains)) in
@@ -182,3 +177,20 @@ module _ (stsc o zs : List ℕ) (chunks k : ℕ) (h : k < sum (perChunk stsc chu
         offset = λ z. b ∙ ap (λ (n : ℕ). min n 18446744073709551615) w ∙ omega arith;
         description = λ z. sym (s .1) ∙ ap (λ (i : ℕ). getD (descriptionIds stsc chunks) i 0) (f .place);
       })
+
+module _ (stsc z o : List ℕ) (chunks k : ℕ) where
+  -- from what the code has
+  pub seek-made : (r : Sought) (c : ChunkCursor) (chunk rest off : ℕ) → r ≡ sought stsc chunks k → c ≡ past 1 (r .cursor) → chunk ≡ min (r .chunk + 1) chunks → rest ≡ r .cursor .per - r .within
+      → off ≡ min (locatedOffset (chunkOffsets o) (sizes z) (record { chunk = r .chunk; within = r .within; description = r .cursor .description }) k) 18446744073709551615
+      → _≡_ {A = Dealt} (record { cursor = c; chunk = chunk; rest = rest; offset = off }) (soughtDealt stsc z o chunks k)
+  unfolding soughtDealt
+  seek-made r c chunk rest off e a b d g = rw (a, b, d, g, e)
+
+  -- where it is dealt to one of the chunks
+  pub dealt-sought : k < sum (perChunk stsc chunks) → length (perChunk stsc chunks) ≤ chunks → offsetOf (perChunk stsc chunks) (chunkOffsets o) (sizes z) k < 2 ^ 63
+      → DealtAt stsc chunks (chunkOffsets o) (sizes z) k (soughtDealt stsc z o chunks k)
+  unfolding soughtDealt
+  dealt-sought h l low =
+      let r = sought stsc chunks k in
+      let m : min (r .chunk + 1) chunks ≡ r .chunk + 1 = omega (arith, sought-low stsc o (sizes z) chunks k h r refl l) in
+      rw m (sought-at stsc o (sizes z) chunks k h r refl low _ _ refl refl)

@@ -1,5 +1,5 @@
 -- A place in the chunks before a sample.
-use Prim.Native.Nat.{ℕ, suc, _+_, _-_, _<_}
+use Prim.Native.Nat.{ℕ, suc, _+_, _-_, _<_, min}
 use mathlib.Core.Path.{_≡_}
 use mathlib.Core.Bool.{Bool, cond, _&&_}
 use mathlib.Core.List.{List}
@@ -9,9 +9,11 @@ use Rattle.bigendian.specs.BigEndian.{u32At}
 use Rattle.atoms.specs.Atoms.{kindOf}
 use Rattle.atoms.specs.Kinds.{co64}
 use Rattle.lists.specs.Lists.{before, holder}
-use Rattle.words.specs.Words.{chunkOffsets}
+use Rattle.words.specs.Words.{sizes, chunkOffsets}
 use Rattle.chunks.specs.Chunks.{perChunk, descriptionIds, offsetOf}
-use Rattle.chunks.specs.Cursors.{Valid, readied, past}
+use Rattle.chunks.specs.Computed.{locatedOffset}
+use Rattle.chunks.specs.Cursors.{Valid, readied, past, sought}
+use Rattle.chunks.specs.declared.Located.{Located}
 use Rattle.positions.specs.declared.dealt.Dealt.{Dealt}
 use Rattle.positions.specs.declared.dealt.OffsetHead.{OffsetHead}
 use Rattle.positions.specs.declared.dealt.Ahead.{Ahead}
@@ -26,7 +28,7 @@ pub record DealtAt (stsc : List ℕ) (chunks : ℕ) (cs zs : List ℕ) (k : ℕ)
   pub offset : 0 < d .rest → d .offset ≡ offsetOf (perChunk stsc chunks) cs zs k
   pub description : 0 < d .rest → d .cursor .description ≡ getD (descriptionIds stsc chunks) (holder (perChunk stsc chunks) k) 0
 
--- ---- as the code has it. This need not be believed: `dealt-readied` and `dealt-moves` of `proofs/Dealing.antt` are what callers go by
+-- ---- as the code has it. This need not be believed: `dealt-sought`, `dealt-readied` and `dealt-moves` of `proofs/Dealing.antt` are what callers go by
 
 -- what the head of the table of offsets says
 abbrev pub offsetHead : List ℕ → OffsetHead
@@ -55,3 +57,15 @@ aheadOf d = cond (mayDeal d) (At d) End
 
 abbrev pub pastDealt : ℕ → Dealt → Dealt
 pastDealt size d = record { cursor = d .cursor; chunk = d .chunk; rest = d .rest - 1; offset = d .offset + size }
+
+-- before the sample with index k: its chunk begun, or all of them where it is in none; the offset is of 64 bits
+unfoldable pub soughtDealt : List ℕ → List ℕ → List ℕ → ℕ → ℕ → Dealt
+soughtDealt stsc stsz offsets chunks k =
+    let r = sought stsc chunks k in
+    let place : Located = record { chunk = r .chunk; within = r .within; description = r .cursor .description } in
+    record {
+      cursor = past 1 (r .cursor);
+      chunk = min (r .chunk + 1) chunks;
+      rest = r .cursor .per - r .within;
+      offset = min (locatedOffset (chunkOffsets offsets) (sizes stsz) place k) 18446744073709551615;
+    }

@@ -10,16 +10,14 @@ use chunks::seek;
 use words::HEAD;
 use words::is_long;
 use words::number_in;
+use words::span;
 ghost use mathlib.Core.Path.{_≡_};
-ghost use Prim.Native.Nat.{_+_, _^_, _≤_, _<_};
+ghost use Prim.Native.Nat.{_+_, _^_, _<_, min};
 ghost use lib.Dec.{eqb};
 ghost use lib.ListN.{length};
-ghost use Rattle.lists.specs.Lists.{sum};
 ghost use Rattle.atoms.specs.Atoms.{kindOf};
 ghost use Rattle.atoms.specs.Kinds.{co64};
-ghost use Rattle.words.specs.Words.{sizes, chunkOffsets};
-ghost use Rattle.chunks.specs.Chunks.{perChunk, offsetOf};
-ghost use Rattle.positions.specs.Dealing.{offsetHead, begun, readiedDealt, aheadOf, pastDealt, DealtAt};
+ghost use Rattle.positions.specs.Dealing.{offsetHead, begun, readiedDealt, aheadOf, pastDealt, soughtDealt};
 
 // How many chunks are begun; how many samples of the last of them are still to come, and the offset of the next of these; a cursor before the next chunk,
 // which still has the description ID of the one begun.
@@ -107,10 +105,20 @@ pub(crate) fn dealt_pass(d: Dealt, size: u32) -> Dealt
     }
 }
 
-// Before the sample with an index, which is dealt to one of the chunks.
+// How many chunks are begun with the one that has an index: no more than there are.
+fn begun_with(chunk: u64, chunks: u32) -> u32
+    ensures { λ r. ⌜ r ≡ min (chunk + 1) chunks ⌝ }
+{
+    if chunk < chunks as u64 {
+        return chunk as u32 + 1;
+    }
+    chunks
+}
+
+// Before the sample with an index, whatever the tables say of it.
 pub fn dealt_seek(stsc: &[u8], stsz: &[u8], offsets: &[u8], chunks: u32, index: u32) -> Dealt
-    requires { ⌜ (length (now stsc) < 2 ^ 32) × (length (perChunk (now stsc) chunks) ≤ chunks) × (index < sum (perChunk (now stsc) chunks)) × (offsetOf (perChunk (now stsc) chunks) (chunkOffsets (now offsets)) (sizes (now stsz)) index < 2 ^ 63) ⌝ }
-    ensures { λ r. ⌜ DealtAt (now (stsc .entry)) chunks (chunkOffsets (now (offsets .entry))) (sizes (now (stsz .entry))) index r ⌝ }
+    requires { ⌜ length (now stsc) < 2 ^ 32 ⌝ }
+    ensures { λ r. ⌜ r ≡ soughtDealt (now (stsc .entry)) (now (stsz .entry)) (now (offsets .entry)) chunks index ⌝ }
 {
     let found = seek(stsc, chunks, index);
     let c = found.cursor;
@@ -122,8 +130,8 @@ pub fn dealt_seek(stsc: &[u8], stsz: &[u8], offsets: &[u8], chunks: u32, index: 
     let cursor = pass(c, 1);
     Dealt {
         cursor,
-        chunk: found.chunk as u32 + 1,
-        rest: c.per - found.within,
+        chunk: begun_with(found.chunk, chunks),
+        rest: span(found.within, c.per),
         offset: located_offset(stsz, offsets, place, index),
     }
 }
