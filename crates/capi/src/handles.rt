@@ -4,11 +4,13 @@ use host_opened::hand_opened_media_time;
 use host_opened::hand_opened_sample;
 use host_opened::hand_opened_sample_at;
 use host_opened::hand_opening;
+use host_opened_steps::hand_opened_step_start;
 use host_opened_stretches::hand_opened_stretch;
 use structure::source::Source;
 ghost use Rattle.structure.specs.Source.{wholeFile, moovAlone};
 ghost use Rattle.host_opened.specs.Hands.{HandsOpening, HandsSample, HandsNumber, HandsTime};
 ghost use Rattle.host_opened_stretches.specs.Hands.{HandsStretch};
+ghost use Rattle.host_opened_steps.specs.Hands.{HandsStartBy};
 
 // Opens a track: its handle in 19 places.
 #[no_mangle]
@@ -78,4 +80,17 @@ pub extern "C" fn chaldoref_opened_stretch(
     ensures { λ r. ⌜ HandsStretch (now (lent .entry)) (now (handle .entry)) a b (now (room .entry)) (now (places .entry)) r (now (room .exit)) (now (places .exit)) ⌝ }
 {
     hand_opened_stretch(lent, handle, a, b, room, places)
+}
+
+// A position before sample n by a handle, in 29 places; `lent` is what the track was opened in, and what the steps are asked with.
+#[no_mangle]
+pub extern "C" fn chaldoref_opened_step_start(
+    lent: &[u8],
+    handle: &[u64],
+    n: u32,
+    stepper: &mut [u64],
+) -> u32
+    ensures { λ r. ⌜ HandsStartBy (now (lent .entry)) (now (handle .entry)) n (now (stepper .entry)) r (now (stepper .exit)) ⌝ }
+{
+    hand_opened_step_start(lent, handle, n, stepper)
 }

@@ -1,11 +1,12 @@
 // Stepping through a track, for programs in C and Rust. A position is 29 numbers in lent places: they are handed back as they are, with the bytes that the
 // position was started on.
+use host_step_starts::hand_step_start;
 use host_steps::hand_sample_step;
 use host_steps::hand_sample_steps;
-use host_steps::hand_step_start;
 use structure::source::Source;
 ghost use Rattle.structure.specs.Source.{wholeFile, moovAlone};
-ghost use Rattle.host_steps.specs.Hands.{HandsStart, HandsStep, HandsSteps};
+ghost use Rattle.host_step_starts.specs.Hands.{HandsStart};
+ghost use Rattle.host_steps.specs.Hands.{HandsStep, HandsSteps};
 
 // A position before sample n of a track, in 29 places.
 #[no_mangle]

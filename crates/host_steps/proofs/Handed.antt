@@ -10,15 +10,12 @@ use borrow.Rule.Slice.PartMut.{putMid, same-len-mid, drop-put}
 use lib.ListN.{length, take, drop, set, replicate, length-append, length-take, length-drop}
 use lib.Seq.{sets-eq, drop-length}
 use lib.IntN.{ℤ, pos}
-use Rattle.structure.specs.declared.source.Source.{Source}
 use Rattle.structure.specs.Rows.{orElse}
 use Rattle.movie.specs.Rooms.{noRoom, filledRoom, roomAfter}
 use Rattle.questions.specs.Samples.{sampleValues}
 use Rattle.questions.specs.declared.samples.Sample.{Sample}
-use Rattle.stepping.specs.Stepping.{startNumber, Starts, stepNumbers, Steps, Chain}
+use Rattle.stepping.specs.Stepping.{stepNumbers, Steps, Chain}
 use Rattle.stepping.specs.declared.Stepper.{Stepper}
-use Rattle.stepping.specs.declared.Start.{Start}
-use Rattle.stepping.specs.declared.Start.the-variants.{At, Refused}
 use Rattle.stepping.specs.declared.Step.{Step}
 use Rattle.stepping.specs.declared.Step.the-variants.{Next, Done}
 use Rattle.steps_into.specs.Into.{flatSamples, StepsInto}
@@ -26,7 +23,7 @@ use Rattle.steps_into.proofs.Chained.{flat-length}
 use Rattle.steps_into.specs.declared.Reached.{Reached}
 use Rattle.hand.specs.Places.{Hands}
 use Rattle.position_numbers.specs.Position.{stepperNumbers, stepperIn, HandsPosition}
-use Rattle.host_steps.specs.Hands.{startValues, HandsStart, Advanced, stepperAfter, Stepped, HandsStep, Filled, HandsSteps}
+use Rattle.host_steps.specs.Hands.{Advanced, stepperAfter, Stepped, HandsStep, Filled, HandsSteps}
 
 -- values that the places are enough for
 module _ {A : Type 0} (values places : List A) (r : ℕ) (after : List A) (h : Hands 0 values places r after) (l : length values ≤ length places) where
@@ -37,27 +34,6 @@ module _ {A : Type 0} (values places : List A) (r : ℕ) (after : List A) (h : H
   handed-all : after ≡ filledRoom values places
   unfolding noRoom roomAfter
   handed-all = rw (le-ltb (length places) (length values) l) at (h .placed)
-
--- ---- the start
-
-module _ (s : List ℕ) (w : Source) (id n : ℕ) (stepper : List ℕ) (r : ℕ) (after : List ℕ) (x : Start) (a : Starts s w id n x) where
-  pub start-at : (p : Stepper) → x ≡ At p → HandsPosition p stepper r after → HandsStart s w id n stepper r after
-  unfolding startValues
-  start-at p e h = record {
-    start = At p;
-    starts = rw e at a;
-    handed = h .handed;
-    again = λ q c l. let z : p ≡ q = cc in h .again l ∙ z;
-  }
-
-  pub start-refused : (k : ℕ) → x ≡ Refused k → Hands k (replicate 29 0) stepper r after → HandsStart s w id n stepper r after
-  unfolding startValues
-  start-refused k e h = record {
-    start = Refused k;
-    starts = rw e at a;
-    handed = h;
-    again = λ q c l. let z : _≡_ {A = ℕ} 0 1 = cc in absurd (omega arith);
-  }
 
 -- ---- a step
 

@@ -4,36 +4,17 @@ use Prim.Native.Nat.{ℕ, _≤_, _<_}
 use mathlib.Core.Path.{_≡_}
 use mathlib.Core.List.{List, [], _∷_}
 use mathlib.Core.Logic.{_⊎_}
-use lib.ListN.{length, replicate}
+use lib.ListN.{length}
 use lib.IntN.{ℤ}
-use Rattle.structure.specs.declared.source.Source.{Source}
 use Rattle.movie.specs.Rooms.{filledRoom}
 use Rattle.questions.specs.declared.samples.Sample.{Sample}
-use Rattle.stepping.specs.Stepping.{startNumber, Starts, stepNumbers, Steps}
+use Rattle.stepping.specs.Stepping.{stepNumbers, Steps}
 use Rattle.stepping.specs.declared.Stepper.{Stepper}
-use Rattle.stepping.specs.declared.Start.{Start}
-use Rattle.stepping.specs.declared.Start.the-variants.{At, Refused}
 use Rattle.stepping.specs.declared.Step.{Step}
 use Rattle.stepping.specs.declared.Step.the-variants.{Next, Done}
 use Rattle.steps_into.specs.Into.{StepsInto}
 use Rattle.steps_into.specs.declared.Reached.{Reached}
-use Rattle.hand.specs.Places.{Hands}
 use Rattle.position_numbers.specs.Position.{stepperNumbers, stepperIn}
-
--- ---- the start
-
--- "Numbers returned with a refusal are all 0"
-unfoldable pub startValues : Start → List ℕ
-startValues (At p) = stepperNumbers p
-startValues (Refused r) = replicate 29 0
-
--- the promise of `hand_step_start`: an answer that keeps the promise of `Stepper::at`, its refusal and its values
-pub record HandsStart (s : List ℕ) (w : Source) (id n : ℕ) (stepper : List ℕ) (r : ℕ) (after : List ℕ) : Type 0 where
-  pub start : Start
-  pub starts : Starts s w id n start
-  pub handed : Hands (startNumber start) (startValues start) stepper r after
-  -- what then stands in the places is the position
-  pub again : (p : Stepper) → start ≡ At p → 29 ≤ length stepper → stepperIn after ≡ p
 
 -- ---- between the crate's own functions: the samples in the room, r of them, and the position put back where they are at least that many
 

@@ -1,27 +1,13 @@
 // Stepping through a track for a caller in another language: the position as numbers in lent places, and samples in lent places or room.
-use hand::hand;
 use hand::hand_signed;
 use position_numbers::NUMBERS;
 use position_numbers::hand_position;
 use position_numbers::position_in;
-use stepping::Start;
-use stepping::Stepper;
 use steps_into::SAMPLE;
 use steps_into::steps_into;
-use structure::source::Source;
 ghost use Prim.Native.Nat.{_≤_};
 ghost use lib.ListN.{length};
-ghost use Rattle.host_steps.specs.Hands.{HandsStart, Advanced, HandsStep, HandsSteps};
-
-// A position before sample n of a track, in 29 places.
-pub fn hand_step_start(lent: &[u8], source: Source, id: u32, n: u32, stepper: &mut [u64]) -> u32
-    ensures { λ r. ⌜ HandsStart (now (lent .entry)) source id n (now (stepper .entry)) r (now (stepper .exit)) ⌝ }
-{
-    match Stepper::at(lent, source, id, n) {
-        Start::At(p) => hand_position(p, stepper),
-        Start::Refused(r) => hand(r, &[0u64; 29], stepper),
-    }
-}
+ghost use Rattle.host_steps.specs.Hands.{Advanced, HandsStep, HandsSteps};
 
 // The next samples in the room, and the position past them in the first places of `stepper` where they are at least that many; answers how many.
 // Both functions below go by it, so that a position is read, moved and written with no copy between. The test is theirs too: made here, no number

@@ -12,9 +12,9 @@ use Rattle.positions.specs.Dealing.{offsetHead}
 use Rattle.positions.specs.Moving.{Bytes, readiedMoving, mayMove, pastMoving}
 use Rattle.positions.specs.declared.moving.Moving.{Moving}
 use Rattle.questions.specs.declared.samples.Sample.{Sample}
-use Rattle.stepping.specs.declared.moves.Heads.{Heads}
-use Rattle.stepping.specs.declared.moves.Move.{Move}
-use Rattle.stepping.specs.declared.moves.Move.the-variants.{To, End}
+use Rattle.step_moves.specs.declared.Heads.{Heads}
+use Rattle.step_moves.specs.declared.Move.{Move}
+use Rattle.step_moves.specs.declared.Move.the-variants.{To, End}
 
 -- what the places, with the entries read, say of the sample; stsz is asked by its index, and stss, from its place on, by its number
 abbrev pub sampleSaid : List ℕ → List ℕ → Moving → Sample

@@ -17,7 +17,7 @@ ghost use mathlib.Core.Bool.{true};
 ghost use Prim.Native.Nat.{_<_};
 ghost use Rattle.words.specs.Words.{sizeHead};
 ghost use Rattle.positions.specs.Moving.{mayMove};
-ghost use Rattle.stepping.specs.Moves.{headsOf, movedOn, steppedOn};
+ghost use Rattle.step_moves.specs.Moves.{headsOf, movedOn, steppedOn};
 
 // What the heads of stsz and of the chunk offsets say, read once for many steps.
 pub struct Heads {

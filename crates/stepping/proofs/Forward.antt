@@ -22,7 +22,7 @@ use Rattle.positions.specs.declared.dealt.Dealt.{Dealt}
 use Rattle.positions.specs.declared.moving.Moving.{Moving}
 use Rattle.positions.proofs.Dealing.{ready-here, ready-next}
 use Rattle.positions.specs.Moving.{Bytes, readiedMoving}
-use Rattle.stepping.specs.Moves.{movedPast}
+use Rattle.step_moves.specs.Moves.{movedPast}
 use Rattle.stepping.specs.Stepping.{Forward}
 
 run-forward : (es : List Run) (c : RunCursor) → c .at ≤ readiedRunIn es c .at

@@ -6,7 +6,6 @@ use mathlib.Core.Bool.{Bool, true, false, cond}
 use mathlib.Core.List.{List, [], _∷_}
 use native.Mathlib.Omega.{arith}
 use native.Mathlib.Decide.{decLt}
-use borrow.Author.Tests.{eq-eqb, ne-eqb, lt-leb, le-leb}
 use lib.Dec.{eqb}
 use lib.IntN.{ℤ, pos, _+ℤ_}
 use lib.ListN.{length, getD}
@@ -21,19 +20,19 @@ use Rattle.track.specs.Track.{trackOf}
 use Rattle.places.specs.Places.{partIn, AreTables}
 use Rattle.positions.specs.Runs.{shiftOf}
 use Rattle.positions.specs.Syncs.{syncStep}
-use Rattle.positions.specs.Moving.{Bytes, StandsAt, Agrees, readiedMoving, mayMove, pastMoving}
+use Rattle.positions.specs.Moving.{Bytes, StandsAt, Agrees, readiedMoving, mayMove}
 use Rattle.positions.specs.declared.moving.Moving.{Moving}
-use Rattle.positions.specs.declared.sync.SyncStep.{SyncStep}
 use Rattle.positions.proofs.Syncs.{sync-is}
 use Rattle.positions.proofs.Standing.{may-known, Says, stands-ready, says-ready, stands-past, listed-is}
 use Rattle.questions.specs.Asked.{askRefusal, trackAsked}
 use Rattle.questions.specs.Samples.{sampleOf, sampleValues}
 use Rattle.questions.specs.declared.samples.Sample.{Sample}
+use Rattle.step_moves.specs.Moves.{sampleSaid, movedPast, movedOn, steppedOn}
+use Rattle.step_moves.specs.declared.Move.{Move}
+use Rattle.step_moves.specs.declared.Move.the-variants.{To, End}
+use Rattle.step_moves.proofs.Answers.{movedReady, stepped-past, stepped-by}
 use Rattle.stepping.specs.Parts.{bytesIn}
-use Rattle.stepping.specs.Moves.{sampleSaid, movedPast, movedOn, steppedOn}
 use Rattle.stepping.specs.Stepping.{bytesOf, Stands, stepNumbers, Onward, Elsewhere, Steps}
-use Rattle.stepping.specs.declared.moves.Move.{Move}
-use Rattle.stepping.specs.declared.moves.Move.the-variants.{To, End}
 use Rattle.stepping.specs.declared.Stepper.{Stepper}
 use Rattle.stepping.specs.declared.Step.{Step}
 use Rattle.stepping.specs.declared.Step.the-variants.{Next, Done}
@@ -64,31 +63,7 @@ said t k m h e a g =
       size = ap (λ (j : ℕ). getD (sizes (tableOf kinds.stsz t)) j 0) e i;
     }
 
--- ---- the ways out of `moved`
-
-module _ (z y : List ℕ) (m : Moving) where
-  pub moved-end : mayMove m ≡ false → End ≡ movedOn z y m
-  unfolding movedOn
-  moved-end e = rw e
-
-  pub moved-to : mayMove m ≡ true → (size : ℕ) (place : SyncStep) (comp : ℤ) (b : Bool) (next : Moving) → size ≡ getD (sizes z) (m .index) 0
-      → place ≡ syncStep y (m .sync) (m .index + 1) → comp ≡ pos (m .decode) +ℤ shiftOf (m .shifts) → b ≡ cond (eqb (length y) 0) true (place .listed)
-      → next ≡ pastMoving size (place .at) m
-      → To (record { decode = m .decode; duration = m .times .each; composition = comp; sync = b; description = m .dealt .cursor .description; chunk = m .dealt .chunk; offset = m .dealt .offset; size = size }) next ≡ movedOn z y m
-  unfolding movedOn
-  moved-to e size place comp b next f g h i j = rw (e, j, i, h, g, f)
-
-pub sync-none : (y : List ℕ) (b : Bool) → length y ≡ 0 → true ≡ cond (eqb (length y) 0) true b
-sync-none y b e = rw (eq-eqb (length y) 0 e)
-
-pub sync-some : (y : List ℕ) (b : Bool) → (length y ≡ 0 → ⊥) → b ≡ cond (eqb (length y) 0) true b
-sync-some y b e = rw (ne-eqb (length y) 0 e)
-
 -- ---- a step
-
--- with the entries read
-abbrev movedReady : Bytes → Moving → Move
-movedReady x m = movedOn (x .stsz) (x .stss) (readiedMoving (x .stts) (x .ctts) (x .stsc) (x .offsets) m)
 
 -- the sample with index k, and the places past it
 record Passes (s : List ℕ) (id k : ℕ) (v : Move) : Type 0 where
@@ -133,17 +108,6 @@ steps-past s p h = record {
   done = λ w id a. refl;
   elsewhere = done-elsewhere p;
 }
-
--- ---- the ways out of `step_in`
-
-module _ (x : Bytes) (samples : ℕ) (m : Moving) where
-  pub stepped-past : samples ≤ m .index → End ≡ steppedOn x samples m
-  unfolding steppedOn
-  stepped-past h = rw (le-leb samples (m .index) h)
-
-  pub stepped-by : m .index < samples → movedReady x m ≡ steppedOn x samples m
-  unfolding steppedOn
-  stepped-by h = rw (lt-leb samples (m .index) h)
 
 -- ---- the promise, of what `step_in` answers
 

@@ -1,19 +1,18 @@
 // Stepping through a track: a position in each of its tables, held by value, made at a sample number, and moved past one sample after the other.
-pub mod moves;
 pub mod parts;
 
 use bigendian::u32_at;
 use chunks::ChunkCursor;
-use moves::Move;
-use moves::heads_of;
-use moves::step_in;
-use parts::moving_at;
+use parts::start_in;
 use places::part_of;
 use places::tables::Tables;
 use places::tables::tables_in;
 use positions::moving::Moving;
 use questions::Ask;
 use questions::samples::Sample;
+use step_moves::Move;
+use step_moves::heads_of;
+use step_moves::step_in;
 use structure::source::Source;
 ghost use Rattle.stepping.specs.Stepping.{Starts, Steps};
 
@@ -59,22 +58,10 @@ impl Stepper {
         if ask.refusal != 0 {
             return Start::Refused(ask.refusal);
         }
-        if n == 0 {
-            return Start::Refused(15);
-        }
         let trak = ask.trak;
         let tables = tables_in(lent, trak.body, trak.parts);
         let stsz = tables.stsz;
-        let samples = u32_at(part_of(lent, stsz), 16);
-        if samples < n {
-            return Start::Refused(15);
-        }
-        let moving = moving_at(lent, tables, samples, n - 1);
-        Start::At(Stepper {
-            tables,
-            samples,
-            moving,
-        })
+        start_in(lent, tables, u32_at(part_of(lent, stsz), 16), n)
     }
 
     // The next sample and the position past it; done past the last one.

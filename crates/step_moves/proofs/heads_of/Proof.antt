@@ -1,8 +1,8 @@
--- `stepping::moves::heads_of` meets its contract: each field is what its callee answers.
+-- `step_moves::heads_of` meets its contract: each field is what its callee answers.
 -- Assumes nothing.
 use borrow.Author.Needs.{needs}
-use Rattle.stepping.proofs.moves.heads_of.Statement.{statement}
-use Rattle.stepping.proofs.moves.heads_of.Tie as tie
+use Rattle.step_moves.proofs.heads_of.Statement.{statement}
+use Rattle.step_moves.proofs.heads_of.Tie as tie
 
 size-head-requires : tie.Need-size-head-requires
 size-head-requires c κs = search needs

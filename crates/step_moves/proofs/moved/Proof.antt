@@ -1,4 +1,4 @@
--- `stepping::moves::moved` meets its contract: the sample is what the places say, and the places are moved past it.
+-- `step_moves::moved` meets its contract: the sample is what the places say, and the places are moved past it.
 -- Assumes nothing.
 use borrow.Author.Needs.{needs}
 use mathlib.Core.Path.{_≡_, sym, ap, _∙_}
@@ -8,9 +8,9 @@ use denote.Ref.{now}
 use lib.IntN.{pos, _+ℤ_}
 use Rattle.bigendian.proofs.Halves.{kept}
 use Rattle.positions.proofs.Standing.{may-known}
-use Rattle.stepping.proofs.Stepped.{moved-to, sync-none, sync-some}
-use Rattle.stepping.proofs.moves.moved.Statement.{statement}
-use Rattle.stepping.proofs.moves.moved.Tie as tie
+use Rattle.step_moves.proofs.Answers.{moved-to, sync-none, sync-some}
+use Rattle.step_moves.proofs.moved.Statement.{statement}
+use Rattle.step_moves.proofs.moved.Tie as tie
 
 size-by-requires : tie.Need-size-by-requires
 size-by-requires c κs = search needs

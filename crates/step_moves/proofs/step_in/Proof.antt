@@ -1,4 +1,4 @@
--- `stepping::moves::step_in` meets its contract: each way out is one of the definition's.
+-- `step_moves::step_in` meets its contract: each way out is one of the definition's.
 -- Assumes nothing.
 use borrow.Author.Needs.{needs}
 use mathlib.Core.Path.{_≡_, sym, ap, _∙_}
@@ -7,10 +7,10 @@ use denote.Ref.{now}
 use Rattle.positions.specs.Moving.{Bytes, readiedMoving, mayMove}
 use Rattle.positions.specs.declared.moving.Moving.{Moving}
 use Rattle.positions.proofs.Standing.{may-not, may-so}
-use Rattle.stepping.specs.Moves.{movedOn}
-use Rattle.stepping.proofs.Stepped.{moved-end, stepped-past, stepped-by}
-use Rattle.stepping.proofs.moves.step_in.Statement.{statement}
-use Rattle.stepping.proofs.moves.step_in.Tie as tie
+use Rattle.step_moves.specs.Moves.{movedOn}
+use Rattle.step_moves.proofs.Answers.{moved-end, stepped-past, stepped-by}
+use Rattle.step_moves.proofs.step_in.Statement.{statement}
+use Rattle.step_moves.proofs.step_in.Tie as tie
 
 abbrev bytes : tie.Start → Bytes
 bytes e =

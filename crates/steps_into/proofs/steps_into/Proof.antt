@@ -7,8 +7,8 @@ use mathlib.Core.Logic.{inl, inr}
 use native.Mathlib.Omega.{arith}
 use denote.Ref.{now}
 use lib.ListN.{length}
+use Rattle.step_moves.specs.Moves.{steppedOn}
 use Rattle.stepping.specs.Parts.{bytesIn}
-use Rattle.stepping.specs.Moves.{steppedOn}
 use Rattle.stepping.proofs.Stepped.{steps-end, steps-next}
 use Rattle.steps_into.proofs.Chained.{Putting, at, start, turn, reached}
 use Rattle.steps_into.proofs.steps_into.Statement.{statement}

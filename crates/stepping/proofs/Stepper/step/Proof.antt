@@ -4,8 +4,8 @@ use borrow.Author.Needs.{needs}
 use mathlib.Core.Path.{_≡_, _∙_}
 use native.Mathlib.Omega.{arith}
 use denote.Ref.{now}
+use Rattle.step_moves.specs.Moves.{steppedOn}
 use Rattle.stepping.specs.Parts.{bytesIn}
-use Rattle.stepping.specs.Moves.{steppedOn}
 use Rattle.stepping.proofs.Stepped.{steps-end, steps-next}
 use Rattle.stepping.proofs.Stepper.step.Statement.{statement}
 use Rattle.stepping.proofs.Stepper.step.Tie as tie
