@@ -9,7 +9,7 @@ start-in-requires : tie.Need-start-in-requires
 start-in-requires c κs = search needs
 
 returns : tie.Need-returns
-returns c = by-start _ (c .before .before .args .h) _ _ (c .start-in .ensures)
+returns c = by-start _ (c .before .before .before .args .h) _ _ (c .start-in .ensures)
 
 pub start-by-spec : {M : Type 1} → statement M
 start-by-spec = tie.close (tie.spec start-in-requires returns)
