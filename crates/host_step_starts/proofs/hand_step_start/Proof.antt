@@ -15,7 +15,7 @@ same-length : tie.Need-same-length
 same-length c = search needs
 
 returns : tie.Need-returns
-returns c = hands-start _ _ _ _ _ _ _ _ (c .before .before .before .at .ensures) (c .before .before .hand-start .ensures)
+returns c = hands-start _ _ _ _ _ _ _ _ (c .before .before .before .before .at .ensures) (c .before .before .hand-start .ensures)
 
 pub hand-step-start-spec : {M : Type 1} → statement M
 hand-step-start-spec =
