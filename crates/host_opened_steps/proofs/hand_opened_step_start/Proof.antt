@@ -22,7 +22,7 @@ same-length : tie.Need-same-length
 same-length c = search needs
 
 returns-2 : tie.Need-returns-2
-returns-2 c = handle-whole _ _ _ _ _ _ (c .before .before .before .before .before .if1 .left) _ (rw (c .before .before .before .before .handle-in .ensures) at (c .before .before .before .start-by .ensures)) (c .before .before .hand-start .ensures)
+returns-2 c = handle-whole _ _ _ _ _ _ (c .before .before .before .before .before .before .if1 .left) _ (rw (c .before .before .before .before .before .handle-in .ensures) at (c .before .before .before .before .start-by .ensures)) (c .before .before .hand-start .ensures)
 
 pub hand-opened-step-start-spec : {M : Type 1} → statement M
 hand-opened-step-start-spec =
