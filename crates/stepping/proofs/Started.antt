@@ -46,11 +46,20 @@ module _ (s : List ℕ) (p : Tables) (samples n : ℕ) where
     unfolding startSaid
     start-long l = rw (← e, lt-ltb 0 n (omega arith), le-leb n samples g, le-ltb (length c) 4294967296 (omega arith))
 
-    pub start-at : length c ≤ 4294967295 → (m : Moving) → m ≡ soughtMoving (bytesIn s p) (n - 1) → At (record { tables = p; samples = samples; moving = m }) ≡ startSaid s p samples n
+    start-at : length c ≤ 4294967295 → (m : Moving) → m ≡ soughtMoving (bytesIn s p) (n - 1) → At (record { tables = p; samples = samples; moving = m }) ≡ startSaid s p samples n
     unfolding startSaid
     start-at l m q =
         let b : ltb (length (partIn s (p .stsc))) 4294967296 ≡ true = rw (← e) (lt-ltb (length c) 4294967296 (omega arith)) in
         rw (lt-ltb 0 n (omega arith), le-leb n samples g, b, q)
+
+  -- the same, from the parts' bytes
+  pub start-parts : (a b c z o y : List ℕ) → a ≡ partIn s (p .stts) → b ≡ partIn s (p .ctts) → c ≡ partIn s (p .stsc) → z ≡ partIn s (p .stsz) → o ≡ partIn s (p .offsets)
+      → y ≡ partIn s (p .stss) → (n ≡ 0 → ⊥) → n ≤ samples → length c ≤ 4294967295 → (m : Moving)
+      → m ≡ soughtMoving (record { stts = a; ctts = b; stsc = c; stsz = z; offsets = o; stss = y }) (n - 1)
+      → At (record { tables = p; samples = samples; moving = m }) ≡ startSaid s p samples n
+  start-parts a b c z o y ea eb ec ez eo ey h g l m e =
+      start-at c ec h g l m
+      (e ∙ (λ i. soughtMoving (record { stts = ea i; ctts = eb i; stsc = ec i; stsz = ez i; offsets = eo i; stss = ey i }) (n - 1)))
 
   -- the only refusal is 15
   pub start-15 : (k : ℕ) → startSaid s p samples n ≡ Refused k → k ≡ 15

@@ -109,6 +109,14 @@ steps-past s p h = record {
   elsewhere = done-elsewhere p;
 }
 
+-- what `step_in` answers of the parts' bytes, it answers of the tables at their places
+pub stepped-parts : (s : List ℕ) (p : Stepper) (a b c z o y : List ℕ) (v : Move) → a ≡ partIn s (p .tables .stts) → b ≡ partIn s (p .tables .ctts) → c ≡ partIn s (p .tables .stsc)
+    → z ≡ partIn s (p .tables .stsz) → o ≡ partIn s (p .tables .offsets) → y ≡ partIn s (p .tables .stss)
+    → v ≡ steppedOn (record { stts = a; ctts = b; stsc = c; stsz = z; offsets = o; stss = y }) (p .samples) (p .moving)
+    → v ≡ steppedOn (bytesIn s (p .tables)) (p .samples) (p .moving)
+stepped-parts s p a b c z o y v ea eb ec ez eo ey e =
+    e ∙ (λ i. steppedOn (record { stts = ea i; ctts = eb i; stsc = ec i; stsz = ez i; offsets = eo i; stss = ey i }) (p .samples) (p .moving))
+
 -- ---- the promise, of what `step_in` answers
 
 module _ (s : List ℕ) (p : Stepper) (v : Move) (d : v ≡ steppedOn (bytesIn s (p .tables)) (p .samples) (p .moving)) where

@@ -1,28 +1,9 @@
 -- `stepping::parts::start_in` meets its contract: each way out is one of the definition's.
 -- Assumes nothing.
 use borrow.Author.Needs.{needs}
-use Prim.Native.Nat.{_-_}
-use mathlib.Core.Path.{_≡_, _∙_}
-use denote.Ref.{now}
-use Rattle.position_seeks.specs.Seeks.{soughtMoving}
-use Rattle.stepping.specs.Parts.{bytesIn}
-use Rattle.stepping.proofs.Started.{start-zero, start-past, start-long, start-at}
+use Rattle.stepping.proofs.Started.{start-zero, start-past, start-long, start-parts}
 use Rattle.stepping.proofs.parts.start_in.Statement.{statement}
 use Rattle.stepping.proofs.parts.start_in.Tie as tie
-
--- the places sought, by the tables' parts
-sought : (v : tie.After-moving-seek) → let a = v .before .before .before .before .before .before .before .before .before .before .before .before .before .before .before .before .before .args in v .moving-seek .result ≡ soughtMoving (bytesIn (now (a .lent)) (a .tables)) (a .n - 1)
-sought v =
-    let a = v .before .before .before .before .before .before .before .before .before .before .before .before .before .before .before .before .before .args in
-    v .moving-seek .ensures
-    ∙ (λ i. soughtMoving (record {
-      stts = v .before .before .before .before .before .part-of2 .ensures i;
-      ctts = v .before .before .before .before .part-of3 .ensures i;
-      stsc = v .before .before .before .before .before .before .before .before .before .before .before .before .part-of .ensures i;
-      stsz = v .before .before .before .part-of4 .ensures i;
-      offsets = v .before .before .part-of5 .ensures i;
-      stss = v .before .part-of6 .ensures i;
-    }) (a .n - 1))
 
 returns : tie.Need-returns
 returns c = start-zero _ (c .before .before .args .tables) _ _ (c .if1 .taken)
@@ -31,25 +12,25 @@ returns-2 : tie.Need-returns-2
 returns-2 c = start-past _ (c .before .before .before .args .tables) _ _ (c .before .if1 .left) (c .if2 .taken)
 
 part-of-requires : tie.Need-part-of-requires
-part-of-requires c κs = search needs
+part-of-requires c κs = tt
 
 returns-3 : tie.Need-returns-3
 returns-3 c = start-long _ (c .before .before .before .before .before .before .args .tables) _ _ _ (c .before .part-of .ensures) (c .before .before .before .before .if1 .left) (c .before .before .before .if2 .left) (c .if3 .taken)
 
 part-of-requires-2 : tie.Need-part-of-requires-2
-part-of-requires-2 c κs = search needs
+part-of-requires-2 c κs = tt
 
 part-of-requires-3 : tie.Need-part-of-requires-3
-part-of-requires-3 c κs = search needs
+part-of-requires-3 c κs = tt
 
 part-of-requires-4 : tie.Need-part-of-requires-4
-part-of-requires-4 c κs = search needs
+part-of-requires-4 c κs = tt
 
 part-of-requires-5 : tie.Need-part-of-requires-5
-part-of-requires-5 c κs = search needs
+part-of-requires-5 c κs = tt
 
 part-of-requires-6 : tie.Need-part-of-requires-6
-part-of-requires-6 c κs = search needs
+part-of-requires-6 c κs = tt
 
 sub-moving-seek : tie.Need-sub-moving-seek
 sub-moving-seek c = search needs
@@ -58,7 +39,7 @@ moving-seek-requires : tie.Need-moving-seek-requires
 moving-seek-requires c κs = search needs
 
 returns-4 : tie.Need-returns-4
-returns-4 c = start-at _ (c .before .before .before .before .before .before .before .before .before .before .before .before .before .before .before .before .before .args .tables) _ _ _ (c .before .before .before .before .before .before .before .before .before .before .before .before .part-of .ensures) (c .before .before .before .before .before .before .before .before .before .before .before .before .before .before .before .if1 .left) (c .before .before .before .before .before .before .before .before .before .before .before .before .before .before .if2 .left) (c .before .before .before .before .before .before .before .before .before .before .before .if3 .left) _ (sought c)
+returns-4 c = start-parts _ (c .before .before .before .before .before .before .before .before .before .before .before .before .before .before .before .before .before .args .tables) _ _ _ _ _ _ _ _ (c .before .before .before .before .before .part-of2 .ensures) (c .before .before .before .before .part-of3 .ensures) (c .before .before .before .before .before .before .before .before .before .before .before .before .part-of .ensures) (c .before .before .before .part-of4 .ensures) (c .before .before .part-of5 .ensures) (c .before .part-of6 .ensures) (c .before .before .before .before .before .before .before .before .before .before .before .before .before .before .before .if1 .left) (c .before .before .before .before .before .before .before .before .before .before .before .before .before .before .if2 .left) (c .before .before .before .before .before .before .before .before .before .before .before .if3 .left) _ (c .moving-seek .ensures)
 
 pub start-in-spec : {M : Type 1} → statement M
 start-in-spec =
