@@ -1,8 +1,11 @@
 // Steps through films, and writes a line for each step. Its arguments are files in pairs: a film, and another one. Each track of the first, by the IDs 1 to 3, is
 // started at 0, 1, its middle, its last sample and one past it, and stepped to its end and once more; each position is then used on the other film, of which only
-// that the steps end is written. The films and the lines are those that the reference in host/reference writes.
+// that the steps end is written. The films and the lines are those that the reference in host/reference writes. Each start is made by a handle too: a line
+// more says so where it is refused or stepped otherwise, or where its steps on the other film do not end.
+mod handles;
 mod show;
 
+use handles::by_handle;
 use questions::samples::Sample;
 use stepping::Start;
 use stepping::Step;
@@ -102,16 +105,21 @@ fn started(film: &[u8], other: &[u8], id: u32, n: u32) {
     }
 }
 
+fn both(film: &[u8], other: &[u8], id: u32, n: u32) {
+    started(film, other, id, n);
+    by_handle(film, other, id, n);
+}
+
 fn track(film: &[u8], other: &[u8], id: u32) {
     let n = samples(film, id);
-    started(film, other, id, 0);
-    started(film, other, id, 1);
+    both(film, other, id, 0);
+    both(film, other, id, 1);
     if 1 < n {
-        started(film, other, id, n / 2 + 1);
-        started(film, other, id, n);
+        both(film, other, id, n / 2 + 1);
+        both(film, other, id, n);
     }
     if n < 4294967295 {
-        started(film, other, id, n + 1);
+        both(film, other, id, n + 1);
     }
 }
 
