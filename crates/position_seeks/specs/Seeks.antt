@@ -1,4 +1,4 @@
--- The places in all tables before a sample, as the code has it. This need not be believed: `moving-sought` of `proofs/Sought.antt` is what callers go by.
+-- The places in all tables before a sample, as the code has it. This need not be believed: callers go by `moving-sought` of `proofs/Sought.antt`.
 use Prim.Native.Nat.{ℕ}
 use Rattle.bigendian.specs.BigEndian.{u32At}
 use Rattle.lists.specs.Lists.{before}

@@ -28,7 +28,7 @@ pub record DealtAt (stsc : List ℕ) (chunks : ℕ) (cs zs : List ℕ) (k : ℕ)
   pub offset : 0 < d .rest → d .offset ≡ offsetOf (perChunk stsc chunks) cs zs k
   pub description : 0 < d .rest → d .cursor .description ≡ getD (descriptionIds stsc chunks) (holder (perChunk stsc chunks) k) 0
 
--- ---- as the code has it. This need not be believed: `dealt-sought`, `dealt-readied` and `dealt-moves` of `proofs/Dealing.antt` are what callers go by
+-- ---- as the code has it. This need not be believed: callers go by `dealt-sought`, `dealt-readied` and `dealt-moves` of `proofs/Dealing.antt`
 
 -- what the head of the table of offsets says
 abbrev pub offsetHead : List ℕ → OffsetHead

@@ -1,7 +1,7 @@
-// Steps through films, and writes a line for each step. Its arguments are files in pairs: a film, and another one. Each track of the first, by the IDs 1 to 3, is
-// started at 0, 1, its middle, its last sample and one past it, and stepped to its end and once more; each position is then used on the other film, of which only
-// that the steps end is written. The films and the lines are those that the reference in host/reference writes. Each start is made by a handle too: a line
-// more says so where it is refused or stepped otherwise, or where its steps on the other film do not end.
+// Steps through films, and writes a line for each step. Its arguments are files in pairs: a film, and another one. Each track of the first, by the
+// IDs 1 to 3, is started at 0, 1, its middle, its last sample and one past it, and stepped to its end and once more; each position is then used on
+// the other film, of which only that the steps end is written. The films and the lines are those that the reference in host/reference writes. Each
+// start is made by a handle too: a line more says so where it is refused or stepped otherwise, or where its steps on the other film do not end.
 mod handles;
 mod show;
 
