@@ -1,11 +1,11 @@
--- `peaks::is_no_higher_run` meets its contract: each test that fails is one of the conditions.
+-- `windows::is_no_higher_run` meets its contract: each test that fails is one of the conditions.
 -- Assumes nothing.
 use borrow.Author.Needs.{needs}
 use mathlib.Core.Path.{sym, _∙_}
 use native.Mathlib.Omega.{arith}
 use Rattle.windows.proofs.Bests.{untrue, no-higher-known}
-use Rattle.peaks.proofs.is_no_higher_run.Statement.{statement}
-use Rattle.peaks.proofs.is_no_higher_run.Tie as tie
+use Rattle.windows.proofs.is_no_higher_run.Statement.{statement}
+use Rattle.windows.proofs.is_no_higher_run.Tie as tie
 
 returns : tie.Need-returns
 returns c = untrue

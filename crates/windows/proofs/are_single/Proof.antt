@@ -1,12 +1,12 @@
--- `peaks::are_single` meets its contract: it compares both counts with 1.
+-- `windows::are_single` meets its contract: it compares both counts with 1.
 -- Assumes nothing.
 use borrow.Author.Needs.{needs}
 use borrow.Author.Tests.{eqb-true}
 use mathlib.Core.Path.{sym, _∙_}
 use native.Mathlib.Omega.{arith}
 use Rattle.windows.proofs.Bests.{untrue}
-use Rattle.peaks.proofs.are_single.Statement.{statement}
-use Rattle.peaks.proofs.are_single.Tie as tie
+use Rattle.windows.proofs.are_single.Statement.{statement}
+use Rattle.windows.proofs.are_single.Tie as tie
 
 whole32-requires : tie.Need-whole32-requires
 whole32-requires c κs = search needs
