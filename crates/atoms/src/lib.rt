@@ -7,7 +7,7 @@ ghost use mathlib.Core.Path.{_≡_};
 ghost use Prim.Native.Nat.{_≤_};
 ghost use lib.ListN.{length};
 ghost use Rattle.atoms.specs.Kinds.{container};
-ghost use Rattle.atoms.specs.Atoms.{headerOf, bodyOf, sizeInside, sizeTop, sizeIn, childIn, bodyIn, countIn};
+ghost use Rattle.atoms.specs.Atoms.{headerOf, bodyOf, sizeInside, sizeTop, sizeIn};
 ghost use Rattle.atoms.specs.Pieces.{fitting};
 
 // Whether an atom of that kind is a container in that parent.
@@ -93,52 +93,5 @@ pub fn size_in(s: &[u8], parent: u32) -> usize
         size_top(s)
     } else {
         size_inside(s)
-    }
-}
-
-// The atom at i, counted from 0, among those of that kind in the body of that parent, header included; empty where there
-// are no more than i.
-pub fn child<'a>(body: &'a [u8], parent: u32, kind: u32, i: usize) -> &'a [u8]
-    ensures { λ r. ⌜ now r ≡ childIn parent kind i (now (body .entry)) ⌝ }
-{
-    let mut t = body;
-    let mut skip = i;
-    loop {
-        let n = size_in(t, parent);
-        if n < 8 {
-            return &t[..0];
-        }
-        if u32_at(t, 4) == kind {
-            if skip == 0 {
-                return &t[..n];
-            }
-            skip -= 1;
-        }
-        t = &t[n..];
-    }
-}
-
-// Its body; empty where there are no more than i.
-pub fn child_body<'a>(body: &'a [u8], parent: u32, kind: u32, i: usize) -> &'a [u8]
-    ensures { λ r. ⌜ now r ≡ bodyIn parent kind i (now (body .entry)) ⌝ }
-{
-    body_of(child(body, parent, kind, i))
-}
-
-// How many atoms of that kind the body of that parent has.
-pub fn count_of(body: &[u8], parent: u32, kind: u32) -> usize
-    ensures { λ r. ⌜ r ≡ countIn parent kind (now (body .entry)) ⌝ }
-{
-    let mut t = body;
-    let mut count: usize = 0;
-    loop {
-        let n = size_in(t, parent);
-        if n < 8 {
-            return count;
-        }
-        if u32_at(t, 4) == kind {
-            count += 1;
-        }
-        t = &t[n..];
     }
 }

@@ -6,7 +6,6 @@ use mathlib.Core.List.{List, [], _∷_, _++_, map}
 use mathlib.Core.Bool.{true, false}
 use native.Mathlib.Omega.{arith}
 use native.Mathlib.Decide.{decLe}
-use borrow.Author.Tests.{eq-eqb, ne-eqb}
 use lib.ListN.{length, getD, take, drop, length-take, length-drop, drop-of-length-le}
 use lib.Seq.{drop-cons}
 use Rattle.words.specs.Words.{listed}
@@ -22,8 +21,7 @@ use Rattle.places.specs.declared.moov.MovieHeads.{MovieHeads}
 use Rattle.places.specs.declared.Part.{Part}
 use Rattle.places.specs.declared.trak.Trak.{Trak}
 use Rattle.places.specs.declared.moov.Traks.{Traks}
-use Rattle.movie.specs.Tracks.{withId}
-use Rattle.movie.specs.Traks.{FewTraks, StandsAt}
+use Rattle.movie.specs.Traks.{FewTraks}
 use Rattle.movie.proofs.Repeats.{again}
 
 pub few-traks : (s : List ℕ) (ts : List (List ℕ)) (r : Traks) → AreTraks s ts r → length ts ≤ 16 → FewTraks s ts r
@@ -103,36 +101,3 @@ module _ (ts : List (List ℕ)) (i : ℕ) where
 
       pub again-more : (xs : List ℕ) → listed n xs ≡ false → again xs (map idOf (drop i ts)) ≡ again (xs ++ n ∷ []) (map idOf (drop (i + 1) ts))
       again-more xs q = rw (from-here, ← d, q)
-
-      id-here : (id : ℕ) → n ≡ id → (listed id (map idOf (drop i ts)) ≡ true) × (withId id (drop i ts) ≡ getD ts i [])
-      id-here id q = (rw (from-here, ← d, eq-eqb n id q), rw (from-here, ← d, eq-eqb n id q))
-
-      id-past : (id : ℕ) → (n ≡ id → ⊥) → (listed id (map idOf (drop i ts)) ≡ listed id (map idOf (drop (i + 1) ts))) × (withId id (drop i ts) ≡ withId id (drop (i + 1) ts))
-      id-past id q = (rw (from-here, ← d, ne-eqb n id q), rw (from-here, ← d, ne-eqb n id q))
-
--- ---- the place of a track
-
--- no track before i has the ID
-pub record NotBefore (id : ℕ) (ts : List (List ℕ)) (i : ℕ) : Type 0 where
-  pub has : listed id (map idOf (drop i ts)) ≡ listed id (map idOf ts)
-  pub track : withId id (drop i ts) ≡ withId id ts
-
-pub before-none : (id : ℕ) (ts : List (List ℕ)) → NotBefore id ts 0
-before-none id ts = record { has = refl; track = refl }
-
-module _ (id : ℕ) (ts : List (List ℕ)) (i : ℕ) (w : NotBefore id ts i) where
-  pub place-none : i ≡ length ts → StandsAt id ts i
-  place-none e = record {
-    within = omega arith;
-    found = λ h. absurd (omega arith);
-    none = λ q. sym (w .has) ∙ rw (drop-of-length-le ts {i = i} (omega arith));
-  }
-
-  module _ (h : i < length ts) (n : ℕ) (d : n ≡ idOf (getD ts i [])) where
-    pub place-here : n ≡ id → StandsAt id ts i
-    place-here q =
-        let k = id-here ts i h n d id q in
-        record { within = omega arith; found = λ g. (sym (w .has) ∙ k .0, sym (w .track) ∙ k .1); none = λ e. absurd (omega arith) }
-
-    pub place-next : (n ≡ id → ⊥) → NotBefore id ts (i + 1)
-    place-next q = let k = id-past ts i h n d id q in record { has = sym (k .0) ∙ w .has; track = sym (k .1) ∙ w .track }

@@ -1,5 +1,5 @@
-// A film: refusals 1 to 13 and 19 as one answer, and its tracks by ID.
-pub mod tracks;
+// A film: refusals 1 to 13 and 19 as one answer.
+mod tracks;
 
 use bigendian::u32_at;
 use places::moov::Traks;

@@ -1,4 +1,4 @@
-// The tracks of a movie by their IDs, from its traks.
+// The IDs of a movie's tracks, from its traks.
 use places::moov::Traks;
 use places::moov::trak_at;
 use places::part_of;
@@ -11,7 +11,7 @@ ghost use Rattle.structure.specs.Track.{idOf};
 ghost use Rattle.structure.specs.Movie.{moovOf, tracksOf};
 ghost use Rattle.places.specs.Places.{partIn, AreParts};
 ghost use Rattle.movie.specs.Tracks.{idsOf, repeats};
-ghost use Rattle.movie.specs.Traks.{FewTraks, StandsAt};
+ghost use Rattle.movie.specs.Traks.{FewTraks};
 
 // The ID of the track with that trak.
 fn id_of(lent: &[u8], trak: Trak) -> u32
@@ -54,20 +54,4 @@ pub(crate) fn ids_repeat(lent: &[u8], traks: Traks) -> bool
         i += 1;
     }
     false
-}
-
-// The place of the first track with that ID among the traks; their number where no track has it.
-pub fn place_of(lent: &[u8], traks: Traks, id: u32) -> usize
-    requires { ⌜ FewTraks (now lent) (tracksOf (moovOf (now lent))) traks ⌝ }
-    ensures { λ r. ⌜ StandsAt id (tracksOf (moovOf (now (lent .entry)))) r ⌝ }
-{
-    let count = traks.count;
-    let mut i: usize = 0;
-    while i < count {
-        if id_of(lent, trak_at(traks, i)) == id {
-            return i;
-        }
-        i += 1;
-    }
-    i
 }

@@ -9,8 +9,9 @@ use runs::cursor::run_ready;
 use windows::Best;
 use windows::RatedRun;
 use windows::Window;
+use windows::are_single;
 use windows::extended;
-use windows::is_no_higher;
+use windows::is_no_higher_run;
 use windows::next_window;
 use windows::raised;
 use windows::rated;
@@ -18,7 +19,6 @@ use windows::start_window;
 ghost use mathlib.Core.Path.{_≡_};
 ghost use mathlib.Core.Bool.{true};
 ghost use Prim.Native.Nat.{_+_, _-_, _*_, _≤_, _<_};
-ghost use Rattle.bigendian.specs.BigEndian.{u32At};
 ghost use Rattle.runs.specs.Runs.{perSample};
 ghost use lib.ListN.{length};
 ghost use Rattle.words.specs.Words.{wordsIn, sizes};
@@ -166,31 +166,6 @@ fn has_entries(stts: &[u8], stsz: &[u8], w: Window) -> bool
         return false;
     }
     u32_at(stsz, 12) == 0
-}
-
-// Whether a window that lasts `rest` without its last sample is the run of its first one, and no higher than the best run.
-fn is_no_higher_run(rest: u64, span: u64, bytes: u64, scale: u32, best: RatedRun) -> bool
-    requires { ⌜ (span < 4294967296) × (best .span < 4294967296) ⌝ }
-    ensures { λ r. ⌜ (r ≡ true → (rest < scale) × (scale ≤ span) × (bytes * best .span ≤ best .bytes * span)) ⌝ }
-{
-    if scale as u64 <= rest {
-        return false;
-    }
-    if span < scale as u64 {
-        return false;
-    }
-    is_no_higher(bytes, span, best)
-}
-
-// Whether two entries have one sample each.
-fn are_single(a: &[u8], b: &[u8]) -> bool
-    requires { ⌜ (8 ≤ length (now a)) × (8 ≤ length (now b)) ⌝ }
-    ensures { λ r. ⌜ (r ≡ true → (u32At (now (a .entry)) 0 ≡ 1) × (u32At (now (b .entry)) 0 ≡ 1)) ⌝ }
-{
-    if whole32(a, 0) != 1 {
-        return false;
-    }
-    whole32(b, 0) == 1
 }
 
 // The window where a slide by entries has taken it.

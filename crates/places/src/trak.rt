@@ -182,7 +182,7 @@ pub(crate) fn of_version_0(trak: &[u8], prfl: Part) -> Part
 }
 
 // The parts of the trak with that body.
-pub fn parts_of(trak: &[u8]) -> Parts
+fn parts_of(trak: &[u8]) -> Parts
     ensures { λ r. ⌜ AreParts (now (trak .entry)) r ⌝ }
 {
     let heads = find_heads(trak);

@@ -32,10 +32,10 @@ use Rattle.places.specs.Places.{partIn, AreParts, IsTrak}
 use Rattle.places.specs.Movies.{AreTraks}
 use Rattle.places.specs.declared.trak.Trak.{Trak}
 use Rattle.places.specs.declared.moov.Traks.{Traks}
-use Rattle.movie.specs.Traks.{FewTraks, StandsAt}
+use Rattle.movie.specs.Traks.{FewTraks}
 use Rattle.movie.proofs.Traks.{few-traks}
 use Rattle.questions.specs.Asked.{askRefusal, trackAsked}
-use Rattle.questions.specs.Asking.{Asks}
+use Rattle.questions.specs.Asking.{StandsAt, Asks}
 use Rattle.questions.specs.declared.Ask.{Ask}
 
 -- ---- the refusal, from what the code has of the film's and of the IDs

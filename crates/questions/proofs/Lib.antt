@@ -1,3 +1,4 @@
+mod Standing
 pub mod Asking
 pub mod Found
 pub mod Said

@@ -1,10 +1,15 @@
 -- What a question of a track begins with, from what judging its film finds. These need not be believed: they are between the crates' own functions.
-use Prim.Native.Nat.{ℕ}
+use Prim.Native.Nat.{ℕ, _≤_, _<_}
 use mathlib.Core.Path.{_≡_}
-use mathlib.Core.List.{List}
+use mathlib.Core.List.{List, [], map}
+use mathlib.Core.Bool.{true, false}
+use lib.ListN.{length, getD}
+use Rattle.words.specs.Words.{listed}
 use Rattle.structure.specs.declared.source.Source.{Source}
+use Rattle.structure.specs.Track.{idOf}
 use Rattle.structure.specs.Movie.{moovOf, movieScale}
 use Rattle.places.specs.Places.{IsTrak}
+use Rattle.movie.specs.Tracks.{withId}
 use Rattle.questions.specs.Asked.{askRefusal, trackAsked}
 use Rattle.questions.specs.declared.Ask.{Ask}
 
@@ -13,3 +18,9 @@ pub record Asks (s : List ℕ) (w : Source) (id : ℕ) (r : Ask) : Type 0 where
   pub refusal : r .refusal ≡ askRefusal s w id
   pub movie : r .refusal ≡ 0 → r .movie ≡ movieScale (moovOf s)
   pub trak : r .refusal ≡ 0 → IsTrak s (trackAsked s id) (r .trak)
+
+-- the first of the tracks ts with the ID is at i; where none has it, i is their number
+pub record StandsAt (id : ℕ) (ts : List (List ℕ)) (i : ℕ) : Type 0 where
+  pub within : i ≤ length ts
+  pub found : i < length ts → (listed id (map idOf ts) ≡ true) × (withId id ts ≡ getD ts i [])
+  pub none : i ≡ length ts → listed id (map idOf ts) ≡ false

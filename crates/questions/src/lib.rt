@@ -2,15 +2,18 @@
 pub mod samples;
 
 use bigendian::u32_at;
-use movie::tracks::place_of;
+use places::moov::Traks;
 use places::moov::trak_at;
 use places::part_of;
 use places::trak::Trak;
 use places::trak::no_trak;
 use structure::source::Source;
+use track::id_in;
 ghost use mathlib.Core.Path.{_≡_};
 ghost use Rattle.questions.specs.Asked.{askRefusal};
-ghost use Rattle.questions.specs.Asking.{Asks};
+ghost use Rattle.structure.specs.Movie.{moovOf, tracksOf};
+ghost use Rattle.movie.specs.Traks.{FewTraks};
+ghost use Rattle.questions.specs.Asking.{StandsAt, Asks};
 
 // The refusal that is given before the question itself is looked at: the film's, or 14; 0 where there is none. Then the movie's time scale, and the trak of
 // the track that is asked.
@@ -29,6 +32,24 @@ fn refused(n: u32) -> Ask
         movie: 0,
         trak,
     }
+}
+
+// The place of the first track with that ID among the traks; their number where no track has it.
+fn place_of(lent: &[u8], traks: Traks, id: u32) -> usize
+    requires { ⌜ FewTraks (now lent) (tracksOf (moovOf (now lent))) traks ⌝ }
+    ensures { λ r. ⌜ StandsAt id (tracksOf (moovOf (now (lent .entry)))) r ⌝ }
+{
+    let count = traks.count;
+    let mut i: usize = 0;
+    while i < count {
+        let trak = trak_at(traks, i);
+        let body = trak.body;
+        if id_in(part_of(lent, body), trak.parts) == id {
+            return i;
+        }
+        i += 1;
+    }
+    i
 }
 
 impl Ask {

@@ -196,7 +196,7 @@ fn refused(n: u32) -> Judged
     }
 }
 
-// Judges a film by 1 to 6.
+// Judges a film: its refusal is the first of 1 to 6 that applies, or 0.
 pub fn judge(lent: &[u8], source: Source) -> Judged
     ensures { λ r. ⌜ Judges (now (lent .entry)) (refusalOf source (now (lent .entry))) r ⌝ }
 {
@@ -217,11 +217,4 @@ pub fn judge(lent: &[u8], source: Source) -> Judged
         tree.versions,
         tree.sizes,
     )
-}
-
-// The refusal of a film: the first of 1 to 6 that applies, or 0.
-pub fn refusal(lent: &[u8], source: Source) -> u32
-    ensures { λ r. ⌜ r ≡ refusalOf source (now (lent .entry)) ⌝ }
-{
-    judge(lent, source).refusal
 }

@@ -86,7 +86,7 @@ fn ends_from(bytes: &[u8], from: usize) -> usize
 }
 
 // Whether the bytes from a place on are found to be c good numbers.
-pub fn are_numbers(bytes: &[u8], c: usize, from: usize) -> bool
+pub(crate) fn are_numbers(bytes: &[u8], c: usize, from: usize) -> bool
     ensures { λ r. ⌜ (r ≡ true → checkedOf (run 4 16 (now (bytes .entry)) c 6 0 from) ≡ All (length (now (bytes .entry)))) ⌝ }
 {
     if from < 4 {

@@ -18,11 +18,11 @@ use Rattle.leb128.specs.Numbers.{groups, writes}
 use Rattle.slip_head.specs.Bytes.{anyWide}
 use Rattle.pairs.specs.Pairs.{flat}
 use Rattle.lists.specs.Lists.{sum}
-use Rattle.pairs.specs.Walks.{firstPair, runPairs}
+use Rattle.pairs.specs.Walks.{firstPair, runPairs, equalLengthPairs}
 use Rattle.pairs.specs.declared.WholeRun.{WholeRun}
-use Rattle.slip_pairs.specs.Measures.{pairBytes, commonPairs, measuredOf}
-use Rattle.slip_pairs.specs.declared.Measured.{Measured}
-use Rattle.slip_pairs.proofs.Streaming.{length-bytes, one-length}
+use Rattle.pair_bytes.specs.Measures.{pairBytes, measuredOf}
+use Rattle.pair_bytes.specs.declared.Measured.{Measured}
+use Rattle.pair_bytes.proofs.Streaming.{length-bytes, one-length}
 
 -- one turn of the loop over words
 pub words-turn : (t : List ℕ) → 4 ≤ length t → length (writes (wordsIn t)) ≡ length (groups (u32At t 0)) + length (writes (wordsIn (drop 4 t)))
@@ -66,7 +66,7 @@ module _ (r : WholeRun) (common : r .listed ≡ false) where
       (lt-leb (2 ^ 32) (firstPair r (c ∷ cs) zs .length) l)
       (common-narrow cs (drop (r .per) zs) h (λ i. b (suc i)))
 
-  pub common-pairs : (cs zs : List ℕ) → runPairs r cs zs ≡ commonPairs (r .bytes) cs
+  pub common-pairs : (cs zs : List ℕ) → runPairs r cs zs ≡ equalLengthPairs (r .bytes) cs
   common-pairs [] zs = refl
   common-pairs (c ∷ cs) zs =
       let rest = common-pairs cs (drop (r .per) zs) in
@@ -74,11 +74,11 @@ module _ (r : WholeRun) (common : r .listed ≡ false) where
 
 -- a turn of the loop that writes them, and its end
 pub common-next : (bytes : ℕ) (t : List ℕ) → 4 ≤ length t → (o : ℕ) → o ≡ u32At t 0
-    → commonPairs bytes (wordsIn t) ≡ record { offset = o; length = bytes } ∷ commonPairs bytes (wordsIn (drop 4 t))
-common-next bytes t h o e = rw e (ap (commonPairs bytes) (words-next t h))
+    → equalLengthPairs bytes (wordsIn t) ≡ record { offset = o; length = bytes } ∷ equalLengthPairs bytes (wordsIn (drop 4 t))
+common-next bytes t h o e = rw e (ap (equalLengthPairs bytes) (words-next t h))
 
-pub common-end : (bytes : ℕ) (t : List ℕ) → length t < 4 → commonPairs bytes (wordsIn t) ≡ []
-common-end bytes t h = ap (commonPairs bytes) (words-none t h)
+pub common-end : (bytes : ℕ) (t : List ℕ) → length t < 4 → equalLengthPairs bytes (wordsIn t) ≡ []
+common-end bytes t h = ap (equalLengthPairs bytes) (words-none t h)
 
 -- a 32-bit number of a table
 narrow : (t : List ℕ) → ((x : ℕ) → getD t x 0 < 256) → (i : ℕ) → getD (wordsIn t) i 0 < 2 ^ 32
@@ -103,5 +103,5 @@ module _ (r : WholeRun) (t z : List ℕ) (short : r .long ≡ false) (common : r
       in
       λ k. record { bytes = n k; wide = w k }
 
-  pub common-all : runPairs r (numbersIn (widthOf (r .long)) t) (wordsIn z) ≡ commonPairs (r .bytes) (wordsIn t)
+  pub common-all : runPairs r (numbersIn (widthOf (r .long)) t) (wordsIn z) ≡ equalLengthPairs (r .bytes) (wordsIn t)
   common-all = ap (λ (x : Bool). runPairs r (numbersIn (widthOf x) t) (wordsIn z)) short ∙ common-pairs r common (wordsIn t) (wordsIn z)

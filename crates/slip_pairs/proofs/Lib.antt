@@ -1,2 +1,2 @@
-pub mod Common
-pub mod Streaming
+mod Common
+mod Walking

@@ -2,7 +2,10 @@
 use bigendian::after;
 use bigendian::whole32;
 use leb128::number_len;
-use leb128::store_number;
+use pair_bytes::Measured;
+use pair_bytes::both;
+use pair_bytes::measure_pair;
+use pair_bytes::write_pair;
 use pairs::ChunkPosition;
 use pairs::Pair;
 use pairs::WholeRun;
@@ -15,58 +18,14 @@ use pairs::run_at;
 use pairs::run_offsets;
 use pairs::run_sizes;
 use pairs::start_place;
-use pairs::width_of;
+use words::width_of;
 ghost use mathlib.Core.Path.{_≡_};
-ghost use mathlib.Core.Bool.{_||_};
-ghost use mathlib.Core.List.{[], _∷_};
 ghost use Prim.Native.Nat.{_+_, _≤_, _<_, _^_};
 ghost use lib.ListN.{length};
 ghost use Rattle.words.specs.Words.{numbersIn, wordsIn, widthOf};
 ghost use Rattle.leb128.specs.Numbers.{writes};
-ghost use Rattle.slip_head.specs.Bytes.{anyWide};
-ghost use Rattle.pairs.specs.Walks.{pairsBetween, Fitting, AtOnce, runPairs, pairsAtOnce};
-ghost use Rattle.slip_pairs.specs.Measures.{pairBytes, commonPairs, measuredOf, Wrote};
-
-// How many bytes some pairs are written in, and whether one of their numbers is 2^32 or more.
-pub struct Measured {
-    pub bytes: usize,
-    pub wide: bool,
-}
-
-fn is_wide(q: Pair) -> bool
-    ensures { λ r. ⌜ r ≡ anyWide (q .offset ∷ q .length ∷ []) ⌝ }
-{
-    if 4294967296 <= q.offset {
-        return true;
-    }
-    4294967296 <= q.length
-}
-
-fn measure_pair(q: Pair) -> Measured
-    ensures { λ r. ⌜ r ≡ measuredOf (q ∷ []) ⌝ }
-{
-    let first = number_len(q.offset);
-    let second = number_len(q.length);
-    Measured {
-        bytes: first + second,
-        wide: is_wide(q),
-    }
-}
-
-// Of the pairs of both.
-fn both(a: Measured, b: Measured) -> Measured
-    requires { ⌜ a .bytes + b .bytes < 2 ^ 64 ⌝ }
-    ensures { λ r. ⌜ r ≡ record { bytes = a .bytes + b .bytes; wide = a .wide || b .wide } ⌝ }
-{
-    let bytes = a.bytes + b.bytes;
-    if a.wide {
-        return Measured { bytes, wide: true };
-    }
-    Measured {
-        bytes,
-        wide: b.wide,
-    }
-}
+ghost use Rattle.pairs.specs.Walks.{pairsBetween, Fitting, AtOnce, runPairs, pairsAtOnce, equalLengthPairs};
+ghost use Rattle.pair_bytes.specs.Measures.{pairBytes, measuredOf, Wrote};
 
 // In how many bytes the 32-bit numbers of a table are written.
 fn words_len(words: &[u8]) -> usize
@@ -172,15 +131,6 @@ pub fn measure_pairs(
     m
 }
 
-// Writes a pair's two numbers from a place on, where they fit.
-fn write_pair(q: Pair, out: &mut [u8], at: usize) -> usize
-    requires { ⌜ at + length (pairBytes (q ∷ [])) ≤ length (now out) ⌝ }
-    ensures { λ r. ⌜ Wrote (q ∷ []) (now (out .entry)) at r (now (out .exit)) ⌝ }
-{
-    let middle = store_number(out, at, q.offset);
-    store_number(out, middle, q.length)
-}
-
 // Writes the pairs of whole chunks of a run, one for each of the offsets, pair by pair, and answers the place past them.
 fn write_each(offsets: &[u8], sizes: &[u8], r: WholeRun, out: &mut [u8], at: usize) -> usize
     requires { ⌜ at + length (pairBytes (runPairs r (numbersIn (widthOf (r .long)) (now offsets)) (wordsIn (now sizes)))) ≤ length (now out) ⌝ }
@@ -202,8 +152,8 @@ fn write_each(offsets: &[u8], sizes: &[u8], r: WholeRun, out: &mut [u8], at: usi
 
 // Writes the pairs of chunks with 32-bit offsets and a common length, and answers the place past them.
 fn write_common(offsets: &[u8], bytes: u64, out: &mut [u8], at: usize) -> usize
-    requires { ⌜ at + length (pairBytes (commonPairs bytes (wordsIn (now offsets)))) ≤ length (now out) ⌝ }
-    ensures { λ past. ⌜ Wrote (commonPairs bytes (wordsIn (now (offsets .entry)))) (now (out .entry)) at past (now (out .exit)) ⌝ }
+    requires { ⌜ at + length (pairBytes (equalLengthPairs bytes (wordsIn (now offsets)))) ≤ length (now out) ⌝ }
+    ensures { λ past. ⌜ Wrote (equalLengthPairs bytes (wordsIn (now (offsets .entry)))) (now (out .entry)) at past (now (out .exit)) ⌝ }
 {
     let mut t = offsets;
     let mut k = at;

@@ -23,7 +23,7 @@ use Rattle.structure.specs.Track.{scaleOf, tableOf}
 use Rattle.atoms.specs.Kinds.{stts}
 use Rattle.lists.specs.Lists.{holder}
 use Rattle.runs.specs.Runs.{perSample}
-use Rattle.slip_pairs.proofs.Streaming.{none-wide}
+use Rattle.pair_bytes.proofs.Streaming.{none-wide}
 use Rattle.structure.specs.Rows.{orElse}
 use Rattle.movie.specs.Rooms.{noRoom, filledRoom, roomAfter, refusedWith}
 use Rattle.movie.proofs.Answers.{puts, puts-refused}
@@ -31,8 +31,8 @@ use Rattle.pairs.specs.Pairs.{flat}
 use Rattle.pairs.specs.declared.Pair.{Pair}
 use Rattle.pairs.specs.Walks.{pairsBetween, Fitting}
 use Rattle.pairs.proofs.Filling.{flat-length}
-use Rattle.slip_pairs.specs.Measures.{pairBytes, measuredOf, Wrote}
-use Rattle.slip_pairs.specs.declared.Measured.{Measured}
+use Rattle.pair_bytes.specs.Measures.{pairBytes, measuredOf, Wrote}
+use Rattle.pair_bytes.specs.declared.Measured.{Measured}
 use Rattle.edits.specs.declared.MediaTime.{MediaTime}
 use Rattle.questions.specs.Asked.{trackAsked}
 use Rattle.spans.specs.Spans.{Usable, Spans, spanPairs}

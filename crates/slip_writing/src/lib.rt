@@ -1,13 +1,13 @@
 // The slip of a stretch, into lent bytes.
 use bigendian::u32_at;
 use edits::MediaTime;
+use pair_bytes::Measured;
 use places::part_of;
 use places::trak::Parts;
 use questions::Ask;
 use slip_head::Head;
 use slip_head::head_len;
 use slip_head::put_head;
-use slip_pairs::Measured;
 use slip_pairs::measure_pairs;
 use slip_pairs::write_pairs;
 use spans::Asked;
@@ -21,7 +21,7 @@ ghost use Prim.Native.Nat.{_+_, _≤_, _<_, _^_};
 ghost use lib.ListN.{length};
 ghost use Rattle.pairs.specs.Pairs.{flat};
 ghost use Rattle.slip_head.specs.Bytes.{slipBytes};
-ghost use Rattle.slip_pairs.specs.Measures.{pairBytes, measuredOf, Wrote};
+ghost use Rattle.pair_bytes.specs.Measures.{pairBytes, measuredOf, Wrote};
 ghost use Rattle.structure.specs.Source.{wholeFile};
 ghost use Rattle.places.specs.Places.{AreParts};
 ghost use Rattle.spans.specs.Spans.{Usable, spanPairs};

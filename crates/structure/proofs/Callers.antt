@@ -1,7 +1,7 @@
 -- What callers go by: no row of a table holds where it gives no number; tracks by their index.
 -- Assumes nothing.
 use Prim.Native.Nat.{ℕ, zero, suc, _<_}
-use mathlib.Core.Path.{_≡_, refl, sym, subst}
+use mathlib.Core.Path.{_≡_, refl, sym}
 use mathlib.Core.List.{List, [], _∷_, map}
 use mathlib.Core.Bool.{Bool, true, false, cond}
 use lib.ListN.{length, getD}
@@ -68,9 +68,3 @@ none-else (suc a) b e = let z : suc a ≡ 0 = rw (eqb·suc-zero a) at e in absur
 -- P holds of each of them
 abbrev pub Each : (List ℕ → Type 0) → List (List ℕ) → Type 0
 Each P l = (i : ℕ) → i < length l → P (getD l i [])
-
-pub each-here : (P : List ℕ → Type 0) (a : List ℕ) (l r : List (List ℕ)) → l ≡ a ∷ r → Each P l → P a
-each-here P a l r e h = (subst (Each P) e h) 0 (omega arith)
-
-pub each-rest : (P : List ℕ → Type 0) (a : List ℕ) (l r : List (List ℕ)) → l ≡ a ∷ r → Each P l → Each P r
-each-rest P a l r e h i g = (subst (Each P) e h) (suc i) (omega arith)

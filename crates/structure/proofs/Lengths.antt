@@ -4,10 +4,9 @@ use Prim.Native.Nat.{ℕ, _≤_}
 use mathlib.Core.List.{List}
 use native.Mathlib.Omega.{arith}
 use lib.ListN.{length}
-use Rattle.atoms.specs.Kinds.{file, moov, trak, edts, mdia, minf, stbl, elst}
-use Rattle.atoms.specs.Atoms.{bodyIn}
+use Rattle.atoms.specs.Kinds.{file, moov, trak, mdia, minf, stbl}
 use Rattle.atoms.proofs.Lengths.{child-short, body-short}
-use Rattle.structure.specs.Track.{mdiaOf, minfOf, stblOf, tableOf, elstOf}
+use Rattle.structure.specs.Track.{mdiaOf, minfOf, stblOf, tableOf}
 use Rattle.structure.specs.Movie.{moovOf, trackAt}
 
 pub table-short : (k : ℕ) (t : List ℕ) → length (tableOf k t) ≤ length t
@@ -20,10 +19,6 @@ table-short k t =
       body-short mdia minf 0 (mdiaOf t),
       body-short trak mdia 0 t,
     )
-
-pub edits-short : (t : List ℕ) → length (elstOf t) ≤ length t
-unfolding elstOf
-edits-short t = omega (arith, child-short edts elst 0 (bodyIn trak edts 0 t), body-short trak edts 0 t)
 
 pub track-short : (i : ℕ) (s : List ℕ) → length (trackAt i (moovOf s)) ≤ length s
 unfolding trackAt moovOf

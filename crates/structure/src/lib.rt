@@ -1,8 +1,5 @@
-// The parts of a movie, each found and handed on as a part of the lent bytes; how the film was lent; refusals in the order of judging.
-pub mod moov;
-mod profile;
+// How a film is lent, and refusals in the order of judging; the definitions of a movie and its tracks, for the crates above.
 pub mod source;
-pub mod trak;
 
 ghost use mathlib.Core.Path.{_≡_};
 ghost use mathlib.Core.Bool.{_||_};

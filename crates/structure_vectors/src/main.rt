@@ -7,7 +7,7 @@ use structure::source::Source;
 fn judge(fd: i32) -> u32 {
     let mut film = io::large_buffer();
     let n = io::read_full(fd, &mut film);
-    shape::refusal(&film[..n], Source::whole())
+    shape::judge(&film[..n], Source::whole()).refusal
 }
 
 fn print(name: &[u8], number: u32) {

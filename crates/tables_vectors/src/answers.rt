@@ -5,16 +5,32 @@ use super::show;
 use atoms::kinds;
 use bigendian::after;
 use bigendian::u32_at;
+use chunk_checks::deals_samples;
 use edits::MovieTime;
+use places::Part;
+use places::child_part;
+use places::part_of;
 ghost use Prim.Native.Nat.{_<_, _^_};
 ghost use lib.ListN.{length};
+
+// The atom at i, from 0, among those of that kind in the set; no bytes where there are no more than i.
+pub fn child(set: &[u8], kind: u32, i: usize) -> &[u8]
+    requires { ⌜ length (now set) < 2 ^ 32 ⌝ }
+    ensures { λ r. ⌜ length (now r) < 2 ^ 32 ⌝ }
+{
+    let whole = Part {
+        at: 0,
+        len: set.len(),
+    };
+    part_of(set, child_part(set, whole, kinds::STBL, kind, i))
+}
 
 // A table of the set; no bytes where it is absent.
 fn table(set: &[u8], kind: u32) -> &[u8]
     requires { ⌜ length (now set) < 2 ^ 32 ⌝ }
     ensures { λ r. ⌜ length (now r) < 2 ^ 32 ⌝ }
 {
-    atoms::child(set, kinds::STBL, kind, 0)
+    child(set, kind, 0)
 }
 
 // Of stts and ctts.
@@ -56,15 +72,18 @@ fn place(set: &[u8], n: u32) -> chunks::Located
 }
 
 // Of stsc and stco.
-fn of_chunks(set: &[u8], question: u32, n: u32)
+fn of_chunks(set: &[u8], ask: Ask, n: u32)
     requires { ⌜ length (now set) < 2 ^ 32 ⌝ }
 {
     let stsc = table(set, kinds::STSC);
     let stsz = table(set, kinds::STSZ);
     let stco = table(set, kinds::STCO);
+    let question = ask.question;
     match question {
-        asks::DEALS_AGREE => { show::truth(chunk_checks::deals_agree(stsc, u32_at(stco, 12), n)) }
-        asks::TOTAL_DEALT => show::total(chunk_checks::total_dealt(stsc, n)),
+        asks::DEALS_BY_DESCRIPTIONS => {
+            show::truth(deals_samples(stsc, u32_at(stco, 12), n, ask.a))
+        }
+        asks::DEALS_BY_SAMPLES => { show::truth(deals_samples(stsc, u32_at(stco, 12), ask.a, n)) }
         asks::LOCATE => show::located(place(set, n)),
         asks::OFFSET_AT => show::number(chunks::located_offset(stsz, stco, place(set, n), n)),
         asks::CHUNK_OFFSET => show::number(words::chunk_offset(stco, n as u64)),
@@ -91,7 +110,7 @@ fn answer(set: &[u8], ask: Ask, n: u32)
     match question {
         asks::STTS_COUNTS..=asks::SHIFT_AT => of_runs(set, question, n),
         asks::SIZE_OF..=asks::IS_SYNC => of_samples(set, ask, n),
-        asks::DEALS_AGREE..=asks::ENDS_WITHIN => of_chunks(set, question, n),
+        asks::DEALS_BY_DESCRIPTIONS..=asks::ENDS_WITHIN => of_chunks(set, ask, n),
         _ => of_edits(set, ask, n),
     }
 }
@@ -138,8 +157,8 @@ fn heading(set: &[u8], ask: Ask)
         asks::BYTES_BETWEEN => show::field(b"bytes_between from ", ask.a),
         asks::SYNCS_AGREE => show::text(b"syncs_agree"),
         asks::IS_SYNC => show::text(b"is_sync"),
-        asks::DEALS_AGREE => show::text(b"deals_agree"),
-        asks::TOTAL_DEALT => show::text(b"total_dealt"),
+        asks::DEALS_BY_DESCRIPTIONS => show::field(b"deals_samples samples ", ask.a),
+        asks::DEALS_BY_SAMPLES => show::field(b"deals_samples descriptions ", ask.a),
         asks::LOCATE => show::text(b"locate"),
         asks::OFFSET_AT => show::text(b"located_offset"),
         asks::CHUNK_OFFSET => show::text(b"chunk_offset"),
@@ -164,7 +183,7 @@ pub fn line(set: &[u8], atom: &[u8])
     let count = numbers.len() / 4;
     let mut i = 0;
     while i < count {
-        let n = words::word_at(numbers, i);
+        let n = u32_at(numbers, 4 * i);
         show::field(b" ", n);
         show::text(b":");
         answer(set, ask, n);

@@ -23,9 +23,9 @@ pub const SYNCS_AGREE: u32 = 9;
 
 pub const IS_SYNC: u32 = 10;
 
-pub const DEALS_AGREE: u32 = 11;
+pub const DEALS_BY_DESCRIPTIONS: u32 = 11;
 
-pub const TOTAL_DEALT: u32 = 12;
+pub const DEALS_BY_SAMPLES: u32 = 12;
 
 pub const LOCATE: u32 = 13;
 
@@ -41,7 +41,8 @@ pub const EDITS_OK: u32 = 18;
 
 pub const MEDIA_AT: u32 = 19;
 
-// A question, and the numbers of the whole line: where the sum of sizes begins; or the media's scale, the movie's, and the total of the durations.
+// A question, and the numbers of the whole line: where the sum of sizes begins; the number of samples dealt, or of descriptions; or the media's scale, the
+// movie's, and the total of the durations.
 pub struct Ask {
     pub question: u32,
     pub a: u32,

@@ -5,17 +5,19 @@ mod answers;
 mod asks;
 mod show;
 
-use atoms::kinds;
 ghost use Prim.Native.Nat.{_<_, _^_};
 ghost use lib.ListN.{length};
 
 fn lines(set: &[u8])
     requires { ⌜ length (now set) < 2 ^ 32 ⌝ }
 {
-    let count = atoms::count_of(set, kinds::STBL, asks::ASKS);
     let mut i = 0;
-    while i < count {
-        answers::line(set, atoms::child(set, kinds::STBL, asks::ASKS, i));
+    while i < set.len() {
+        let atom = answers::child(set, asks::ASKS, i);
+        if atom.len() == 0 {
+            return;
+        }
+        answers::line(set, atom);
         i += 1;
     }
 }

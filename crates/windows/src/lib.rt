@@ -1,5 +1,6 @@
 // The window of a pass over stts and stsz: the samples of the run that begins at its tail; and the best run so far. The tables are read as they stand in
 // the file and never expanded.
+use bigendian::whole32;
 use rates::Feature;
 use rates::rate;
 use runs::cursor::RunCursor;
@@ -8,7 +9,10 @@ use runs::cursor::run_ready;
 use runs::cursor::run_start;
 use words::size_of;
 ghost use mathlib.Core.Path.{_≡_};
+ghost use mathlib.Core.Bool.{true};
 ghost use Prim.Native.Nat.{_+_, _-_, _*_, _≤_, _<_};
+ghost use lib.ListN.{length};
+ghost use Rattle.bigendian.specs.BigEndian.{u32At};
 ghost use Rattle.runs.specs.Runs.{perSample};
 ghost use Rattle.words.specs.Words.{sizes};
 ghost use Rattle.windows.specs.Windows.{Timed, startWindow, grownBy, Slides, Reaches, ratedRun, IsRated, noHigher, Raises};
@@ -126,7 +130,7 @@ pub fn rated(w: Window, scale: u32) -> Best
 }
 
 // Whether so many bytes in so long are, by cross-multiplication, no more a second than another run's. Where that is not told in 64 bits, the answer is no.
-pub fn is_no_higher(bytes: u64, span: u64, other: RatedRun) -> bool
+fn is_no_higher(bytes: u64, span: u64, other: RatedRun) -> bool
     requires { ⌜ (span < 4294967296) × (other .span < 4294967296) ⌝ }
     ensures { λ r. ⌜ r ≡ noHigher bytes span other ⌝ }
 {
@@ -137,6 +141,31 @@ pub fn is_no_higher(bytes: u64, span: u64, other: RatedRun) -> bool
         return false;
     }
     bytes * other.span <= other.bytes * span
+}
+
+// Whether a window that lasts `rest` without its last sample is the run of its first one, and no higher than the best run.
+pub fn is_no_higher_run(rest: u64, span: u64, bytes: u64, scale: u32, best: RatedRun) -> bool
+    requires { ⌜ (span < 4294967296) × (best .span < 4294967296) ⌝ }
+    ensures { λ r. ⌜ (r ≡ true → (rest < scale) × (scale ≤ span) × (bytes * best .span ≤ best .bytes * span)) ⌝ }
+{
+    if scale as u64 <= rest {
+        return false;
+    }
+    if span < scale as u64 {
+        return false;
+    }
+    is_no_higher(bytes, span, best)
+}
+
+// Whether two entries have one sample each.
+pub fn are_single(a: &[u8], b: &[u8]) -> bool
+    requires { ⌜ (8 ≤ length (now a)) × (8 ≤ length (now b)) ⌝ }
+    ensures { λ r. ⌜ (r ≡ true → (u32At (now (a .entry)) 0 ≡ 1) × (u32At (now (b .entry)) 0 ≡ 1)) ⌝ }
+{
+    if whole32(a, 0) != 1 {
+        return false;
+    }
+    whole32(b, 0) == 1
 }
 
 // The better of the best run so far and a window's. Only a run that may be higher has its rate computed.

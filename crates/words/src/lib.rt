@@ -34,7 +34,7 @@ fn front(s: &[u8], n: usize) -> &[u8]
 }
 
 // The number of a part with an index.
-pub fn word_at(part: &[u8], index: usize) -> u32
+fn word_at(part: &[u8], index: usize) -> u32
     ensures { λ r. ⌜ r ≡ getD (wordsIn (now (part .entry))) index 0 ⌝ }
 {
     if index < part.len() / 4 {

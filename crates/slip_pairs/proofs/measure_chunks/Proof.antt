@@ -4,8 +4,8 @@ use borrow.Author.Needs.{needs}
 use mathlib.Core.Path.{refl, sym, ap, _∙_}
 use native.Mathlib.Omega.{arith}
 use Rattle.pairs.proofs.Wholes.{at-once-one, at-once-whole, run-given}
-use Rattle.slip_pairs.specs.Measures.{measuredOf}
-use Rattle.slip_pairs.proofs.Streaming.{once-fits, same-short}
+use Rattle.pair_bytes.specs.Measures.{measuredOf}
+use Rattle.pair_bytes.proofs.Streaming.{once-fits, same-short}
 use Rattle.slip_pairs.proofs.measure_chunks.Statement.{statement}
 use Rattle.slip_pairs.proofs.measure_chunks.Tie as tie
 

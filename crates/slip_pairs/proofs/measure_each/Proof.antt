@@ -12,7 +12,7 @@ use Rattle.words.specs.Words.{numbersIn, wordsIn, widthOf}
 use Rattle.words.proofs.Turns.{width-above}
 use Rattle.pairs.specs.Walks.{runPairs}
 use Rattle.pairs.proofs.Wholes.{run-next, run-end}
-use Rattle.slip_pairs.proofs.Streaming.{Measuring, measuring-start, measuring-end, measure-fits, measuring-turn}
+use Rattle.pair_bytes.proofs.Streaming.{Measuring, measuring-start, measuring-end, measure-fits, measuring-turn}
 use Rattle.slip_pairs.proofs.measure_each.Statement.{statement}
 use Rattle.slip_pairs.proofs.measure_each.Tie as tie
 

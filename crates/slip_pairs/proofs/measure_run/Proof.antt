@@ -10,7 +10,7 @@ use lib.ListN.{length, getD}
 use Rattle.words.specs.Words.{numbersIn, wordsIn, widthOf}
 use Rattle.leb128.specs.Numbers.{groups, writes}
 use Rattle.pairs.specs.Walks.{runPairs}
-use Rattle.slip_pairs.specs.Measures.{pairBytes}
+use Rattle.pair_bytes.specs.Measures.{pairBytes}
 use Rattle.slip_pairs.proofs.Common.{common-length, common-measured}
 use Rattle.slip_pairs.proofs.measure_run.Statement.{statement}
 use Rattle.slip_pairs.proofs.measure_run.Tie as tie

@@ -4,7 +4,7 @@ use borrow.Author.Needs.{needs}
 use mathlib.Core.Path.{refl, sym, ap, _∙_}
 use native.Mathlib.Omega.{arith}
 use Rattle.pairs.proofs.Wholes.{at-once-one, at-once-whole, run-given}
-use Rattle.slip_pairs.proofs.Streaming.{once-fits, same-fit, same-wrote}
+use Rattle.pair_bytes.proofs.Streaming.{once-fits, same-fit, same-wrote}
 use Rattle.slip_pairs.proofs.write_chunks.Statement.{statement}
 use Rattle.slip_pairs.proofs.write_chunks.Tie as tie
 

@@ -7,14 +7,14 @@ use denote.Ref.{now}
 use lib.ListN.{length, length-drop}
 use Rattle.bigendian.proofs.Parts.{rest as part-rest}
 use Rattle.words.specs.Words.{wordsIn}
-use Rattle.slip_pairs.specs.Measures.{commonPairs}
+use Rattle.pairs.specs.Walks.{equalLengthPairs}
 use Rattle.slip_pairs.proofs.Common.{common-next, common-end}
-use Rattle.slip_pairs.proofs.Streaming.{Writing, writing-start, writing-end, write-next, writing-turn}
+use Rattle.pair_bytes.proofs.Streaming.{Writing, writing-start, writing-end, write-next, writing-turn}
 use Rattle.slip_pairs.proofs.write_common.Statement.{statement}
 use Rattle.slip_pairs.proofs.write_common.Tie as tie
 
 abbrev Inv-loop : tie.InvT-loop
-Inv-loop offsets bytes out₀ at t₀ k₀ out t k = Writing (commonPairs bytes (wordsIn offsets)) out₀ at (commonPairs bytes (wordsIn t)) out k
+Inv-loop offsets bytes out₀ at t₀ k₀ out t k = Writing (equalLengthPairs bytes (wordsIn offsets)) out₀ at (equalLengthPairs bytes (wordsIn t)) out k
 
 abbrev μ-loop : tie.MeasureT-loop
 μ-loop offsets bytes out₀ at t₀ k₀ out t k = length t

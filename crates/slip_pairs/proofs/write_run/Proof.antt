@@ -4,10 +4,9 @@ use borrow.Author.Needs.{needs}
 use mathlib.Core.Path.{_≡_, sym}
 use denote.Ref.{now}
 use Rattle.words.specs.Words.{numbersIn, wordsIn, widthOf}
-use Rattle.pairs.specs.Walks.{runPairs}
-use Rattle.slip_pairs.specs.Measures.{commonPairs}
+use Rattle.pairs.specs.Walks.{runPairs, equalLengthPairs}
 use Rattle.slip_pairs.proofs.Common.{common-all}
-use Rattle.slip_pairs.proofs.Streaming.{same-fit, same-wrote}
+use Rattle.pair_bytes.proofs.Streaming.{same-fit, same-wrote}
 use Rattle.slip_pairs.proofs.write_run.Statement.{statement}
 use Rattle.slip_pairs.proofs.write_run.Tie as tie
 
@@ -16,7 +15,7 @@ module _ (e : tie.Else2) where
   abbrev start : tie.Start
   start = e .before .before .before .before .before
 
-  same : commonPairs (start .args .r .bytes) (wordsIn (now (start .args .offsets)))
+  same : equalLengthPairs (start .args .r .bytes) (wordsIn (now (start .args .offsets)))
       ≡ runPairs (start .args .r) (numbersIn (widthOf (start .args .r .long)) (now (start .args .offsets))) (wordsIn (now (start .args .sizes)))
   same = sym (common-all (start .args .r) (now (start .args .offsets)) (now (start .args .sizes)) (e .before .if1 .left) (e .if2 .left))
 

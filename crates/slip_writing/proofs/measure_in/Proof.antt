@@ -1,7 +1,7 @@
 -- `slip_writing::measure_in` meets its contract: an accepted track's pairs are few.
 -- Assumes nothing.
 use mathlib.Core.Path.{ap, _∙_}
-use Rattle.slip_pairs.specs.Measures.{measuredOf}
+use Rattle.pair_bytes.specs.Measures.{measuredOf}
 use Rattle.slip_writing.proofs.Slipping.{may-measure}
 use Rattle.spans.proofs.Spanning.{table-fits, between-is}
 use Rattle.slip_writing.proofs.measure_in.Statement.{statement}

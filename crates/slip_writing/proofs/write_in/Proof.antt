@@ -2,7 +2,7 @@
 -- Assumes nothing.
 use borrow.Author.Needs.{needs}
 use mathlib.Core.Path.{_∙_}
-use Rattle.slip_pairs.proofs.Streaming.{same-fit, same-wrote}
+use Rattle.pair_bytes.proofs.Streaming.{same-fit, same-wrote}
 use Rattle.slip_writing.proofs.Slipping.{may-measure}
 use Rattle.spans.proofs.Spanning.{table-fits, between-is}
 use Rattle.slip_writing.proofs.write_in.Statement.{statement}

@@ -29,8 +29,11 @@ after-requires c κs = search needs
 loop-holds : tie.Need-loop-holds Inv-loop μ-loop
 loop-holds c = search needs
 
-word-at-requires : tie.Need-word-at-requires Inv-loop μ-loop
-word-at-requires c κs = search needs
+mul-u32-at : tie.Need-mul-u32-at Inv-loop μ-loop
+mul-u32-at c = search needs
+
+u32-at-requires : tie.Need-u32-at-requires Inv-loop μ-loop
+u32-at-requires c κs = search needs
 
 slice-aggregate-field : tie.Need-slice-aggregate-field Inv-loop μ-loop
 slice-aggregate-field c = search needs
@@ -77,7 +80,8 @@ line-spec =
     heading-requires
     after-requires
     loop-holds
-    word-at-requires
+    mul-u32-at
+    u32-at-requires
     slice-aggregate-field
     field-requires
     slice-aggregate-text-2

@@ -101,10 +101,14 @@ impl<'a> Lines<'a> {
         }
         self.put(9, [0; 3], "syncs_agree", &around(n), |n| truth(syncs_agree(track, n)));
         let descriptions = long(track.descriptions.len());
-        self.put(11, [0; 3], "deals_agree", &around(descriptions), |n| truth(deals_agree(track, n)));
-        if deals_agree(track, descriptions) {
-            self.put(12, [0; 3], "total_dealt", &[long(track.stco.len())], |_| total(dealt(track)));
-        }
+        let samples = if deals_agree(track, descriptions) { dealt(track) } else { n };
+        let head = |n| [u32::try_from(n).unwrap_or(u32::MAX), 0, 0];
+        let name = format!("deals_samples samples {}", head(samples)[0]);
+        self.put(11, head(samples), &name, &around(descriptions), |n| {
+            truth(deals_samples(track, n, u64::from(head(samples)[0])))
+        });
+        let name = format!("deals_samples descriptions {descriptions}");
+        self.put(12, head(descriptions), &name, &around(samples), |n| truth(deals_samples(track, descriptions, n)));
     }
 
     /// Media times: for a small table the start of each sample and the time before it.

@@ -51,13 +51,17 @@ pub fn dealt(track: &Track) -> u64 {
     chunks(track).iter().map(|chunk| chunk.samples).sum()
 }
 
+/// What refusal 9 says of stsc, the total of the samples with it.
+pub fn deals_samples(track: &Track, descriptions: u64, samples: u64) -> bool {
+    deals_agree(track, descriptions) && dealt(track) == samples
+}
+
 /// "sample tables contradict each other"
 pub fn contradict(track: &Track) -> bool {
     let n = long(sizes(track).len());
     !(counts(&stts_counts(track), n)
         && ctts_counts(track).is_none_or(|each| counts(&each, n))
-        && deals_agree(track, long(track.descriptions.len()))
-        && dealt(track) == n
+        && deals_samples(track, long(track.descriptions.len()), n)
         && syncs_agree(track, n))
 }
 
