@@ -20,14 +20,14 @@ number-in-requires c κs = search needs
 
 slice-aggregate-sum-words : tie.Need-slice-aggregate-sum-words
 slice-aggregate-sum-words c =
-    let s = c .before .before .before .before .before .before in
+    let s = c .before .before .before .before .before in
     sym (length-take-le _ (now (s .args .sizes)) (s .pre))
 
 sum-words-requires : tie.Need-sum-words-requires
 sum-words-requires c κs =
     let k = c .before .before in
-    let s = k .before .before .before .before in
-    omega (arith, length-take-le (s .args .p .cursor .per * 4) (now (s .args .sizes)) (s .pre), k .struct-known .given)
+    let s = k .before .before .before in
+    omega (arith, length-take-le (s .args .c .per * 4) (now (s .args .sizes)) (s .pre), k .struct-known .given)
 
 returns : tie.Need-returns
 returns c = λ k. record { offset = c .before .before .number-in .ensures k; length = c .sum-words .ensures .0 k }
