@@ -1,19 +1,18 @@
 // Whole chunks whose sizes are listed, one after the other from a place on: what the tables that they are read from are, and the pair of each.
 use super::ChunkPosition;
-use super::Pair;
 use super::run_sizes;
 use bigendian::u32_at;
 use chunks::ChunkCursor;
 use chunks::pass;
 use chunks::ready;
-use words::number_in;
 use words::sum_words;
 ghost use mathlib.Core.Path.{_≡_};
 ghost use Prim.Native.Nat.{_+_, _*_, _/_, _^_, _≤_, _<_};
-ghost use lib.ListN.{length, drop};
-ghost use Rattle.words.specs.Words.{numbersIn, widthOf};
+ghost use lib.ListN.{length, take, drop};
+ghost use Rattle.lists.specs.Lists.{sum};
+ghost use Rattle.words.specs.Words.{wordsIn};
 ghost use Rattle.chunks.specs.Cursors.{readied, past};
-ghost use Rattle.pairs.specs.Moves.{ListedTo, isWhole, listedPair, placeBy};
+ghost use Rattle.pairs.specs.Moves.{ListedTo, isWhole, placeBy};
 
 // A place that a walk came to, with the next place of the room and the bytes of the pairs put.
 pub struct Moved {
@@ -53,16 +52,13 @@ pub fn is_whole(c: ChunkCursor, len: usize) -> bool
     c.per as usize * 4 <= len
 }
 
-// The pair of the chunk at a cursor, asked for whole: by the offsets of all chunks and its index, and the sizes from its first sample on.
-pub fn listed_pair(offsets: &[u8], long: bool, sizes: &[u8], c: ChunkCursor, chunk: usize) -> Pair
+// The bytes of the chunk at a cursor, asked for whole: by the sizes from its first sample on.
+pub fn listed_bytes(sizes: &[u8], c: ChunkCursor) -> u64
     requires { ⌜ c .per * 4 ≤ length (now sizes) ⌝ }
-    ensures { λ r. ⌜ r ≡ listedPair (numbersIn (widthOf long) (now (offsets .entry))) (now (sizes .entry)) c chunk ⌝ }
+    ensures { λ r. ⌜ r ≡ sum (wordsIn (take (c .per * 4) (now (sizes .entry)))) ⌝ }
 {
     let n = c.per as usize * 4;
-    Pair {
-        offset: number_in(offsets, long, chunk),
-        length: sum_words(&sizes[..n]),
-    }
+    sum_words(&sizes[..n])
 }
 
 // The sizes after those of the chunk at a cursor.

@@ -35,8 +35,8 @@ loop-holds c = let y = c .before in passing-start _ (y .before .before .before .
 is-whole-requires : tie.Need-is-whole-requires Inv-loop μ-loop
 is-whole-requires c κs = search needs
 
-add-listed-pair : tie.Need-add-listed-pair Inv-loop μ-loop
-add-listed-pair c =
+add-number-in : tie.Need-add-number-in Inv-loop μ-loop
+add-number-in c =
     let i = c in
     let m = i .before .before in
     let o = m .before .before .before in
@@ -45,55 +45,58 @@ add-listed-pair c =
     let h = place-fits _ _ _ _ _ (m .loop .inv .walk .place) (is-ahead (m .loop .inv .walk) (sym (i .before .is-whole .ensures) ∙ i .if1 .taken)) (s .pre .short) (s .fits .chunks .fits) (λ x. k .shared-slice-known .given x .fits) (s .fits .stop .fits) in
     record { fits = omega (arith, h .1) }
 
-listed-pair-requires : tie.Need-listed-pair-requires Inv-loop μ-loop
-listed-pair-requires c κs = sizes-there (c .before .before .loop .inv .walk) (sym (c .before .is-whole .ensures) ∙ c .if1 .taken)
+number-in-requires : tie.Need-number-in-requires Inv-loop μ-loop
+number-in-requires c κs = search needs
+
+listed-bytes-requires : tie.Need-listed-bytes-requires Inv-loop μ-loop
+listed-bytes-requires c κs = let i = c .before in sizes-there (i .before .before .loop .inv .walk) (sym (i .before .is-whole .ensures) ∙ i .if1 .taken)
 
 mul-put-pair : tie.Need-mul-put-pair Inv-loop μ-loop
 mul-put-pair c =
     let l = c .before in
-    let i = l .before in
+    let i = l .before .before in
     let m = i .before .before in
     let o = m .before .before .before in
     let s = o .before .before .before .before .before .before in
-    let f = listing-fits (m .loop .inv .walk) (sym (i .before .is-whole .ensures) ∙ i .if1 .taken) (l .listed-pair .ensures) (sym (offsets-of _ (o .is-long .ensures) (o .before .after .ensures))) (s .pre .room .total) in
+    let f = listing-fits (m .loop .inv .walk) (sym (i .before .is-whole .ensures) ∙ i .if1 .taken) (λ x. record { offset = l .before .number-in .ensures x; length = l .listed-bytes .ensures x }) (sym (offsets-of _ (o .is-long .ensures) (o .before .after .ensures))) (s .pre .room .total) in
     record { fits = omega (arith, f .2, m .loop .inv .walk .filling .same, s .good) }
 
 add-put-pair : tie.Need-add-put-pair Inv-loop μ-loop
 add-put-pair c =
     let l = c .before in
-    let i = l .before in
+    let i = l .before .before in
     let m = i .before .before in
     let o = m .before .before .before in
     let s = o .before .before .before .before .before .before in
-    let f = listing-fits (m .loop .inv .walk) (sym (i .before .is-whole .ensures) ∙ i .if1 .taken) (l .listed-pair .ensures) (sym (offsets-of _ (o .is-long .ensures) (o .before .after .ensures))) (s .pre .room .total) in
+    let f = listing-fits (m .loop .inv .walk) (sym (i .before .is-whole .ensures) ∙ i .if1 .taken) (λ x. record { offset = l .before .number-in .ensures x; length = l .listed-bytes .ensures x }) (sym (offsets-of _ (o .is-long .ensures) (o .before .after .ensures))) (s .pre .room .total) in
     record { fits = omega (arith, f .2, m .loop .inv .walk .filling .same, s .good) }
 
 put-pair-requires : tie.Need-put-pair-requires Inv-loop μ-loop
 put-pair-requires c κs =
     let l = c .before in
-    let i = l .before in
+    let i = l .before .before in
     let m = i .before .before in
     let o = m .before .before .before in
     let s = o .before .before .before .before .before .before in
-    listing-fits (m .loop .inv .walk) (sym (i .before .is-whole .ensures) ∙ i .if1 .taken) (l .listed-pair .ensures) (sym (offsets-of _ (o .is-long .ensures) (o .before .after .ensures))) (s .pre .room .total) .2
+    listing-fits (m .loop .inv .walk) (sym (i .before .is-whole .ensures) ∙ i .if1 .taken) (λ x. record { offset = l .before .number-in .ensures x; length = l .listed-bytes .ensures x }) (sym (offsets-of _ (o .is-long .ensures) (o .before .after .ensures))) (s .pre .room .total) .2
 
 add-bytes : tie.Need-add-bytes Inv-loop μ-loop
 add-bytes c =
-    let l = c .before .before .before .before .before in
-    let i = l .before in
+    let l = c .before .before .before .before in
+    let i = l .before .before in
     let m = i .before .before in
     let o = m .before .before .before in
     let s = o .before .before .before .before .before .before in
-    record { fits = listing-total (m .loop .inv .walk) (sym (i .before .is-whole .ensures) ∙ i .if1 .taken) (l .listed-pair .ensures) (sym (offsets-of _ (o .is-long .ensures) (o .before .after .ensures))) (s .pre .room .total) }
+    record { fits = listing-total (m .loop .inv .walk) (sym (i .before .is-whole .ensures) ∙ i .if1 .taken) (λ x. record { offset = l .before .number-in .ensures x; length = l .listed-bytes .ensures x }) (sym (offsets-of _ (o .is-long .ensures) (o .before .after .ensures))) (s .pre .room .total) }
 
 add-n : tie.Need-add-n Inv-loop μ-loop
 add-n c =
-    let l = c .before .before .before .before .before in
-    let i = l .before in
+    let l = c .before .before .before .before in
+    let i = l .before .before in
     let m = i .before .before in
     let o = m .before .before .before in
     let s = o .before .before .before .before .before .before in
-    let f = listing-fits (m .loop .inv .walk) (sym (i .before .is-whole .ensures) ∙ i .if1 .taken) (l .listed-pair .ensures) (sym (offsets-of _ (o .is-long .ensures) (o .before .after .ensures))) (s .pre .room .total) in
+    let f = listing-fits (m .loop .inv .walk) (sym (i .before .is-whole .ensures) ∙ i .if1 .taken) (λ x. record { offset = l .before .number-in .ensures x; length = l .listed-bytes .ensures x }) (sym (offsets-of _ (o .is-long .ensures) (o .before .after .ensures))) (s .pre .room .total) in
     record { fits = omega (arith, f .2, m .loop .inv .walk .filling .same, s .good) }
 
 sizes-past-requires : tie.Need-sizes-past-requires Inv-loop μ-loop
@@ -111,15 +114,15 @@ loop-less c =
 
 loop-again : tie.Need-loop-again Inv-loop μ-loop
 loop-again c =
-    let u = c .before .before .before .before .before in
+    let u = c .before .before .before .before in
     let l = u .before .before in
-    let i = l .before in
+    let i = l .before .before in
     let m = i .before .before in
     let o = m .before .before .before in
     let s = o .before .before .before .before .before .before in
     let k = o .before .before .before .before .before in
     let h = place-fits _ _ _ _ _ (m .loop .inv .walk .place) (is-ahead (m .loop .inv .walk) (sym (i .before .is-whole .ensures) ∙ i .if1 .taken)) (s .pre .short) (s .fits .chunks .fits) (λ x. k .shared-slice-known .given x .fits) (s .fits .stop .fits) in
-    passing-turn (m .loop .inv) (sym (i .before .is-whole .ensures) ∙ i .if1 .taken) (l .listed-pair .ensures) (sym (offsets-of _ (o .is-long .ensures) (o .before .after .ensures))) (u .put-pair .ensures) (c .before .sizes-past .ensures) (c .next-cursor .ensures) (h .1)
+    passing-turn (m .loop .inv) (sym (i .before .is-whole .ensures) ∙ i .if1 .taken) (λ x. record { offset = l .before .number-in .ensures x; length = l .listed-bytes .ensures x }) (sym (offsets-of _ (o .is-long .ensures) (o .before .after .ensures))) (u .put-pair .ensures) (c .before .sizes-past .ensures) (c .next-cursor .ensures) (h .1)
 
 sub-passed : tie.Need-sub-passed Inv-loop μ-loop
 sub-passed c = c .before .before .loop .inv .within
@@ -131,11 +134,11 @@ place-by-requires c κs =
     let s = y .before .before .before .before .before .before .before in
     (m .loop .inv .fits, passing-begin (m .loop .inv) (y .sizes-to .ensures) (omega (arith, s .good)) (s .fits .stop .fits))
 
-mul-t27 : tie.Need-mul-t27 Inv-loop μ-loop
-mul-t27 c = let m = c .before .before .before in record { fits = omega (arith, m .loop .inv .walk .filling .few, m .loop .inv .walk .filling .same, m .before .before .before .before .before .before .before .before .before .good) }
+mul-t29 : tie.Need-mul-t29 Inv-loop μ-loop
+mul-t29 c = let m = c .before .before .before in record { fits = omega (arith, m .loop .inv .walk .filling .few, m .loop .inv .walk .filling .same, m .before .before .before .before .before .before .before .before .before .good) }
 
-add-t28 : tie.Need-add-t28 Inv-loop μ-loop
-add-t28 c = let m = c .before .before .before in record { fits = omega (arith, m .loop .inv .walk .filling .few, m .loop .inv .walk .filling .same, m .before .before .before .before .before .before .before .before .before .good) }
+add-t30 : tie.Need-add-t30 Inv-loop μ-loop
+add-t30 c = let m = c .before .before .before in record { fits = omega (arith, m .loop .inv .walk .filling .few, m .loop .inv .walk .filling .same, m .before .before .before .before .before .before .before .before .before .good) }
 
 same-length : tie.Need-same-length Inv-loop μ-loop
 same-length c = c .before .before .before .loop .inv .walk .filling .same
@@ -154,8 +157,9 @@ put-listed-spec =
     sizes-to-requires
     loop-holds
     is-whole-requires
-    add-listed-pair
-    listed-pair-requires
+    add-number-in
+    number-in-requires
+    listed-bytes-requires
     mul-put-pair
     add-put-pair
     put-pair-requires
@@ -167,7 +171,7 @@ put-listed-spec =
     loop-again
     sub-passed
     place-by-requires
-    mul-t27
-    add-t28
+    mul-t29
+    add-t30
     same-length
     returns)
