@@ -6,10 +6,11 @@ use pairs::common_at_once;
 use pairs::is_past;
 use pairs::listed::Moved;
 use pairs::listed::is_whole;
-use pairs::listed::listed_pair;
+use pairs::listed::listed_bytes;
+use pairs::listed::next_cursor;
+use pairs::listed::place_by;
 use pairs::listed::sizes_past;
 use pairs::listed::sizes_to;
-use pairs::next_place;
 use pairs::pair_at;
 use pairs::place_past;
 use pairs::run_at;
@@ -131,27 +132,36 @@ fn put_listed(
     let part = after(offsets, 16);
     let long = is_long(offsets);
     let sizes = sizes_to(stsz, place, stop);
-    let mut p = place;
+    let first = place.chunk as usize;
+    let mut c = place.cursor;
     let mut z = sizes;
-    let mut at = start;
+    let mut n: usize = 0;
     let mut bytes: u64 = 0;
-    while is_whole(p, z.len()) {
-        let q = listed_pair(part, long, z, p);
-        put_pair(q, room, at);
-        bytes += q.length;
-        at += 2;
-        let others = sizes_past(z, p);
+    while is_whole(c, z.len()) {
+        let offset = number_in(part, long, first + n);
+        let length = listed_bytes(z, c);
+        put_pair(Pair { offset, length }, room, start + 2 * n);
+        bytes += length;
+        n += 1;
+        let others = sizes_past(z, c);
         z = others;
-        p = next_place(stsc, chunks, p);
+        c = next_cursor(stsc, chunks, c);
     }
+    let passed = sizes.len() - z.len();
     Moved {
-        place: p,
-        at,
+        place: place_by(place, c, n as u64, passed),
+        at: start + 2 * n,
         bytes,
     }
 }
 
-// Puts the pairs into the first places of the room, and answers their lengths, added.
+// How many pairs were put, and their lengths, added.
+pub struct PairsPut {
+    pub pairs: usize,
+    pub bytes: u64,
+}
+
+// Puts the pairs into the first places of the room.
 pub fn put_pairs(
     stsc: &[u8],
     stsz: &[u8],
@@ -160,9 +170,9 @@ pub fn put_pairs(
     from: u32,
     stop: u32,
     room: &mut [u32],
-) -> u64
+) -> PairsPut
     requires { ⌜ Putting (2 ^ 32) (now stsc) (now stsz) (now offsets) chunks from stop (length (now room)) ⌝ }
-    ensures { λ r. ⌜ (r ≡ sum (lengthsOf (pairsBetween (now (stsc .entry)) (now (stsz .entry)) (now (offsets .entry)) chunks from stop))) × (now (room .exit) ≡ sets (now (room .entry)) 0 (flat (pairsBetween (now (stsc .entry)) (now (stsz .entry)) (now (offsets .entry)) chunks from stop))) ⌝ }
+    ensures { λ r. ⌜ (r .pairs ≡ length (pairsBetween (now (stsc .entry)) (now (stsz .entry)) (now (offsets .entry)) chunks from stop)) × (r .bytes ≡ sum (lengthsOf (pairsBetween (now (stsc .entry)) (now (stsz .entry)) (now (offsets .entry)) chunks from stop))) × (now (room .exit) ≡ sets (now (room .entry)) 0 (flat (pairsBetween (now (stsc .entry)) (now (stsz .entry)) (now (offsets .entry)) chunks from stop))) ⌝ }
 {
     let mut p = start_place(stsc, chunks, from);
     let mut at = 0;
@@ -177,5 +187,8 @@ pub fn put_pairs(
         at = m.at;
         p = m.place;
     }
-    total
+    PairsPut {
+        pairs: at / 2,
+        bytes: total,
+    }
 }

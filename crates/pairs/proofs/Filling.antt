@@ -55,7 +55,7 @@ same-put e w = rw e at w
 -- ---- the loop
 
 pub filling-start : {b : ℕ} (all : List Pair) (room : List ℕ) (at : ℕ) → Room b all at (length room) → Filling b all room at all room at 0
-filling-start all room at w = record { fits = w .fits; few = w .space; same = refl; stored = refl; added = omega arith }
+filling-start all room at w = record { fits = w .fits; few = w .space; placed = refl; same = refl; stored = refl; added = omega arith }
 
 pub filling-end : {b : ℕ} (all : List Pair) (room₀ : List ℕ) (at₀ : ℕ) (rest : List Pair) (room : List ℕ) (at total : ℕ) → Filling b all room₀ at₀ rest room at total → rest ≡ [] → Put all room₀ at₀ total room
 filling-end all room₀ at₀ rest room at total w e =
@@ -68,6 +68,7 @@ pub filling-then : {b : ℕ} {all rest last : List Pair} {room₀ room after : L
 filling-then w v = record {
   fits = v .fits;
   few = v .few;
+  placed = v .placed ∙ w .placed;
   same = v .same ∙ w .same;
   stored = v .stored ∙ w .stored;
   added = omega (arith, w .added, v .added);
@@ -80,6 +81,9 @@ module _ {b : ℕ} {all : List Pair} {room₀ : List ℕ} {at₀ : ℕ} {rest : 
 
   few : at + 2 * (length qs + length l) ≤ length room
   few = omega (arith, w .few, ap length e, length-append qs l)
+
+  placed : at + 2 * (length qs + length l) ≡ at₀ + 2 * length all
+  placed = omega (arith, w .placed, ap length e, length-append qs l)
 
   module _ (h : sum (lengthsOf all) < 2 ^ 64) where
     pub next-room : Room b qs at (length room)
@@ -96,6 +100,7 @@ module _ {b : ℕ} {all : List Pair} {room₀ : List ℕ} {at₀ : ℕ} {rest : 
       record {
         fits = fitting-append b qs l (rw e at (w .fits)) .1;
         few = omega (arith, few);
+        placed = omega (arith, placed);
         same = s ∙ w .same;
         stored = rw (g, ← u) (sym (sets-append room at (flat qs) (flat l)) ∙ ap (sets room at) (sym (flat-append qs l) ∙ ap flat (sym e)) ∙ w .stored);
         added = omega (arith, added);
@@ -150,6 +155,9 @@ module _ {b : ℕ} {stsc stsz offsets : List ℕ} {chunks i j : ℕ} {room₀ : 
   walked-end e =
       let d = filling-end _ _ _ _ _ _ _ (w .filling) (at-end stsc stsz offsets chunks i j p (w .place) e) in
       (d .added, d .stored)
+
+  pub walked-many : (eqb (p .cursor .remaining) 0 || leb j (p .begin)) ≡ true → at ≡ 2 * length (pairsBetween stsc stsz offsets chunks i j)
+  walked-many e = omega (arith, w .filling .placed, ap length (at-end stsc stsz offsets chunks i j p (w .place) e))
 
   module _ (e : (eqb (p .cursor .remaining) 0 || leb j (p .begin)) ≡ false) (n : ℕ) (o : AtOnce stsz offsets i j p n) where
     abbrev these : List Pair

@@ -1,9 +1,10 @@
 -- Whole chunks whose sizes are listed: the pair of each is that of its offset and the next sizes, and leads to the place after it.
 -- Assumes nothing.
-use Prim.Native.Nat.{ℕ, _+_, _*_, _-_, _^_, _≤_, _<_}
+use Prim.Native.Nat.{ℕ, _+_, _*_, _-_, _/_, _^_, _≤_, _<_}
 use mathlib.Core.Path.{_≡_, refl, sym, ap, _∙_}
 use mathlib.Core.Bool.{true, false, _||_}
 use mathlib.Core.List.{List, [], _∷_}
+use native.Mathlib.Decide.{ℕ-discrete}
 use native.Mathlib.Omega.{arith}
 use borrow.Author.Tests.{ne-eqb, eqb-false, lt-leb, leb-true}
 use lib.ListN.{length, getD, take, drop, length-drop}
@@ -15,9 +16,10 @@ use Rattle.lists.proofs.Cuts.{drop-take}
 use Rattle.lists.proofs.Booleans.{cond-unless}
 use Rattle.words.specs.Words.{wordsIn, sizes, chunkOffsets}
 use Rattle.words.proofs.Turns.{words-drop, words-take, sizes-listed}
-use Rattle.chunks.specs.Cursors.{ahead}
+use Rattle.chunks.specs.Cursors.{ahead, readied, past}
+use Rattle.chunks.specs.declared.ChunkCursor.{ChunkCursor}
 use Rattle.pairs.specs.Walks.{lengthsOf, pairsAhead, At, placeAfter}
-use Rattle.pairs.specs.Moves.{Filling, ListedTo, isWhole, listedPair, Moving, Moves}
+use Rattle.pairs.specs.Moves.{Filling, ListedTo, isWhole, listedPair, placeBy, Moving, Moves}
 use Rattle.pairs.specs.declared.Pair.{Pair}
 use Rattle.pairs.specs.declared.ChunkPosition.{ChunkPosition}
 use Rattle.pairs.specs.declared.listed.Moved.{Moved}
@@ -62,9 +64,9 @@ module _ (stsz : List ℕ) (j begin : ℕ) (z : List ℕ) (w : ListedTo stsz j b
       ∙ ap sum (sym (words-take per y))
       ∙ ap (λ l. sum (wordsIn l)) (sym (take-take (per * 4) (length z) y h) ∙ ap (take (per * 4)) (sym (w .cut)))
 
-pub whole-known : (p : ChunkPosition) (n : ℕ) → isWhole p n ≡ true → (p .cursor .remaining ≡ 0 → ⊥) × (n ≡ 0 → ⊥) × (p .cursor .per * 4 ≤ n)
-whole-known p n e =
-    let a = cond-unless (eqb (p .cursor .remaining) 0) _ e in
+pub whole-known : (c : ChunkCursor) (n : ℕ) → isWhole c n ≡ true → (c .remaining ≡ 0 → ⊥) × (n ≡ 0 → ⊥) × (c .per * 4 ≤ n)
+whole-known c n e =
+    let a = cond-unless (eqb (c .remaining) 0) _ e in
     let b = cond-unless (eqb n 0) _ (a .1) in
     (eqb-false _ _ (a .0), eqb-false _ _ (b .0), leb-true _ _ (b .1))
 
@@ -86,9 +88,9 @@ module _ {b : ℕ} {stsc stsz offsets : List ℕ} {chunks i j : ℕ} {p₀ : Chu
   pub listing-end : Moves b stsc stsz offsets chunks i j p₀ room₀ at₀ (record { place = p; at = at; bytes = bytes }) room
   listing-end = record { place = w .place; filling = w .filling; fewer = w .fewer }
 
-  module _ (e : isWhole p (length z) ≡ true) where
+  module _ (e : isWhole (p .cursor) (length z) ≡ true) where
     known : (p .cursor .remaining ≡ 0 → ⊥) × (length z ≡ 0 → ⊥) × (p .cursor .per * 4 ≤ length z)
-    known = whole-known p (length z) e
+    known = whole-known (p .cursor) (length z) e
 
     pub sizes-there : p .cursor .per * 4 ≤ length z
     sizes-there = known .2
@@ -99,7 +101,7 @@ module _ {b : ℕ} {stsc stsz offsets : List ℕ} {chunks i j : ℕ} {p₀ : Chu
         let l : p .begin < j = omega (arith, w .sizes .ends (known .1)) in
         rw (ne-eqb (p .cursor .remaining) 0 (known .0), lt-leb j (p .begin) l)
 
-    module _ {q : Pair} {cs : List ℕ} (d : q ≡ listedPair cs z p) (f : cs ≡ chunkOffsets offsets) where
+    module _ {q : Pair} {cs : List ℕ} (d : q ≡ listedPair cs z (p .cursor) (p .chunk)) (f : cs ≡ chunkOffsets offsets) where
       next : pairsAhead stsc stsz offsets chunks i j p ≡ q ∷ pairsAhead stsc stsz offsets chunks i j (placeAfter stsc chunks p)
       next =
           let t : p .begin + p .cursor .per ≤ j = omega (arith, w .sizes .ends (known .1), known .2) in
@@ -127,3 +129,55 @@ module _ {b : ℕ} {stsc stsz offsets : List ℕ} {chunks i j : ℕ} {p₀ : Chu
 
     pub listing-less : {r : ChunkPosition} → r ≡ placeAfter stsc chunks p → length (ahead stsc chunks (r .cursor)) < length (ahead stsc chunks (p .cursor))
     listing-less o = rw o (at-less stsc stsz offsets chunks i j p (w .place) is-ahead)
+
+-- ---- the same walk by what moves in it: the cursor, how many chunks were passed, and the sizes that lie ahead, of all that there were
+
+same-walk : {b : ℕ} {stsc stsz offsets : List ℕ} {chunks i j : ℕ} {p₀ : ChunkPosition} {room₀ : List ℕ} {at₀ : ℕ} {p r : ChunkPosition} {z room : List ℕ} {at at′ bytes : ℕ} → r ≡ p → at′ ≡ at
+    → Listing b stsc stsz offsets chunks i j p₀ room₀ at₀ p z room at bytes → Listing b stsc stsz offsets chunks i j p₀ room₀ at₀ r z room at′ bytes
+same-walk e f w = rw (e, f) w
+
+pub record Passing (b : ℕ) (stsc stsz offsets : List ℕ) (chunks i j : ℕ) (p : ChunkPosition) (room₀ : List ℕ) (at₀ : ℕ) (all : List ℕ) (c : ChunkCursor) (z room : List ℕ) (n bytes : ℕ) : Type 0 where
+  pub walk : Listing b stsc stsz offsets chunks i j p room₀ at₀ (placeBy p c n (length all - length z)) z room (at₀ + 2 * n) bytes
+  pub within : length z ≤ length all
+  pub fits : p .chunk + n < 2 ^ 64
+
+module _ {b : ℕ} {stsc stsz offsets : List ℕ} {chunks i j : ℕ} {p : ChunkPosition} {at : ℕ} where
+  pub passing-start : (room : List ℕ) {z : List ℕ} → Moving b stsc stsz offsets chunks i j p at (length room) → ListedTo stsz j (p .begin) z → p .chunk < 2 ^ 64
+      → Passing b stsc stsz offsets chunks i j p room at z (p .cursor) z room 0 0
+  passing-start room {z} w s h =
+      let k : p .chunk + 0 ≡ p .chunk = omega arith in
+      let l : p .begin + (length z - length z) / 4 ≡ p .begin = omega arith in
+      record {
+        walk = same-walk (λ x. record { cursor = p .cursor; chunk = k x; begin = l x }) (omega arith) (listing-start room w s);
+        within = omega arith;
+        fits = omega arith;
+      }
+
+module _ {b : ℕ} {stsc stsz offsets : List ℕ} {chunks i j : ℕ} {p : ChunkPosition} {room₀ : List ℕ} {at₀ : ℕ} {all : List ℕ} {c : ChunkCursor} {z room : List ℕ} {n bytes : ℕ}
+    (w : Passing b stsc stsz offsets chunks i j p room₀ at₀ all c z room n bytes) where
+  abbrev here : ChunkPosition
+  here = placeBy p c n (length all - length z)
+
+  pub passing-begin : ListedTo stsz j (p .begin) all → p .begin < 2 ^ 64 → j < 2 ^ 32 → p .begin + (length all - length z) / 4 < 2 ^ 64
+  passing-begin s h k = elim (ℕ-discrete (length all) 0) [
+    | yes e ↦ omega (arith, w .within)
+    | no e ↦ omega (arith, s .ends e)
+  ]
+
+  module _ (e : isWhole c (length z) ≡ true) where
+    pub passing-turn : {q : Pair} {cs : List ℕ} → q ≡ listedPair cs z c (p .chunk + n) → cs ≡ chunkOffsets offsets → {new : List ℕ} → new ≡ sets room (at₀ + 2 * n) (q .offset ∷ q .length ∷ [])
+        → {y : List ℕ} → y ≡ drop (c .per * 4) z → {r : ChunkCursor} → r ≡ readied stsc chunks (past 1 c) → p .chunk + n < 2 ^ 63
+        → Passing b stsc stsz offsets chunks i j p room₀ at₀ all r y new (n + 1) (bytes + q .length)
+    passing-turn {q} d f g {y} k {r} o h =
+        let m : length y ≡ length z - c .per * 4 = ap length k ∙ length-drop (c .per * 4) z in
+        let l = sizes-there (w .walk) e in
+        let a : p .chunk + (n + 1) ≡ p .chunk + n + 1 = omega arith in
+        let t : p .begin + (length all - length y) / 4 ≡ p .begin + (length all - length z) / 4 + c .per = omega (arith, w .within) in
+        record {
+          walk = same-walk (λ x. record { cursor = o x; chunk = a x; begin = t x }) (omega arith) (listing-turn (w .walk) e d f g k refl);
+          within = omega (arith, w .within);
+          fits = omega arith;
+        }
+
+    pub passing-less : {r : ChunkCursor} → r ≡ readied stsc chunks (past 1 c) → length (ahead stsc chunks r) < length (ahead stsc chunks c)
+    passing-less o = rw o (listing-less (w .walk) e refl)

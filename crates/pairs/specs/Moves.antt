@@ -1,6 +1,6 @@
 -- Pairs put on the way from place to place, and whole chunks whose sizes are listed. These need not be believed: they are between the crates'
 -- own functions.
-use Prim.Native.Nat.{ℕ, _+_, _*_, _^_, _≤_, _<_}
+use Prim.Native.Nat.{ℕ, _+_, _*_, _/_, _^_, _≤_, _<_}
 use mathlib.Core.Path.{_≡_}
 use mathlib.Core.Bool.{Bool, false, cond}
 use mathlib.Core.List.{List}
@@ -11,6 +11,7 @@ use Rattle.bigendian.specs.BigEndian.{u32At}
 use Rattle.lists.specs.Lists.{sum}
 use Rattle.words.specs.Words.{wordsIn}
 use Rattle.chunks.specs.Cursors.{ahead}
+use Rattle.chunks.specs.declared.ChunkCursor.{ChunkCursor}
 use Rattle.pairs.specs.Pairs.{flat}
 use Rattle.pairs.specs.Walks.{lengthsOf, Fitting, pairsAhead, At, Room}
 use Rattle.pairs.specs.declared.Pair.{Pair}
@@ -21,6 +22,7 @@ use Rattle.pairs.specs.declared.listed.Moved.{Moved}
 pub record Filling (b : ℕ) (all : List Pair) (room₀ : List ℕ) (at₀ : ℕ) (rest : List Pair) (room : List ℕ) (at total : ℕ) : Type 0 where
   pub fits : Fitting b rest
   pub few : at + 2 * length rest ≤ length room
+  pub placed : at + 2 * length rest ≡ at₀ + 2 * length all
   pub same : length room ≡ length room₀
   pub stored : sets room at (flat rest) ≡ sets room₀ at₀ (flat all)
   pub added : total + sum (lengthsOf rest) ≡ sum (lengthsOf all)
@@ -32,12 +34,16 @@ pub record ListedTo (stsz : List ℕ) (j begin : ℕ) (z : List ℕ) : Type 0 wh
   pub ends : (length z ≡ 0 → ⊥) → begin * 4 + length z ≤ j * 4
 
 -- a chunk is ahead, and the first n bytes of the sizes, some, have those of its samples
-abbrev pub isWhole : ChunkPosition → ℕ → Bool
-isWhole p n = cond (eqb (p .cursor .remaining) 0) false (cond (eqb n 0) false (leb (p .cursor .per * 4) n))
+abbrev pub isWhole : ChunkCursor → ℕ → Bool
+isWhole c n = cond (eqb (c .remaining) 0) false (cond (eqb n 0) false (leb (c .per * 4) n))
 
--- its pair, by all offsets and the sizes from its first sample on
-abbrev pub listedPair : List ℕ → List ℕ → ChunkPosition → Pair
-listedPair cs z p = record { offset = getD cs (p .chunk) 0; length = sum (wordsIn (take (p .cursor .per * 4) z)) }
+-- its pair, by all offsets and its index, and the sizes from its first sample on
+abbrev pub listedPair : List ℕ → List ℕ → ChunkCursor → ℕ → Pair
+listedPair cs z c k = record { offset = getD cs k 0; length = sum (wordsIn (take (c .per * 4) z)) }
+
+-- the place that is n chunks and so many bytes of sizes further on, where the cursor is
+abbrev pub placeBy : ChunkPosition → ChunkCursor → ℕ → ℕ → ChunkPosition
+placeBy p c n passed = record { cursor = c; chunk = p .chunk + n; begin = p .begin + passed / 4 }
 
 -- what is asked where the pairs from a place on, behind which sample i does not lie, are put into so many places, from the place `at` on
 pub record Moving (b : ℕ) (stsc stsz offsets : List ℕ) (chunks i j : ℕ) (p : ChunkPosition) (at places : ℕ) : Type 0 where

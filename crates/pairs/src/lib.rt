@@ -24,7 +24,7 @@ ghost use Rattle.words.specs.Words.{numbersIn, wordsIn, sizes, widthOf, offsetW
 ghost use Rattle.chunks.specs.Chunks.{perChunk};
 ghost use Rattle.lists.specs.Lists.{between};
 ghost use Rattle.pairs.specs.Pairs.{pairOf};
-ghost use Rattle.pairs.specs.Walks.{countBetween, chunksTo, StartsAt, placeAfter, placePast, AtOnce, runAt, firstPair};
+ghost use Rattle.pairs.specs.Walks.{countBetween, chunksTo, StartsAt, placePast, AtOnce, runAt, firstPair};
 
 // A range of bytes of the file.
 pub struct Pair {
@@ -63,22 +63,6 @@ pub fn start_place(stsc: &[u8], chunks: u32, from: u32) -> ChunkPosition
         cursor,
         chunk: found.chunk,
         begin: words::span(within, from) as u64,
-    }
-}
-
-// Before the next chunk.
-pub fn next_place(stsc: &[u8], chunks: u32, p: ChunkPosition) -> ChunkPosition
-    requires { ⌜ (p .begin < 2 ^ 32) × (p .chunk < 2 ^ 63) ⌝ }
-    ensures { λ r. ⌜ r ≡ placeAfter (now (stsc .entry)) chunks p ⌝ }
-{
-    let c = p.cursor;
-    let per = c.per;
-    let chunk = p.chunk;
-    let begin = p.begin;
-    ChunkPosition {
-        cursor: ready(stsc, chunks, pass(c, 1)),
-        chunk: chunk + 1,
-        begin: begin + per as u64,
     }
 }
 

@@ -6,6 +6,7 @@ use bigendian::i32_at;
 use bigendian::u32_at;
 use lists::Total;
 ghost use mathlib.Core.Path.{_≡_};
+ghost use mathlib.Core.Bool.{true};
 ghost use Prim.Native.Nat.{_<_, _^_};
 ghost use lib.ListN.{length, replicate};
 ghost use lib.Signed.{mag};
@@ -14,25 +15,50 @@ ghost use Rattle.lists.specs.Totals.{totalOf};
 ghost use Rattle.runs.specs.Runs.{runsOf, perSample, compositionOffset, sampleAt, lookedUp, timingOf, lesserOf, leastOf};
 ghost use Rattle.runs.specs.Computed.{counting};
 
-// Whether no entry counts 0 samples and all of them total `samples`.
-pub fn counts(table: &[u8], samples: u32) -> bool
-    ensures { λ r. ⌜ r ≡ counting samples (runsOf (now (table .entry))) ⌝ }
+// Whether a table counts the samples, and if it does, the sum of one number for each: of stts the durations.
+pub struct CountedTotal {
+    pub agrees: bool,
+    pub total: u64,
+}
+
+// Whether no entry counts 0 samples and all of them total `samples`, with that sum: both in one pass, as every question asks them of stts.
+pub fn count_and_total(table: &[u8], samples: u32) -> CountedTotal
+    ensures { λ r. ⌜ (r .agrees ≡ counting samples (runsOf (now (table .entry)))) × (r .agrees ≡ true → r .total ≡ sum (perSample (now (table .entry)))) ⌝ }
 {
     let part = after(table, 16);
     let mut t = part;
     let mut rest = samples;
+    let mut total: u64 = 0;
     while 8 <= t.len() {
         let count = u32_at(t, 0);
         if count == 0 {
-            return false;
+            return CountedTotal {
+                agrees: false,
+                total,
+            };
         }
         if rest < count {
-            return false;
+            return CountedTotal {
+                agrees: false,
+                total,
+            };
         }
         rest -= count;
+        total += count as u64 * u32_at(t, 4) as u64;
         t = &t[8..];
     }
-    rest == 0
+    CountedTotal {
+        agrees: rest == 0,
+        total,
+    }
+}
+
+// The first of the two alone.
+pub fn counts(table: &[u8], samples: u32) -> bool
+    ensures { λ r. ⌜ r ≡ counting samples (runsOf (now (table .entry))) ⌝ }
+{
+    let c = count_and_total(table, samples);
+    c.agrees
 }
 
 // The sum of the durations.

@@ -6,7 +6,7 @@ use mathlib.Core.List.{List, []}
 use native.Mathlib.Omega.{arith}
 use native.Mathlib.Decide.{decLt, decLe}
 use borrow.Author.Tests.{lt-ltb, le-ltb, le-leb, lt-leb, not-false}
-use mathlib.Core.Bool.{_&&_}
+use mathlib.Core.Bool.{true, _&&_}
 use lib.Dec.{ltb, leb}
 use lib.ListN.{length}
 use Rattle.bigendian.specs.BigEndian.{u32At}
@@ -119,16 +119,22 @@ count-is t x o s c n e f g h =
     h ∙ rw (e, k) (count-same (tableOf stsc t) (tableOf stsz t) (offsetTable t) (chunksOf t) (s .from) (s .stop))
 
 module _ {bound : ℕ} (t : List ℕ) (s : Span) (u : Usable bound t) where
-  pub pairs-few : length (spanPairs t s) ≤ 1048576
+  pub pairs-by-chunks : length (spanPairs t s) ≤ chunksOf t
   unfolding spanPairs
-  pairs-few =
+  pairs-by-chunks =
       let ps = perChunk (tableOf stsc t) (chunksOf t) in
       omega (
         arith,
         touched-few (s .from) (s .stop) 0 ps (chunkOffsets (offsetTable t)) (sizes (tableOf stsz t)),
         samples-length (tableOf stsc t) (chunksOf t) _ (agreed-tables t (u .agree) .deals),
-        u .few-chunks,
       )
+
+  pub pairs-few : length (spanPairs t s) ≤ 1048576
+  pairs-few = omega (arith, pairs-by-chunks, u .few-chunks)
+
+  -- for a room of two numbers for each chunk
+  pub room-there : (o : List ℕ) (c most : ℕ) → o ≡ offsetTable t → c ≡ u32At o 12 → c ≤ most → leb (length (spanPairs t s)) most ≡ true
+  room-there o c most eo ec h = let e : c ≡ chunksOf t = ec ∙ rw eo in le-leb (length (spanPairs t s)) most (omega (arith, pairs-by-chunks))
 
   pub pairs-fit : s .from ≤ s .stop → Fitting bound (spanPairs t s)
   unfolding spanPairs chunkPastEnd

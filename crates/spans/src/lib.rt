@@ -1,11 +1,13 @@
 // The samples of a stretch of a track, and their byte ranges in lent numbers of 32 bits.
 use bigendian::u32_at;
+use narrow_pairs::PairsPut;
 use pairs::count_pairs;
 use places::part_of;
 use places::trak::Parts;
 use runs::Lookup;
 ghost use mathlib.Core.Path.{_≡_};
-ghost use Prim.Native.Nat.{_≤_, _<_, _*_, _^_};
+ghost use Prim.Native.Nat.{_≤_, _<_, _*_, _/_, _^_};
+ghost use lib.Dec.{leb};
 ghost use lib.ListN.{length};
 ghost use lib.Seq.{sets};
 ghost use Rattle.lists.specs.Lists.{sum, holder};
@@ -72,10 +74,23 @@ pub fn count_in(trak: &[u8], p: Parts, s: Span) -> u64
     count_pairs(stsc, chunks, s.from, s.stop)
 }
 
-// Puts the pairs of some samples of a track into the first places of the room, and answers their lengths, added.
-pub fn put_in(trak: &[u8], p: Parts, s: Span, room: &mut [u32]) -> u64
+// Whether the pairs of some samples of a track have place among so many numbers. They are counted only where these are fewer than two for each chunk.
+pub fn has_room(trak: &[u8], p: Parts, s: Span, places: usize) -> bool
+    requires { ⌜ (AreParts (now trak) p) × Usable (2 ^ 64) (now trak) ⌝ }
+    ensures { λ r. ⌜ r ≡ leb (length (spanPairs (now (trak .entry)) s)) (places / 2) ⌝ }
+{
+    let most = (places / 2) as u64;
+    let chunks = u32_at(part_of(trak, p.offsets), 12);
+    if chunks as u64 <= most {
+        return true;
+    }
+    count_in(trak, p, s) <= most
+}
+
+// Puts the pairs of some samples of a track into the first places of the room.
+pub fn put_in(trak: &[u8], p: Parts, s: Span, room: &mut [u32]) -> PairsPut
     requires { ⌜ (AreParts (now trak) p) × Usable (2 ^ 32) (now trak) × (s .from ≤ s .stop) × (2 * length (spanPairs (now trak) s) ≤ length (now room)) ⌝ }
-    ensures { λ r. ⌜ (r ≡ sum (lengthsOf (spanPairs (now (trak .entry)) s))) × (now (room .exit) ≡ sets (now (room .entry)) 0 (flat (spanPairs (now (trak .entry)) s))) ⌝ }
+    ensures { λ r. ⌜ (r .pairs ≡ length (spanPairs (now (trak .entry)) s)) × (r .bytes ≡ sum (lengthsOf (spanPairs (now (trak .entry)) s))) × (now (room .exit) ≡ sets (now (room .entry)) 0 (flat (spanPairs (now (trak .entry)) s))) ⌝ }
 {
     let stsc = part_of(trak, p.stsc);
     let stsz = part_of(trak, p.stsz);

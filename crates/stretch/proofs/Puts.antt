@@ -1,12 +1,13 @@
 -- Some pairs in the first places of lent room, or 16.
 -- Assumes nothing.
 use Prim.Native.Nat.{ℕ, _*_, _/_, _≤_, _<_}
-use mathlib.Core.Path.{_≡_, refl, _∙_}
+use mathlib.Core.Path.{_≡_, refl, sym, _∙_}
+use mathlib.Core.Bool.{Bool, true}
 use mathlib.Core.List.{List, _++_}
 use native.Mathlib.Omega.{arith}
 use native.Mathlib.Nat.{zero-add, div-lt-iff-lt-mul}
-use borrow.Author.Tests.{lt-ltb, le-ltb}
-use lib.Dec.{lit<}
+use borrow.Author.Tests.{lt-ltb, le-ltb, leb-true}
+use lib.Dec.{leb, lit<}
 use lib.ListN.{length, drop}
 use lib.Seq.{sets, sets-eq}
 use Rattle.lists.specs.Lists.{sum}
@@ -20,6 +21,10 @@ use Rattle.pairs.proofs.Filling.{flat-length}
 use Rattle.stretch.specs.Stretches.{stretchNumbers}
 use Rattle.stretch.specs.Said.{pairsAnswer, PutsPairs}
 use Rattle.stretch.specs.declared.StretchAnswer.the-variants.{Pairs, Refused}
+
+-- as the code asks it
+pub pairs-have-room : (n places : ℕ) (r : Bool) → r ≡ leb n (places / 2) → r ≡ true → 2 * n ≤ places
+pairs-have-room n places r e h = omega (arith, leb-true n (places / 2) (sym e ∙ h))
 
 -- refused before the room is looked at
 pub pairs-refused : (k : ℕ) (qs : List Pair) (room : List ℕ) → (k ≡ 0 → ⊥) → orElse k (noRoom (flat qs) room) ≡ k → PutsPairs k qs room (Refused k) room

@@ -6,7 +6,7 @@ use edits::MediaTime;
 use places::part_of;
 use questions::Ask;
 use spans::Asked;
-use spans::count_in;
+use spans::has_room;
 use spans::put_in;
 use spans::span_of;
 use structure::source::Source;
@@ -69,12 +69,11 @@ pub fn stretch_of(
             let trak = ask.trak;
             let body = part_of(file, trak.body);
             let p = trak.parts;
-            let n = count_in(body, p, span) as usize;
-            if room.len() / 2 < n {
+            if !has_room(body, p, span, room.len()) {
                 return StretchAnswer::Refused(16);
             }
-            let bytes = put_in(body, p, span, room);
-            StretchAnswer::Pairs(n, bytes)
+            let q = put_in(body, p, span, room);
+            StretchAnswer::Pairs(q.pairs, q.bytes)
         }
     }
 }

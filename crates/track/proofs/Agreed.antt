@@ -11,13 +11,18 @@ use Rattle.atoms.specs.Kinds.{stts, ctts, stsc}
 use Rattle.structure.specs.Track.{tableOf, samplesOf, chunksOf, descriptionsOf}
 use Rattle.lists.specs.Lists.{sum}
 use Rattle.lists.proofs.Booleans.{or-left, or-right}
-use Rattle.runs.specs.Runs.{perSample}
+use Rattle.runs.specs.Runs.{runsOf, perSample}
+use Rattle.runs.specs.Computed.{counting}
 use Rattle.runs.proofs.Sentences.{counted-length}
 use Rattle.chunks.specs.Chunks.{perChunk, dealsContradict}
 use Rattle.chunks.specs.Computed.{dealsAgree}
 use Rattle.chunks.proofs.Clauses.{agree-clauses}
 use Rattle.track.specs.Refusals.{miscounted, contradicts}
 use Rattle.track.proofs.Clauses.{counts-clauses}
+
+pub stts-counts : (t : List ℕ) → contradicts t ≡ false → counting (samplesOf t) (runsOf (tableOf stts t)) ≡ true
+unfolding contradicts
+stts-counts t e = counts-clauses (samplesOf t) (tableOf stts t) ∙ ap not (or-left (miscounted (samplesOf t) (tableOf stts t)) _ e)
 
 pub record Agreed (t : List ℕ) : Type 0 where
   -- as many durations as samples
@@ -39,7 +44,7 @@ agreed-tables t e =
     let r₃ = or-right c _ r₂ in
     let r₄ = or-right d _ r₃ in
     record {
-      counted = counted-length n (tableOf stts t) (counts-clauses n (tableOf stts t) ∙ ap not (or-left a _ e));
+      counted = counted-length n (tableOf stts t) (stts-counts t e);
       deals = agree-clauses (tableOf stsc t) (chunksOf t) (descriptionsOf t) ∙ ap not (or-left d _ r₃);
       dealt = eqb-true (sum (perChunk (tableOf stsc t) (chunksOf t))) n (not-false _ (or-left _ _ r₄));
     }

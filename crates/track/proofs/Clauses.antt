@@ -123,3 +123,7 @@ contradicts-by t z o e x s u y n k m a b d v p r w ez en eo ek ee em ex es ea eu
     let k′ : k ≡ chunksOf t = ek ∙ ap (λ (l : List ℕ). u32At l 12) eo in
     let m′ : m ≡ descriptionsOf t = em ∙ ap (λ (l : List ℕ). u32At l 12) ee in
     contradicts-is t a b d v w (ea ∙ rw (n′, es)) (eb ∙ rw (n′, eu)) (ed ∙ rw (n′, k′, m′, ex)) (ev ∙ rw (n′, ey)) (ew ∙ rw (er, ep))
+
+-- of stts alone
+pub counts-by : (t z s : List ℕ) (n : ℕ) (a : Bool) → z ≡ tableOf stsz t → n ≡ u32At z 16 → s ≡ tableOf stts t → a ≡ counting n (runsOf s) → a ≡ counting (samplesOf t) (runsOf (tableOf stts t))
+counts-by t z s n a ez en es ea = let e : n ≡ samplesOf t = en ∙ ap (λ (l : List ℕ). u32At l 16) ez in ea ∙ rw (e, es)

@@ -9,6 +9,7 @@ use places::part_of;
 use places::trak::Parts;
 use presence::both;
 use references::all_in_this_file;
+use runs::count_and_total;
 use runs::counts;
 use runs::total_duration;
 use structure::source::Source;
@@ -19,7 +20,8 @@ ghost use Prim.Native.Nat.{_<_, _^_};
 ghost use lib.ListN.{length};
 ghost use lib.Dec.{ltb, eqb};
 ghost use Rattle.structure.specs.ByTracks.{ofTrack};
-ghost use Rattle.structure.specs.Track.{idOf, scaleOf};
+ghost use Rattle.atoms.specs.Kinds.{stts};
+ghost use Rattle.structure.specs.Track.{idOf, scaleOf, tableOf, samplesOf};
 ghost use Rattle.places.specs.Places.{AreParts};
 ghost use Rattle.runs.specs.Runs.{runsOf};
 ghost use Rattle.runs.specs.Computed.{counting};
@@ -48,17 +50,16 @@ fn may_count(ctts: &[u8], samples: u32) -> bool
     counts(ctts, samples)
 }
 
-// Whether the sample tables contradict each other.
-fn is_contradictory(trak: &[u8], p: Parts) -> bool
-    requires { ⌜ AreParts (now trak) p ⌝ }
+// Whether the sample tables contradict each other, where it is known whether stts counts the samples.
+fn is_contradictory(trak: &[u8], p: Parts, counted: bool) -> bool
+    requires { ⌜ (AreParts (now trak) p) × (counted ≡ counting (samplesOf (now trak)) (runsOf (tableOf stts (now trak)))) ⌝ }
     ensures { λ r. ⌜ r ≡ contradicts (now (trak .entry)) ⌝ }
 {
     let samples = u32_at(part_of(trak, p.stsz), 16);
     let chunks = u32_at(part_of(trak, p.offsets), 12);
     let descriptions = u32_at(part_of(trak, p.stsd), 12);
     let stsc = part_of(trak, p.stsc);
-    let a = counts(part_of(trak, p.stts), samples);
-    let b = both(a, may_count(part_of(trak, p.ctts), samples));
+    let b = both(counted, may_count(part_of(trak, p.ctts), samples));
     let d = both(b, deals_samples(stsc, chunks, descriptions, samples));
     !both(d, syncs_agree(part_of(trak, p.stss), samples))
 }
@@ -143,12 +144,14 @@ pub fn refusal(trak: &[u8], p: Parts, movie: u32, len: u64, source: Source) -> u
     if scale_in(trak, p) == 0 {
         return 8;
     }
-    if is_contradictory(trak, p) {
+    let samples = u32_at(part_of(trak, p.stsz), 16);
+    let c = count_and_total(part_of(trak, p.stts), samples);
+    if is_contradictory(trak, p, c.agrees) {
         return 9;
     }
-    let stts = part_of(trak, p.stts);
-    match total_duration(stts) {
-        Total::Over => 10,
-        Total::Sum(total) => timed_refusal(trak, p, movie, len, source, total),
+    let total = c.total;
+    if 4294967295 < total {
+        return 10;
     }
+    timed_refusal(trak, p, movie, len, source, total as u32)
 }

@@ -12,6 +12,7 @@ use lib.Seq.{getD-drop}
 use borrow.Author.Tests.{eq-eqb, ne-eqb}
 use Rattle.bigendian.specs.BigEndian.{beAt, u32At}
 use Rattle.bigendian.proofs.Laws.{beAt-take, beAt-drop}
+use Rattle.lists.specs.Lists.{sum}
 use Rattle.lists.specs.Entries.{rowsOf, entries}
 use Rattle.lists.proofs.Cuts.{rows-drop, rows-take}
 use Rattle.lists.proofs.Rows.{rows-none, rows-next, length-rows}
@@ -105,6 +106,17 @@ words-none t h = numbers-none 4 (lit< tt) t h
 
 pub words-next : (t : List ℕ) → 4 ≤ length t → wordsIn t ≡ u32At t 0 ∷ wordsIn (drop 4 t)
 words-next t h = numbers-next 4 (lit< tt) t h
+
+-- of a part that has one number, or two
+pub one-word : (t : List ℕ) → length t ≡ 4 → sum (wordsIn t) ≡ u32At t 0
+one-word t h =
+    let d : length (drop 4 t) < 4 = omega (arith, length-drop 4 t) in
+    ap sum (words-next t (omega arith) ∙ ap (λ l. u32At t 0 ∷ l) (words-none (drop 4 t) d)) ∙ add-zero (u32At t 0)
+
+pub two-words : (t : List ℕ) → length t ≡ 8 → sum (wordsIn t) ≡ u32At t 0 + u32At t 4
+two-words t h =
+    let d : length (drop 4 t) ≡ 4 = omega (arith, length-drop 4 t) in
+    ap sum (words-next t (omega arith)) ∙ ap (λ (n : ℕ). u32At t 0 + n) (one-word (drop 4 t) d ∙ beAt-drop 4 4 t 0)
 
 pub length-words : (t : List ℕ) → length (wordsIn t) ≡ length t / 4
 length-words t = length-numbers 4 (lit< tt) t

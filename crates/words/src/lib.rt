@@ -43,11 +43,17 @@ fn word_at(part: &[u8], index: usize) -> u32
     0
 }
 
-// All numbers of a part, added. It has so few that the sum fits.
+// All numbers of a part, added. It has so few that the sum fits. Chunks of one or two samples are met without the loop.
 pub fn sum_words(part: &[u8]) -> u64
     requires { ⌜ length (now part) ≤ 4294967295 * 4 ⌝ }
     ensures { λ r. ⌜ (r ≡ sum (wordsIn (now (part .entry)))) × (r ≤ length (now (part .entry)) / 4 * 4294967295) ⌝ }
 {
+    if part.len() == 4 {
+        return u32_at(part, 0) as u64;
+    }
+    if part.len() == 8 {
+        return u32_at(part, 0) as u64 + u32_at(part, 4) as u64;
+    }
     let mut t = part;
     let mut total: u64 = 0;
     while 4 <= t.len() {

@@ -10,7 +10,7 @@ use lib.ListN.{length}
 use Rattle.chunks.specs.Cursors.{ahead}
 use Rattle.pairs.proofs.Walking.{some-remain, begins-low, past-from, past-less}
 use Rattle.pairs.proofs.Counting.{place-fits, step-fits}
-use Rattle.pairs.proofs.Filling.{Walked, walked-start, walked-end, step-at, step-room, step-total, step-turn, walked-moving, walked-moved, walked-total, walked-less}
+use Rattle.pairs.proofs.Filling.{Walked, walked-start, walked-end, walked-many, step-at, step-room, step-total, step-turn, walked-moving, walked-moved, walked-total, walked-less}
 use Rattle.narrow_pairs.proofs.put_pairs.Statement.{statement}
 use Rattle.narrow_pairs.proofs.put_pairs.Tie as tie
 
@@ -134,7 +134,11 @@ same-length : tie.Need-same-length Inv-loop μ-loop
 same-length c = c .before .before .loop .inv .filling .same
 
 returns : tie.Need-returns Inv-loop μ-loop
-returns c = walked-end (c .before .before .loop .inv) (sym (c .before .is-past .ensures) ∙ not-false (c .before .is-past .result) (c .if1 .left))
+returns c =
+    let l = c .before .before .loop in
+    let e = sym (c .before .is-past .ensures) ∙ not-false (c .before .is-past .result) (c .if1 .left) in
+    let d = walked-end (l .inv) e in
+    (omega (arith, walked-many (l .inv) e), d .0, d .1)
 
 pub put-pairs-spec : {M : Type 1} → statement M
 put-pairs-spec =

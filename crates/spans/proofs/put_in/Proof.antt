@@ -2,6 +2,7 @@
 -- Assumes nothing.
 use mathlib.Core.Path.{ap, _∙_}
 use denote.Ref.{now}
+use lib.ListN.{length}
 use lib.Seq.{sets}
 use Rattle.lists.specs.Lists.{sum}
 use Rattle.pairs.specs.Pairs.{flat}
@@ -32,7 +33,7 @@ same-length c = search needs
 returns : tie.Need-returns
 returns c =
     let e = between-is _ _ _ _ (c .before .before .before .before .before .before .before .before .before .before .args .s) _ (c .before .before .before .before .before .before .before .part-of .ensures ∙ c .before .before .before .before .before .before .before .before .before .before .pre .0 .stsc) (c .before .before .before .before .before .before .part-of2 .ensures ∙ c .before .before .before .before .before .before .before .before .before .before .pre .0 .stsz) (c .before .before .before .before .before .part-of3 .ensures ∙ c .before .before .before .before .before .before .before .before .before .before .pre .0 .offsets) (c .before .before .before .before .u32-at .ensures) in
-    (c .before .before .put-pairs .ensures .0 ∙ ap (λ l. sum (lengthsOf l)) e, c .before .before .put-pairs .ensures .1 ∙ ap (λ l. sets (now (c .before .before .before .before .before .before .before .before .before .before .args .room)) 0 (flat l)) e)
+    (c .before .before .put-pairs .ensures .0 ∙ ap length e, c .before .before .put-pairs .ensures .1 ∙ ap (λ l. sum (lengthsOf l)) e, c .before .before .put-pairs .ensures .2 ∙ ap (λ l. sets (now (c .before .before .before .before .before .before .before .before .before .before .args .room)) 0 (flat l)) e)
 
 pub put-in-spec : {M : Type 1} → statement M
 put-in-spec =

@@ -23,7 +23,7 @@ part-result-end : tie.Need-part-result-end
 part-result-end c = search needs
 
 returns : tie.Need-returns
-returns c = let a = c .before .before .before .args in part-rest (a .p .cursor .per * 4) (now (a .sizes))
+returns c = let a = c .before .before .args in part-rest (a .c .per * 4) (now (a .sizes))
 
 pub sizes-past-spec : {M : Type 1} → statement M
 sizes-past-spec =
