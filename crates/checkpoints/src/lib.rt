@@ -67,7 +67,7 @@ pub fn put_checkpoints(table: &[u8], count: usize, room: &mut [u64])
 // The last checkpoint of which a number is not above x, by halving; the first where there is none. `field` is 0 for the counts, 1 for the totals.
 pub fn last_upto(points: &[u64], count: usize, field: usize, x: u64) -> usize
     requires { ⌜ (count < 2 ^ 32) × (field < 2) ⌝ }
-    ensures { λ r. ⌜ (r ≤ count) × (0 < r → r < count) × (0 < r → getD (now (points .entry)) (2 * r + field) 0 ≤ x) ⌝ }
+    ensures { λ r. ⌜ (r ≤ count) × (0 < r → r < count) × (0 < r → getD (now (points .entry)) (2 * r + field) 0 ≤ x) × (r + 1 < count → x < getD (now (points .entry)) (2 * (r + 1) + field) 0) ⌝ }
 {
     let mut low = 0;
     let mut high = count;

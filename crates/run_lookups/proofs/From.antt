@@ -77,6 +77,17 @@ hit-few s t g e =
     let e = ap (λ (x : Hit). x .entry) (k .1) in
     (omega (arith, e), omega (arith, e, entry-few (runsOf s) (holder (expand (runsOf s)) t) (b .1), entries-few s))
 
+-- and in the whole table, from whose entry 64 * i on it was looked for
+pub hit-in : (s : List ℕ) (i t : ℕ) (g : Hit) → looked.Hit g ≡ lookedUp (runsOf (drop (512 * i) s)) t → (0 < g .entry) × (64 * i + g .entry ≤ length (runsOf s))
+unfolding hitOf entryOf
+hit-in s i t g e =
+    let f : lookedUp (drop (64 * i) (runsOf s)) t ≡ looked.Hit g = sym (e ∙ ap (λ (l : List Run). lookedUp l t) (tail-runs s i)) in
+    let k = looked-known (drop (64 * i) (runsOf s)) t g f in
+    let b = holds-below (expand (drop (64 * i) (runsOf s))) t _ (holder-holds (expand (drop (64 * i) (runsOf s))) t (k .0)) in
+    let e = ap (λ (x : Hit). x .entry) (k .1) in
+    let l = entry-few (drop (64 * i) (runsOf s)) (holder (expand (drop (64 * i) (runsOf s))) t) (b .1) in
+    (omega (arith, e), omega (arith, e, l, length-drop (64 * i) (runsOf s)))
+
 module _ (s : List ℕ) (i c v : ℕ) (t : MediaTime) (q : c ≡ length (expand (take (64 * i) (runsOf s)))) (w : v ≡ sum (expand (take (64 * i) (runsOf s)))) (h : v ≤ t .0) (m : ℕ)
     (short : length s ≤ 4294967295) where
   walk : Walk (expand (runsOf s)) (expand (drop (64 * i) (runsOf s))) (t .0) c (t .0 - v)
@@ -167,9 +178,9 @@ module _ (s points : List ℕ) (count m : ℕ) (t : MediaTime) where
     few = λ n k e. let z : _≡_ {A = ℕ} 0 1 = cc in absurd (omega arith);
   }
 
-  pub number-by : (n k : ℕ) → 0 < n → n ≤ m → (CountsAt (runsOf s) points count → TotalsAt (runsOf s) points count → Number n k ≡ numberSaid s m t) → NumberFrom s points count m t (Number n k)
-  number-by n k h l f = record {
+  pub number-by : (n k : ℕ) → 0 < n → n ≤ m → 0 < k → k ≤ length (runsOf s) → (CountsAt (runsOf s) points count → TotalsAt (runsOf s) points count → Number n k ≡ numberSaid s m t) → NumberFrom s points count m t (Number n k)
+  number-by n k h l a b f = record {
     right = f;
     elsewhere = λ r e. let z : _≡_ {A = ℕ} 0 1 = cc in absurd (omega arith);
-    few = λ y z e. let q : n ≡ y = cc in rw (← q) (h, l);
+    few = λ y z e. let q : n ≡ y = cc in let p : k ≡ z = cc in rw (← q, ← p) (h, l, a, b);
   }

@@ -60,4 +60,5 @@ pub record NumberByIndex (s : List ℕ) (h : Opened) (index : List ℕ) (t : Med
   pub right : (w : Source) (id : ℕ) → Opens s w id h → Indexes s h index → SampleAt s w id t r
   pub short : length index < indexLength h → r ≡ number.Refused 16
   pub elsewhere : indexLength h ≤ length index → (k : ℕ) → r ≡ number.Refused k → k ≡ 15
-  pub few : (n entry : ℕ) → r ≡ number.Number n entry → (0 < n) × (n ≤ h .samples)
+  pub few : (n entry : ℕ) → r ≡ number.Number n entry
+      → (0 < n) × (n ≤ h .samples) × (0 < entry) × (entry ≤ length (runsOf (partIn s (h .tables .stts))))

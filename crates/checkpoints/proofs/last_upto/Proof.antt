@@ -1,4 +1,4 @@
--- `checkpoints::last_upto` meets its contract: the number at the lower end is not above x, unless it is the first.
+-- `checkpoints::last_upto` meets its contract: the number at the lower end is not above x, unless it is the first, and that at the upper end is above it.
 -- Assumes nothing.
 use borrow.Author.Needs.{needs}
 use Prim.Native.Nat.{_+_, _-_, _*_, _≤_, _<_}
@@ -10,13 +10,13 @@ use Rattle.checkpoints.proofs.last_upto.Tie as tie
 
 abbrev Inv-loop : tie.InvT-loop
 Inv-loop points count field x low₀ high₀ low high =
-    (low ≤ high) × (high ≤ count) × (0 < low → low < high) × (0 < low → getD points (2 * low + field) 0 ≤ x)
+    (low ≤ high) × (high ≤ count) × (0 < count → low < high) × (0 < low → getD points (2 * low + field) 0 ≤ x) × (high < count → x < getD points (2 * high + field) 0)
 
 abbrev μ-loop : tie.MeasureT-loop
 μ-loop points count field x low₀ high₀ low high = high - low
 
 loop-holds : tie.Need-loop-holds Inv-loop μ-loop
-loop-holds c = (omega arith, omega arith, λ z. omega arith, λ z. absurd (omega arith))
+loop-holds c = (omega arith, omega arith, λ z. omega arith, λ z. absurd (omega arith), λ z. absurd (omega arith))
 
 sub-loop : tie.Need-sub-loop Inv-loop μ-loop
 sub-loop c = omega arith
@@ -42,7 +42,7 @@ loop-less c = omega arith
 loop-again : tie.Need-loop-again Inv-loop μ-loop
 loop-again c =
     let l = c .before .before .before .loop in
-    (omega arith, omega arith, λ z. omega arith, λ z. omega (arith, c .if1 .taken, c .before .number-at .ensures))
+    (omega arith, omega arith, λ z. omega arith, λ z. omega (arith, c .if1 .taken, c .before .number-at .ensures), l .inv .4)
 
 loop-less-2 : tie.Need-loop-less-2 Inv-loop μ-loop
 loop-less-2 c = omega arith
@@ -50,10 +50,18 @@ loop-less-2 c = omega arith
 loop-again-2 : tie.Need-loop-again-2 Inv-loop μ-loop
 loop-again-2 c =
     let l = c .before .before .before .loop in
-    (omega arith, omega arith, λ z. omega arith, l .inv .3)
+    (omega arith, omega arith, λ z. omega arith, l .inv .3, λ z. omega (arith, c .if1 .left, c .before .number-at .ensures))
 
 returns : tie.Need-returns Inv-loop μ-loop
-returns c = let l = c .before .loop in (omega arith, λ z. omega (arith, l .inv .2 z), l .inv .3)
+returns c =
+    let l = c .before .loop in (
+      omega arith,
+      λ z. omega (arith, l .inv .2 (omega arith)),
+      l .inv .3,
+      λ z.
+          let e : l .high ≡ l .low + 1 = omega (arith, l .inv .2 (omega arith)) in
+          rw e at (l .inv .4 (omega arith)),
+    )
 
 pub last-upto-spec : {M : Type 1} → statement M
 last-upto-spec =

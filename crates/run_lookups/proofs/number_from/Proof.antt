@@ -9,7 +9,7 @@ use Rattle.lists.specs.Lists.{sum, expand}
 use Rattle.runs.specs.Runs.{runsOf}
 use Rattle.time_questions.proofs.Mapping.{number-long}
 use Rattle.checkpoints.specs.Points.{CountsAt, TotalsAt}
-use Rattle.run_lookups.proofs.From.{found-in, hit-few, number-passed, from-outside, from-past, from-found, not-above, refused-from, number-by}
+use Rattle.run_lookups.proofs.From.{found-in, hit-few, hit-in, number-passed, from-outside, from-past, from-found, not-above, refused-from, number-by}
 use borrow.Author.Needs.{needs}
 use Rattle.run_lookups.proofs.number_from.Statement.{statement}
 use Rattle.run_lookups.proofs.number_from.Tie as tie
@@ -115,7 +115,8 @@ enum-told c = search needs
 returns-5 : tie.Need-returns-5
 returns-5 c =
     let k = c .before .before .before .before .before .before .before .before .before .before .before in
-    number-by _ _ _ _ _ _ _ (omega arith) (omega (arith, c .before .before .if4 .left, c .before .before .before .before .before .before .before .before .before .before .if2 .left))
+    let e = hit-in (now (c .before .before .before .before .before .before .before .before .before .before .before .before .before .before .before .before .before .before .args .stts)) (k .before .before .last-upto .result) _ _ (sym (c .before .before .before .before .before .hit .given .1) ∙ rw (c .before .before .before .before .before .before .before .before .after .ensures) at (c .before .before .before .before .before .before .before .look-up .ensures)) in
+    number-by _ _ _ _ _ _ _ (omega arith) (omega (arith, c .before .before .if4 .left, c .before .before .before .before .before .before .before .before .before .before .if2 .left)) (omega (arith, e .0)) (omega (arith, e .1))
     (λ cs ts.
     from-found _ (k .before .before .last-upto .result) _ _ _ (counted k cs) (totalled k ts) (upto k ts) _ (short k) _ (rw (c .before .before .before .before .before .before .before .before .after .ensures) at (c .before .before .before .before .before .before .before .look-up .ensures)) _ (c .before .before .before .before .before .hit .given .1) (c .before .before .if4 .left) _ _ refl refl)
 
