@@ -261,6 +261,20 @@ static bool ask_opened_stretch(const struct film *f, const struct track_facts *t
     return refused == 0 && is_whole(stretch, t);
 }
 
+/* A position started by the handle, beyond the opening. */
+static bool ask_opened_stepper(const struct film *f, const struct track_facts *t, double *ms)
+{
+    struct chaldoref_opened track;
+    struct chaldoref_stepper stepper;
+    struct chaldoref_moov_sample_info s, none;
+    uint32_t refused = chaldoref_open_track(f->bytes, f->len, t->id, &track);
+    double begin = now_ms();
+    refused |= chaldoref_track_stepper(f->bytes, f->len, &track, t->samples, &stepper);
+    *ms = now_ms() - begin;
+    return refused == 0 && chaldoref_stepper_next(f->bytes, f->len, &stepper, &s) && s.chunk == t->chunks
+        && s.offset == t->last_begin && s.size == t->last_size && !chaldoref_stepper_next(f->bytes, f->len, &stepper, &none);
+}
+
 static bool ask_moov_write_slip(const struct film *f, const struct track_facts *t, double *ms)
 {
     uint64_t len, places[CHALDOREF_READ_SLIP_PLACES];
@@ -373,6 +387,7 @@ static int gather(struct candidate *c, const struct film *f)
     c[n++] = (struct candidate){ .name = "a thousand samples, indexed", .run = ask_indexed_samples, .track = f->track };
     c[n++] = (struct candidate){ .name = "samples at a thousand times, indexed", .run = ask_indexed_times, .track = f->track };
     c[n++] = (struct candidate){ .name = "whole stretch, opened once", .run = ask_opened_stretch, .track = f->track };
+    c[n++] = (struct candidate){ .name = "stepper at the last sample, opened once", .run = ask_opened_stepper, .track = f->track };
     c[n++] = (struct candidate){ .name = "slip of the whole", .run = ask_write_slip, .track = f->track };
     c[n++] = (struct candidate){ .name = "track list, moov alone", .run = ask_moov_track_list, .track = f->track };
     c[n++] = (struct candidate){ .name = "whole stretch, moov alone", .run = ask_moov_stretch, .track = f->track };

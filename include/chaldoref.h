@@ -325,6 +325,18 @@ uint32_t chaldoref_opened_stretch(
     uint64_t *places, size_t places_len);
 
 /*
+ * The position before sample n of the track that was opened, for chaldoref_step and chaldoref_steps:
+ * the numbers of chaldoref_step_start, without another judging. Refusals: 15, 16. From a position
+ * that was started with other bytes, or by numbers of any kind, steps are as safe as from one of
+ * another film.
+ */
+uint32_t chaldoref_opened_step_start(
+    const uint8_t *lent, size_t lent_len,
+    const uint64_t *handle, size_t handle_len,
+    uint32_t n,
+    uint64_t *stepper, size_t stepper_len);
+
+/*
  * The index of a track that was opened: a lookup by it starts at the checkpoint before what is asked
  * and not at the first entry, so that it goes over at most 64 entries of each table, and over the
  * sizes of the samples before it in its chunk. Refusal 16, whatever the bytes and the handle.
@@ -977,6 +989,15 @@ static inline uint32_t chaldoref_track_media_time(const uint8_t *lent, size_t le
                                                    CHALDOREF_MEDIA_TIME_PLACES);
     *media = chaldoref_media_time_of(places);
     return refusal;
+}
+
+/* The position before sample n of the track. Refusal 15. */
+static inline uint32_t chaldoref_track_stepper(const uint8_t *lent, size_t lent_len,
+                                               const struct chaldoref_opened *track, uint32_t n,
+                                               struct chaldoref_stepper *stepper)
+{
+    return chaldoref_opened_step_start(lent, lent_len, track->numbers, CHALDOREF_OPENED_NUMBERS, n, stepper->numbers,
+                                       CHALDOREF_STEPPER_NUMBERS);
 }
 
 /* How many numbers the index of a track of so many samples has. */

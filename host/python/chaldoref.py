@@ -365,14 +365,10 @@ class Movie:
         return self.opened(track).sample(n)
 
     def samples(self, track: int, start: Optional[int] = None) -> Iterator[Sample]:
-        """The samples of a track, in order, from sample start on, numbered from 1: what sample answers of each, in one
-        judging of the film for all of them. Without a start all of them, which are none where the track has none.
-        Refusals 14, and 15 where the track has no sample start; they are raised by this call and not by the first
-        next."""
-        if start is None and any(known.id == track and known.samples == 0 for known in self._tracks):
-            return iter(())
-        stepper = self._ask("step_start", _STEPPER_NUMBERS, track, 1 if start is None else start)
-        return _stepped(self._lent, stepper)
+        """The samples of a track, in order, from sample start on, numbered from 1: what sample answers of each, where no
+        table is begun again. Without a start all of them, which are none where the track has none. Refusals 14, and 15
+        where the track has no sample start; they are raised by this call and not by the first next."""
+        return self.opened(track).samples(start)
 
     def opened(self, track: int) -> "Opened":
         """A track, opened once for many questions about its samples, times and stretches: the film is judged here, the
@@ -483,6 +479,13 @@ class Opened:
         """The media time that the track shows at movie time t; None where nothing is shown. Refusal 15."""
         shown, media = self._ask("opened_media_time", 2, t)
         return media if shown else None
+
+    def samples(self, start: Optional[int] = None) -> Iterator[Sample]:
+        """The samples, in order, from sample start on, numbered from 1; without a start all of them, of which there may
+        be none. Refusal 15 where there is no sample start, raised by this call."""
+        if start is None and self._track.samples == 0:
+            return iter(())
+        return _stepped(self._lent, self._ask("opened_step_start", _STEPPER_NUMBERS, 1 if start is None else start))
 
     def stretch(self, a: int, b: int) -> Stretch:
         """The bytes of the track from media time a to b. Refusal 15."""
@@ -622,6 +625,7 @@ _PARAMETERS = {
     "opened_sample_at": "rn",
     "opened_media_time": "rn",
     "opened_stretch": "rnnr",
+    "opened_step_start": "rn",
     "index": "rr",
     "indexed_sample": "rrn",
     "indexed_sample_at": "rrn",

@@ -178,11 +178,6 @@ pub fn edits(film: Film, id: u32, room: &mut [Edit]) -> Result<[u64; 1], Refusal
 pub const STEPPER_NUMBERS: usize = 29;
 pub const SAMPLE_NUMBERS: usize = 8;
 
-/// The position before sample `n` of a track.
-pub fn step_start(film: Film, id: u32, n: u32) -> Result<[u64; STEPPER_NUMBERS], Refusal> {
-    ask(|stepper, len| of_film!(film, chaldoref_step_start, chaldoref_moov_step_start, id, n, stepper, len))
-}
-
 /// The next samples, as many as the room takes; answers how many, and moves the position past them. It is the same of both
 /// ways in: a position says where the tables are in what was lent.
 pub fn steps(
@@ -239,6 +234,11 @@ pub fn opened_stretch(
     let room = wide(room);
     let (room, room_len) = (room.as_mut_ptr(), room.len());
     by_handle!(chaldoref_opened_stretch, lent, [handle], a, b, room, room_len)
+}
+
+/// The position before sample `n` of an opened track.
+pub fn opened_step_start(lent: &[u8], handle: &Handle, n: u32) -> Result<[u64; STEPPER_NUMBERS], Refusal> {
+    by_handle!(chaldoref_opened_step_start, lent, [handle], n)
 }
 
 /// From one checkpoint of an index to the next are as many samples, and each has as many numbers.

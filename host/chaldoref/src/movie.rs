@@ -154,8 +154,8 @@ impl<'a> Movie<'a> {
         self.opened(id)?.sample(n)
     }
 
-    /// The samples of a track, in order: what [`Movie::sample`] answers of each, in one judging of the film for all of them.
-    /// There are none where the track has none.
+    /// The samples of a track, in order: what [`Movie::sample`] answers of each. The film is judged as [`Movie::opened`] says, and
+    /// no table is begun again. There are none where the track has none.
     ///
     /// ```
     /// use chaldoref::{Movie, TrackId};
@@ -172,10 +172,7 @@ impl<'a> Movie<'a> {
     ///
     /// [`Refusal::NoTrack`].
     pub fn samples(&self, id: TrackId) -> Result<Samples<'a>, Refusal> {
-        match self.track(id) {
-            Some(Track { samples: 0, .. }) => Ok(Samples::none()),
-            _ => self.samples_from(id, 1),
-        }
+        Ok(self.opened(id)?.samples())
     }
 
     /// The samples of a track from sample `n` on, numbered from 1.
@@ -197,10 +194,7 @@ impl<'a> Movie<'a> {
     ///
     /// [`Refusal::NoTrack`]; [`Refusal::Outside`] where the track has no sample `n`.
     pub fn samples_from(&self, id: TrackId, n: u32) -> Result<Samples<'a>, Refusal> {
-        let stepper = ffi::step_start(self.film, id.0, n)?;
-        let all = self.track(id).unwrap_or_else(|| broken()).samples;
-        // The library has accepted `n`: it is from 1 to all.
-        Ok(Samples::new(self.film.lent(), stepper, all - (n - 1)))
+        self.opened(id)?.samples_from(n)
     }
 
     /// The bytes of sample `n` of a track, numbered from 1, as they stand in the file; `None` where the moov was lent

@@ -1,8 +1,9 @@
 //! Tracks that are opened once, and their indices.
 use crate::answers::{Sample, SampleAt, Shown, Stretch, StretchSize, Track};
-use crate::ffi::{self, promised, Handle, CHECKPOINT_NUMBERS, CHECKPOINT_SAMPLES};
+use crate::ffi::{self, broken, promised, Handle, CHECKPOINT_NUMBERS, CHECKPOINT_SAMPLES};
 use crate::refusal::Refusal;
 use crate::room::room;
+use crate::samples::Samples;
 use crate::units::{ByteRange, MediaTime, MovieTime, TrackId};
 use std::fmt;
 use std::ops::Range;
@@ -18,6 +19,7 @@ use std::ops::Range;
 /// let track = Movie::open(&file)?.opened(TrackId(1))?;
 /// let shown: Vec<u32> = [0, 24, 72].map(|t| track.sample_at(MediaTime(t)).unwrap().sample).to_vec();
 /// assert_eq!((shown, track.sample(4)?.offset), (vec![1, 2, 4], 900));
+/// assert_eq!(track.samples_from(3)?.map(|sample| sample.offset).collect::<Vec<_>>(), [750, 900]);
 /// # Ok::<(), Box<dyn std::error::Error>>(())
 /// ```
 #[derive(Clone, Copy)]
@@ -64,6 +66,27 @@ impl<'a> Opened<'a> {
     /// [`Refusal::Outside`] at or past the end.
     pub fn media_time(&self, t: MovieTime) -> Result<Shown, Refusal> {
         ffi::opened_media_time(self.lent, &self.handle, t.0).map(Shown::of)
+    }
+
+    /// The samples of the track, in order. There may be none.
+    #[must_use]
+    pub fn samples(&self) -> Samples<'a> {
+        match self.track.samples {
+            0 => Samples::none(),
+            // It has a first sample, so that no refusal is left.
+            _ => self.samples_from(1).unwrap_or_else(|_| broken()),
+        }
+    }
+
+    /// The samples of the track from sample `n` on, numbered from 1.
+    ///
+    /// # Errors
+    ///
+    /// [`Refusal::Outside`] where the track has no sample `n`.
+    pub fn samples_from(&self, n: u32) -> Result<Samples<'a>, Refusal> {
+        let stepper = ffi::opened_step_start(self.lent, &self.handle, n)?;
+        // The library has accepted `n`: it is from 1 to their number.
+        Ok(Samples::new(self.lent, stepper, self.track.samples - (n - 1)))
     }
 
     /// The bytes of the track from one media time up to another.

@@ -344,6 +344,16 @@ extern "C" {
         places_len: usize,
     ) -> u32;
 
+    pub fn chaldoref_opened_step_start(
+        lent: *const u8,
+        lent_len: usize,
+        handle: *const u64,
+        handle_len: usize,
+        n: u32,
+        stepper: *mut u64,
+        stepper_len: usize,
+    ) -> u32;
+
     pub fn chaldoref_index(
         lent: *const u8,
         lent_len: usize,

@@ -7,8 +7,8 @@ use std::iter::FusedIterator;
 /// As many samples are had from the library at once.
 const FETCHED: usize = 64;
 
-/// The samples of a track, in order, from one of them on. [`Movie::samples`](crate::Movie::samples) and
-/// [`Movie::samples_from`](crate::Movie::samples_from) make it.
+/// The samples of a track, in order, from one of them on. [`Movie::samples`](crate::Movie::samples),
+/// [`Movie::samples_from`](crate::Movie::samples_from) and those of an [`Opened`](crate::Opened) track make it.
 #[derive(Clone)]
 pub struct Samples<'a> {
     lent: &'a [u8],

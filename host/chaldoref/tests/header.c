@@ -100,6 +100,7 @@ static void print_opened(const struct film *film, uint32_t n, uint32_t t)
     struct chaldoref_moov_sample_info sample;
     struct chaldoref_sample_at_info at;
     struct chaldoref_media_time_info media;
+    struct chaldoref_stepper stepper;
     size_t moov = (size_t)film->bytes[2] << 8 | film->bytes[3], lent[2] = {film->len, moov};
     int i;
     for (i = 0; i < 2; i++) {
@@ -113,6 +114,11 @@ static void print_opened(const struct film *film, uint32_t n, uint32_t t)
         printf("opened %" PRIu32 " %" PRIu32 " %" PRIu32 " %" PRIu32 ": at %" PRIu32 " %" PRIu32 ", media %d %" PRIu32 "\n",
                none, opened, outside, answered, at.sample, at.entry, media.shown, media.time);
         print_step(4, sample);
+        outside = chaldoref_track_stepper(film->bytes, lent[i], &track, 5, &stepper);
+        answered = chaldoref_track_stepper(film->bytes, lent[i], &track, n, &stepper);
+        printf("stepper %" PRIu32 " %" PRIu32 "\n", outside, answered);
+        chaldoref_stepper_next(film->bytes, lent[i], &stepper, &sample);
+        print_step(6, sample);
     }
 }
 

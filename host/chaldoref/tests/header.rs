@@ -87,7 +87,8 @@ fn opened(movie: &Movie, n: u32, t: u32) -> String {
     let at = movie.sample_at(ONE, MediaTime(t)).unwrap();
     let Shown::At(media) = movie.media_time(ONE, MovieTime(t)).unwrap() else { panic!("nothing is shown") };
     let line = format!("opened 14 0 15 0: at {} {}, media 1 {media}\n", at.sample, at.entry);
-    (line + &step(4, movie.sample(ONE, n).unwrap())).repeat(2)
+    let sample = movie.sample(ONE, n).unwrap();
+    (line + &step(4, sample) + "stepper 15 0\n" + &step(6, sample)).repeat(2)
 }
 
 /// The stretch, and the lookups by the index, by both ways.

@@ -72,10 +72,13 @@ fn same_samples(movie: &Movie, track: &Track) {
     for (n, sample) in (1..).zip(movie.samples(track.id).unwrap()) {
         assert_eq!([movie.sample(track.id, n), opened.sample(n), indexed.sample(n)], [Ok(sample); 3], "sample {n}");
         assert_eq!(movie.sample_range(track.id, n), Ok(sample.range()));
+        assert_eq!(opened.samples_from(n).unwrap().next(), Some(sample), "from sample {n}");
     }
+    assert!(opened.samples().eq(movie.samples(track.id).unwrap()));
     for n in [0, track.samples + 1, u32::MAX] {
         assert_eq!([movie.sample(track.id, n), opened.sample(n), indexed.sample(n)], [Err(Refusal::Outside); 3]);
         assert_eq!(movie.sample_range(track.id, n), Err(Refusal::Outside));
+        assert_eq!(opened.samples_from(n).err(), Some(Refusal::Outside));
     }
 }
 

@@ -154,6 +154,14 @@ pub fn ask_opened(
     }
 }
 
+/// The position before a sample of a track that was opened.
+pub fn opened_step_start(lent: &[u8], handle: &mut Lent<u64>, n: u32, stepper: &mut Lent<u64>) -> u32 {
+    let (handle, handle_len) = (handle.pointer().cast_const(), handle.len());
+    let (stepper, stepper_len) = (stepper.pointer(), stepper.len());
+    // SAFETY: as for a whole file.
+    unsafe { chaldoref_opened_step_start(lent.as_ptr(), lent.len(), handle, handle_len, n, stepper, stepper_len) }
+}
+
 /// The index of a track that was opened.
 pub fn fill_index(lent: &[u8], handle: &mut Lent<u64>, index: &mut Lent<u64>, places: &mut Lent<u64>) -> u32 {
     let (handle, handle_len) = (handle.pointer().cast_const(), handle.len());

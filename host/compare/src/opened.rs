@@ -11,7 +11,7 @@ use reference::maker::Random;
 /// As include/chaldoref.h has it.
 pub const HANDLE: usize = 19;
 
-const OUTSIDE: u32 = 15;
+pub const OUTSIDE: u32 = 15;
 pub const NO_ROOM: u32 = 16;
 
 /// So often the questions are put by a handle, and by an index.
@@ -170,11 +170,13 @@ impl Comparison {
                     self.ask_by(random, (lent, way), By::handle(&other), question, None)?;
                 }
             }
+            self.opened_starts(random, (lent, way), track, &handle)?;
             self.indexed(random, (lent, way), track, &handle, film)?;
             keep(&mut self.handles, random, handle);
         }
         if film.strict != film.number() {
-            let by_handle = ["opened_sample", "opened_sample_at", "opened_media_time", "opened_stretch"];
+            let by_handle =
+                ["opened_sample", "opened_sample_at", "opened_media_time", "opened_stretch", "opened_step_start"];
             for name in [open_name(way), "index", "indexed_sample", "indexed_sample_at"].into_iter().chain(by_handle) {
                 self.counts.strict(kind_of(name), 0);
             }

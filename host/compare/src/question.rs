@@ -50,7 +50,7 @@ const FUNCTIONS: [(&str, usize); 14] = [
 
 /// Every function of include/chaldoref.h but the step at top level: those of a whole file and of slips, then those of a moov alone, then the steps,
 /// those of a track that is opened once and those of its index.
-pub const KINDS: [&str; 2 * FUNCTIONS.len() - 3 + 13] = [
+pub const KINDS: [&str; 2 * FUNCTIONS.len() - 3 + 14] = [
     "track_list",
     "sample",
     "sample_bytes",
@@ -86,6 +86,7 @@ pub const KINDS: [&str; 2 * FUNCTIONS.len() - 3 + 13] = [
     "opened_sample_at",
     "opened_media_time",
     "opened_stretch",
+    "opened_step_start",
     "index",
     "indexed_sample",
     "indexed_sample_at",

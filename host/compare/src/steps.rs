@@ -3,7 +3,8 @@
 use crate::case::{Difference, Lengths};
 use crate::films::Comparison;
 use crate::lent::Lent;
-use crate::library::{ask, step, step_start, steps, Lending};
+use crate::library::{ask, opened_step_start, step, step_start, steps, Lending};
+use crate::opened::{HANDLE, NO_ROOM, OUTSIDE};
 use crate::question::{kind_of, sample_places, Film, Question, Way};
 use reference::maker::Random;
 use reference::movie::tables::{Sample, Track};
@@ -14,7 +15,8 @@ const STEP_PLACES: usize = 9;
 const STEPS_PLACES: usize = 1;
 const SAMPLE: usize = 8;
 
-const NO_ROOM: u32 = 16;
+/// The place of the number of samples in a handle.
+const HANDLE_SAMPLES: usize = 14;
 
 /// As many positions, and handles, of earlier films are kept, and as many steps are taken from a position at most.
 const KEPT: usize = 8;
@@ -36,18 +38,33 @@ pub fn difference(way: Way, question: &str, fault: &str) -> Box<Difference> {
     Box::new(Difference { question: question.into(), way, lengths, library, reference, fault: fault.into() })
 }
 
-/// A film as it is lent, and the words for a difference.
+/// A film as it is lent, with the handle that a position is started by if there is one, and the words for a difference.
 #[derive(Clone, Copy)]
 struct Stepped<'a> {
     lent: &'a [u8],
     way: Way,
     id: u32,
     n: u32,
+    handle: Option<&'a [u64]>,
 }
 
 impl Stepped<'_> {
     fn differs(&self, function: &str, fault: &str) -> Box<Difference> {
         difference(self.way, &format!("{function} from sample {} of track {}", self.n, self.id), fault)
+    }
+
+    /// How the start is called.
+    fn start_name(&self) -> &'static str {
+        if self.handle.is_some() {
+            "opened_step_start"
+        } else {
+            start_of(self.way)
+        }
+    }
+
+    /// Whether there are too few numbers for a handle.
+    fn is_short(&self) -> bool {
+        self.handle.is_some_and(|numbers| numbers.len() < HANDLE)
     }
 
     /// What is wrong with what was lent, if anything is.
@@ -63,7 +80,7 @@ impl Stepped<'_> {
     }
 }
 
-/// How the start is called.
+/// How a start is called that judges the film.
 fn start_of(way: Way) -> &'static str {
     if way == Way::Whole {
         "step_start"
@@ -93,18 +110,32 @@ pub fn alter(numbers: &mut [u64], random: &mut Random) {
 }
 
 impl Comparison {
-    /// A start, with that many numbers lent for the position; answers the position, if there is one.
+    /// A start, with that many numbers lent for the position; answers the position, if there is one. By the handle of another film the number
+    /// is not known: it is 15 or none.
     fn start(
         &mut self,
         random: &mut Random,
         film: Stepped,
         length: usize,
-        expected: u32,
+        known: Option<u32>,
     ) -> Result<Option<Vec<u64>>, Box<Difference>> {
-        let name = start_of(film.way);
-        let expected = if expected == 0 && length < STEPPER { NO_ROOM } else { expected };
+        let name = film.start_name();
         let mut stepper = Lent::new(length, random.bits());
-        let number = step_start(film.lent, film.way, film.id, film.n, &mut stepper);
+        let number = if let Some(numbers) = film.handle {
+            let mut handle = Lent::holding(numbers, random.bits());
+            let number = opened_step_start(film.lent, &mut handle, film.n, &mut stepper);
+            film.check(name, &handle, numbers)?;
+            number
+        } else {
+            step_start(film.lent, film.way, film.id, film.n, &mut stepper)
+        };
+        let expected = match known {
+            _ if film.is_short() => NO_ROOM,
+            None if number == OUTSIDE => OUTSIDE,
+            None | Some(0) if length < STEPPER => NO_ROOM,
+            None => 0,
+            Some(refusal) => refusal,
+        };
         film.same(name, number, expected)?;
         self.counts.question(kind_of(name), number);
         if number == 0 {
@@ -112,7 +143,7 @@ impl Comparison {
             film.check(name, &stepper, &position)?;
             return Ok(Some(position));
         }
-        let zeros = if length < STEPPER { 0 } else { STEPPER };
+        let zeros = if length < STEPPER || film.is_short() { 0 } else { STEPPER };
         film.check(name, &stepper, &vec![0; zeros])?;
         Ok(None)
     }
@@ -289,17 +320,17 @@ impl Comparison {
         track: &Track,
     ) -> Result<(), Box<Difference>> {
         let (id, all) = (u32::try_from(track.tables.id).unwrap(), u32::try_from(track.samples.len()).unwrap());
-        let at = |n| Stepped { lent, way, id, n };
+        let at = |n| Stepped { lent, way, id, n, handle: None };
         for n in [0, all + 1, u32::MAX] {
-            self.start(random, at(n), STEPPER, 15)?;
+            self.start(random, at(n), STEPPER, Some(OUTSIDE))?;
         }
         let mut starts = vec![1, all / 2 + 1, all];
         starts.dedup();
         for n in starts.into_iter().filter(|n| (1..=all).contains(n)) {
             let film = at(n);
             let (fewer, more) = (random.below(STEPPER), random.below(3));
-            self.start(random, film, fewer, 0)?;
-            let position = self.start(random, film, STEPPER + more, 0)?.expect("it is answered");
+            self.start(random, film, fewer, Some(0))?;
+            let position = self.start(random, film, STEPPER + more, Some(0))?.expect("it is answered");
             let samples = &track.samples[usize::try_from(n - 1).unwrap()..];
             for one_by_one in [true, false] {
                 self.to_the_end(random, film, &position, samples, one_by_one)?;
@@ -309,6 +340,37 @@ impl Comparison {
                 self.same_as_sample(film, number, sample)?;
             }
             keep(&mut self.kept, random, Kept { numbers: position, left: u64::from(all - n + 1) });
+        }
+        Ok(())
+    }
+
+    /// Starts by the handle of a track, by too few of its numbers, and by the handle of another film.
+    pub fn opened_starts(
+        &mut self,
+        random: &mut Random,
+        (lent, way): (&[u8], Way),
+        track: &Track,
+        handle: &[u64],
+    ) -> Result<(), Box<Difference>> {
+        let (id, all) = (u32::try_from(track.tables.id).unwrap(), u32::try_from(track.samples.len()).unwrap());
+        let by = |handle, n| Stepped { lent, way, id, n, handle: Some(handle) };
+        for n in [0, all + 1, u32::MAX] {
+            self.start(random, by(handle, n), STEPPER, Some(OUTSIDE))?;
+        }
+        let (short, n) = (random.below(HANDLE), random.one(&[0, 1]));
+        self.start(random, by(&handle[..short], n), STEPPER, None)?;
+        if let Some(before) = (all > 0).then(|| random.below(track.samples.len())) {
+            let film = by(handle, u32::try_from(before + 1).unwrap());
+            let (fewer, more) = (random.below(STEPPER), random.below(3));
+            self.start(random, film, fewer, Some(0))?;
+            let position = self.start(random, film, STEPPER + more, Some(0))?.expect("it is answered");
+            self.to_the_end(random, film, &position, &track.samples[before..], false)?;
+        }
+        let other = self.any_handle(random);
+        let n = random.one(&[1, 2, all]);
+        if let Some(position) = self.start(random, by(&other, n), STEPPER, None)? {
+            let samples = other[HANDLE_SAMPLES] & u64::from(u32::MAX);
+            self.elsewhere(random, by(&other, n), &position, samples - u64::from(n - 1))?;
         }
         Ok(())
     }
@@ -327,7 +389,7 @@ impl Comparison {
 
     /// Every track stepped through; positions of the films before; starts that are refused.
     pub fn steps(&mut self, random: &mut Random, lent: &[u8], way: Way, film: &Film) -> Result<(), Box<Difference>> {
-        let of = |id, n| Stepped { lent, way, id, n };
+        let of = |id, n| Stepped { lent, way, id, n, handle: None };
         for place in 0..self.kept.len() {
             let Kept { numbers, left } = &self.kept[place];
             let (numbers, left) = (numbers.clone(), *left);
@@ -338,14 +400,14 @@ impl Comparison {
         let movie = match &film.movie {
             Err(number) => {
                 let fewer = random.below(STEPPER);
-                self.start(random, of(1, 1), STEPPER, *number)?;
-                return self.start(random, of(1, 1), fewer, *number).map(drop);
+                self.start(random, of(1, 1), STEPPER, Some(*number))?;
+                return self.start(random, of(1, 1), fewer, Some(*number)).map(drop);
             }
             Ok(movie) => movie,
         };
         let unknown = (1..).find(|id| movie.track(*id).is_err()).unwrap();
         let n = random.one(&[0, 1]);
-        self.start(random, of(unknown, n), STEPPER, 14)?;
+        self.start(random, of(unknown, n), STEPPER, Some(14))?;
         for track in &movie.tracks {
             self.track_steps(random, lent, way, track)?;
         }
