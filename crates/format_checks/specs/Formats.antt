@@ -1,5 +1,5 @@
--- Document 02, Ask 12: "If any universal 'vfmt' (vide) or 'afmt' (soun) record is there, the values must be exactly the formats in stsd, in any order,
--- repeats allowed."
+-- Document 02, Ask 12: "If any universal 'vfmt' (vide) or 'afmt' (soun) record is there, the values must be exactly the formats in stsd, in any
+-- order, repeats allowed."
 use Prim.Native.Nat.{ℕ}
 use mathlib.Core.List.{List, [], _∷_, map}
 use mathlib.Core.Bool.{Bool, false, cond, not, _&&_, _||_}

@@ -26,7 +26,8 @@ pub record Keeps (movie : ℕ) (t : Track) : Type 0 where
   -- "each universal record .. must be at least the computed feature"
   pub enough : (i : ℕ) → i < length (records t) → featureFault movie t (recordAt t i) ≡ false
   -- "the values must be exactly the formats in stsd": each value is a format
-  pub named : (i : ℕ) → i < length (records t) → isFormat (t .subtype) (recordAt t i) ≡ true → listed (recordValue (recordAt t i)) (formats (t .descriptions)) ≡ true
+  pub named : (i : ℕ) → i < length (records t) → isFormat (t .subtype) (recordAt t i) ≡ true
+      → listed (recordValue (recordAt t i)) (formats (t .descriptions)) ≡ true
   -- and "If any .. record is there" each format is a value
   pub complete : some (isFormat (t .subtype)) (records t) ≡ true → (j : ℕ) → j < length (t .descriptions)
       → listed (formatOf (getD (t .descriptions) j [])) (formatValues (t .subtype) (records t)) ≡ true
@@ -40,4 +41,5 @@ pub record TrueExactly (movie : ℕ) (t : Track) : Type 0 where
   pub accepted : Keeps movie t → profileFault movie t ≡ 0
   pub keeps : profileFault movie t ≡ 0 → Keeps movie t
   -- "the first record at fault by its place, from 1"
-  pub first : (i : ℕ) → profileFault movie t ≡ suc i → (i < length (records t)) × (faultAt movie t i ≡ true) × ((j : ℕ) → j < i → faultAt movie t j ≡ false)
+  pub first : (i : ℕ) → profileFault movie t ≡ suc i
+      → (i < length (records t)) × (faultAt movie t i ≡ true) × ((j : ℕ) → j < i → faultAt movie t j ≡ false)
