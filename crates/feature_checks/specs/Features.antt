@@ -1,5 +1,5 @@
--- Document 02, Ask 12: "each universal record (part-ID 0x20202020) with code avvb, avab, mvbr, mabr or vfps must be at least the computed feature, tvsz
--- at least in each half."
+-- Document 02, Ask 12: "each universal record (part-ID 0x20202020) with code avvb, avab, mvbr, mabr or vfps must be at least the computed feature,
+-- tvsz at least in each half."
 use Prim.Native.Nat.{ℕ, _/_, _%_}
 use mathlib.Core.List.{List, [], _∷_}
 use mathlib.Core.Bool.{Bool, true, cond, _&&_, _||_}

@@ -66,8 +66,8 @@ fn is_below(code: u32, value: u64, bound: u64) -> bool
     value % 65536 < bound % 65536
 }
 
-// One more than the bound of each code whose feature has been computed, 0 for the others: each is computed at most once, and only where a record asks
-// for it.
+// One more than the bound of each code whose feature has been computed, 0 for the others: each is computed at most once, and only where a record
+// asks for it.
 pub struct Bounds {
     pub of: [u64; 6],
 }

@@ -3,7 +3,7 @@
 use mathlib.Core.Path.{refl}
 use Rattle.questions.proofs.Asking.{ask-body, ask-parts}
 use Rattle.feature_questions.proofs.Askable.{asked-computable, asked-averaged}
-use Rattle.profile_checks.proofs.Faults.{not-checked, checked}
+use Rattle.profile_checks.proofs.Answers.{not-checked, checked}
 use borrow.Author.Needs.{needs}
 use Rattle.profile_checks.proofs.check_profile.Statement.{statement}
 use Rattle.profile_checks.proofs.check_profile.Tie as tie

@@ -12,7 +12,7 @@ use Rattle.profiles.specs.Profiles.{keptOf}
 use Rattle.feature_checks.specs.Records.{recordValue}
 use Rattle.feature_checks.specs.Features.{featureFault}
 use Rattle.format_checks.specs.Formats.{isFormat, formats, formatValues, isMissing}
-use Rattle.profile_checks.specs.Checks.{atFault, profileFault}
+use Rattle.profile_faults.specs.Faults.{atFault, profileFault}
 
 -- the records of the stored profile, "in order", and the one at an index, from 0
 abbrev pub records : Track → List (List ℕ)

@@ -16,9 +16,9 @@ use Rattle.profiles.specs.Profiles.{keptOf}
 use Rattle.feature_checks.specs.Records.{recordValue}
 use Rattle.feature_checks.specs.Features.{featureFault}
 use Rattle.format_checks.specs.Formats.{isFormat, formats, formatValues, lacksOne, isMissing, formatFault}
-use Rattle.profile_checks.specs.Checks.{atFault, faultFrom, profileFault}
-use Rattle.profile_checks.specs.Sentences.{records, recordAt, Keeps, faultAt, TrueExactly}
-use Rattle.profile_checks.proofs.Faults.{still-missing}
+use Rattle.profile_faults.specs.Faults.{atFault, faultFrom, profileFault}
+use Rattle.profile_faults.specs.Sentences.{records, recordAt, Keeps, faultAt, TrueExactly}
+use Rattle.profile_faults.proofs.Faults.{still-missing}
 
 impossible : {A : Type 0} → _≡_ {A = Bool} true false → A
 impossible e = let n : _≡_ {A = ℕ} 0 1 = cc in absurd (omega arith)

@@ -11,15 +11,10 @@ use lib.ListN.{length, take, drop, length-take, length-drop}
 use Rattle.bigendian.specs.BigEndian.{u32At}
 use Rattle.bigendian.proofs.Laws.{beAt-take}
 use Rattle.lists.proofs.Booleans.{or-second, or-neither}
-use Rattle.structure.specs.declared.source.Source.{Source}
 use Rattle.structure.specs.Track.{profileOf}
-use Rattle.structure.specs.Movie.{moovOf, movieScale}
 use Rattle.places.specs.Places.{partIn}
 use Rattle.places.specs.declared.Part.{Part}
 use Rattle.track.specs.Track.{Track, trackOf}
-use Rattle.movie.specs.Rooms.{refusedWith}
-use Rattle.movie.proofs.Answers.{gives-refused, gives-answer}
-use Rattle.questions.specs.Asked.{askRefusal, trackAsked}
 use Rattle.profiles.specs.Profiles.{keptIn, keptOf}
 use Rattle.profiles.proofs.Kept.{kept-in, kept-none, kept-here, kept-next}
 use Rattle.feature_checks.specs.Records.{isUniversal}
@@ -29,9 +24,7 @@ use Rattle.feature_checks.specs.declared.Bounds.{Bounds}
 use Rattle.feature_checks.specs.declared.Judged.{Judged}
 use Rattle.format_checks.specs.Formats.{isFormat, isMissing, formatFault}
 use Rattle.format_checks.proofs.Formats.{format-taken}
-use Rattle.profile_checks.specs.Checks.{atFault, faultFrom, profileFault, verdictOf, verdictAsked, checkNumbers, Checks}
-use Rattle.profile_checks.specs.declared.Verdict.{Verdict}
-use Rattle.profile_checks.specs.declared.Verdict.the-variants.{Refused}
+use Rattle.profile_faults.specs.Faults.{atFault, faultFrom, profileFault}
 
 -- ---- a record
 
@@ -135,15 +128,3 @@ module _ (movie : ℕ) (b : List ℕ) (missing : Bool) (bounds : Bounds) (s : Li
               within = omega (arith, p .within, length-drop 16 s);
               rest = sym (fault-next movie (trackOf b) missing place s c h e n (not-at-fault movie (trackOf b) missing s (sym (d .fault) ∙ g) f)) ∙ p .rest;
             }
-
--- ---- the answers
-
-pub not-checked : (s : List ℕ) (w : Source) (id r : ℕ) → r ≡ askRefusal s w id → (r ≡ 0 → ⊥) → Checks s w id (Refused r)
-unfolding checkNumbers
-not-checked s w id r e n = gives-refused checkNumbers (refusedWith 1) Refused (λ k. refl) (verdictAsked s id) (askRefusal s w id) r (sym e) n
-
-pub checked : (s m b : List ℕ) (w : Source) (id r movie place : ℕ) (a : Verdict) → r ≡ askRefusal s w id → r ≡ 0 → m ≡ moovOf s
-    → movie ≡ movieScale m → b ≡ trackAsked s id → place ≡ profileFault movie (trackOf b) → a ≡ verdictOf place → Checks s w id a
-unfolding checkNumbers
-checked s m b w id r movie place a e z q g d h v =
-    gives-answer checkNumbers (refusedWith 1) Refused (λ k. refl) (verdictAsked s id) (askRefusal s w id) a (sym e ∙ z) (v ∙ ap verdictOf (h ∙ rw (d, g, q)))

@@ -1,4 +1,4 @@
--- `profile_checks::first_fault` meets its contract; the loop's invariant: no record passed is at fault, so the rest decides.
+-- `profile_faults::first_fault` meets its contract; the loop's invariant: no record passed is at fault, so the rest decides.
 -- Assumes nothing.
 use borrow.Author.Needs.{needs}
 use Prim.Native.Nat.{_+_, _≤_}
@@ -8,9 +8,9 @@ use mathlib.Core.Logic.{⊎-elim}
 use denote.Ref.{now}
 use lib.ListN.{length, drop, length-drop}
 use Rattle.bigendian.proofs.Parts.{rest as part-rest}
-use Rattle.profile_checks.proofs.Faults.{Passed, passed-none, passed-all, passed-skip, found-format, found-feature, passed-one}
-use Rattle.profile_checks.proofs.first_fault.Statement.{statement}
-use Rattle.profile_checks.proofs.first_fault.Tie as tie
+use Rattle.profile_faults.proofs.Faults.{Passed, passed-none, passed-all, passed-skip, found-format, found-feature, passed-one}
+use Rattle.profile_faults.proofs.first_fault.Statement.{statement}
+use Rattle.profile_faults.proofs.first_fault.Tie as tie
 
 abbrev Inv-loop : tie.InvT-loop
 Inv-loop trak p movie missing bounds₀ t₀ place₀ bounds t place = Passed movie trak missing bounds t place
