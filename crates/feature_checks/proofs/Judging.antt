@@ -9,7 +9,7 @@ use native.Mathlib.Decide.{ℕ-discrete}
 use native.Mathlib.Nat.{div-lt-iff-lt-mul}
 use borrow.Author.Tests.{eq-eqb, ne-eqb, lt-ltb}
 use lib.Dec.{eqb, ltb, lit<}
-use lib.ListN.{getD, set, replicate, length-set, getD-replicate}
+use lib.ListN.{getD, set, length-set, getD-replicate}
 use lib.Seq.{getD-set-same, getD-set-other}
 use Rattle.lists.proofs.Booleans.{and-false}
 use Rattle.rates.specs.declared.Feature.{Feature}
@@ -18,7 +18,7 @@ use Rattle.features.specs.Features.{tvsz, featureOf}
 use Rattle.track.specs.Track.{Track}
 use Rattle.feature_checks.specs.Records.{recordCode, recordValue, isUniversal}
 use Rattle.feature_checks.specs.Features.{featureCodes, tooLow, featureFault}
-use Rattle.feature_checks.specs.Bounds.{indexIn, boundOf, isBelow, boundAt, AreBounds, HasBound, Judges}
+use Rattle.feature_checks.specs.Bounds.{indexIn, boundOf, isBelow, boundAt, noBounds, AreBounds, HasBound, Judges}
 use Rattle.feature_checks.specs.declared.Bounds.{Bounds}
 use Rattle.feature_checks.proofs.Codes.{index-past, index-listed, index-at}
 
@@ -34,8 +34,8 @@ below-low code value NotComputed h = halves value h (eqb code tvsz)
 
 module _ (movie : ℕ) (t : Track) where
   -- none yet
-  pub no-bound : AreBounds movie t (record { of = replicate 6 0 })
-  no-bound = record { six = refl; known = λ i h n. absurd (n (getD-replicate 6 i 0 0 h)) }
+  pub no-bound : (b : Bounds) → b ≡ noBounds → AreBounds movie t b
+  no-bound b e = rw e (record { six = refl; known = λ i h n. absurd (n (getD-replicate 6 i 0 0 h)) })
 
   -- the bound of a code
   pub bound-is : (code i b : ℕ) (f : Feature) → i ≡ indexIn code featureCodes → i < 6 → f ≡ featureOf movie t code → b ≡ boundOf f → 1 + b ≡ boundAt movie t i

@@ -3,7 +3,7 @@ use Prim.Native.Nat.{ℕ, suc, _/_, _%_, _≤_, _<_}
 use mathlib.Core.Path.{_≡_}
 use mathlib.Core.List.{List, [], _∷_}
 use mathlib.Core.Bool.{Bool, cond, _||_}
-use lib.ListN.{length, getD}
+use lib.ListN.{length, getD, replicate}
 use lib.Dec.{eqb, ltb}
 use Rattle.rates.specs.declared.Feature.{Feature}
 use Rattle.rates.specs.declared.Feature.the-variants.{Value, NotComputed}
@@ -30,6 +30,9 @@ isBelow code value bound =
 -- one more than the bound of the code at i
 unfoldable pub boundAt : ℕ → Track → ℕ → ℕ
 boundAt movie t i = suc (boundOf (featureOf movie t (getD featureCodes i 0)))
+
+abbrev pub noBounds : Bounds
+noBounds = record { of = replicate 6 0 }
 
 -- that of each code whose feature has been computed, 0 for the others
 pub record AreBounds (movie : ℕ) (t : Track) (b : Bounds) : Type 0 where

@@ -16,10 +16,10 @@ ghost use Rattle.track.specs.Track.{trackOf};
 ghost use Rattle.features.specs.Features.{Computable, Averaged};
 ghost use Rattle.feature_checks.specs.Records.{isUniversal};
 ghost use Rattle.feature_checks.specs.Features.{featureCodes};
-ghost use Rattle.feature_checks.specs.Bounds.{indexIn, boundOf, isBelow, AreBounds, HasBound, Judges};
+ghost use Rattle.feature_checks.specs.Bounds.{indexIn, boundOf, isBelow, noBounds, AreBounds, HasBound, Judges};
 
 // The part-ID of a universal record.
-pub const UNIVERSAL: u32 = 0x20202020;
+const UNIVERSAL: u32 = 0x20202020;
 
 // Whether the record that a part begins with is universal.
 pub fn is_universal(t: &[u8]) -> bool
@@ -72,8 +72,8 @@ pub struct Bounds {
     pub of: [u64; 6],
 }
 
-pub fn no_bounds(trak: &[u8], movie: u32) -> Bounds
-    ensures { λ r. ⌜ AreBounds movie (trackOf (now (trak .entry))) r ⌝ }
+pub fn no_bounds() -> Bounds
+    ensures { λ r. ⌜ r ≡ noBounds ⌝ }
 {
     Bounds { of: [0; 6] }
 }

@@ -20,9 +20,9 @@ ghost use Rattle.feature_checks.specs.Records.{recordValue};
 ghost use Rattle.format_checks.specs.Formats.{isFormat, formats, formatValues, lacksOne, isMissing, formatFault};
 
 // The codes of the records that name a format.
-pub const VFMT: u32 = 0x76666d74;
+const VFMT: u32 = 0x76666d74;
 
-pub const AFMT: u32 = 0x61666d74;
+const AFMT: u32 = 0x61666d74;
 
 // Whether the record that a part begins with names a format, and is not passed over in a track of that subtype.
 fn is_format(subtype: u32, t: &[u8]) -> bool

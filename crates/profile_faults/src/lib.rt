@@ -19,7 +19,7 @@ pub fn first_fault(trak: &[u8], p: Parts, movie: u32) -> usize
     ensures { λ r. ⌜ r ≡ profileFault movie (trackOf (now (trak .entry))) ⌝ }
 {
     let missing = is_missing(trak, p);
-    let mut bounds = no_bounds(trak, movie);
+    let mut bounds = no_bounds();
     let mut t = after(part_of(trak, p.profile), 16);
     let mut place = 1;
     while 16 <= t.len() {

@@ -8,6 +8,7 @@ use mathlib.Core.Logic.{⊎-elim}
 use denote.Ref.{now}
 use lib.ListN.{length, drop, length-drop}
 use Rattle.bigendian.proofs.Parts.{rest as part-rest}
+use Rattle.feature_checks.proofs.Judging.{no-bound}
 use Rattle.profile_faults.proofs.Faults.{Passed, passed-none, passed-all, passed-skip, found-format, found-feature, passed-one}
 use Rattle.profile_faults.proofs.first_fault.Statement.{statement}
 use Rattle.profile_faults.proofs.first_fault.Tie as tie
@@ -34,7 +35,7 @@ loop-holds : tie.Need-loop-holds Inv-loop μ-loop
 loop-holds c =
     let q = c .before in
     let m = q .before .before in
-    passed-none _ _ _ _ _ _ (q .before .no-bounds .ensures) (m .is-missing .ensures) (m .before .before .pre .0 .profile) (c .after .ensures ∙ ap (drop 16) (q .part-of .ensures))
+    passed-none _ _ _ _ _ _ (no-bound _ _ _ (q .before .no-bounds .ensures)) (m .is-missing .ensures) (m .before .before .pre .0 .profile) (c .after .ensures ∙ ap (drop 16) (q .part-of .ensures))
 
 u32-at-requires : tie.Need-u32-at-requires Inv-loop μ-loop
 u32-at-requires c κs = tt
