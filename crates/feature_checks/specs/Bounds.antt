@@ -1,4 +1,5 @@
--- What a record's value must reach, kept for each of the six codes. These need not be believed: they are between the crates' own functions.
+-- What a record's value must reach, kept for each of the six codes: promises of functions that other crates call. Which bounds are held after a
+-- record may differ from one correct program to another, so these need not be believed; callers go by `Judges.fault`.
 use Prim.Native.Nat.{ℕ, suc, _/_, _%_, _≤_, _<_}
 use mathlib.Core.Path.{_≡_}
 use mathlib.Core.List.{List, [], _∷_}

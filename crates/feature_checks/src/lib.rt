@@ -43,7 +43,7 @@ fn code_index(code: u32) -> usize
     }
 }
 
-// What a value must reach: a feature that can't be computed, more than 32 bits hold.
+// What a value must reach: the feature, or, where it can't be computed, a number that no value of 32 bits reaches.
 fn bound_of(f: Feature) -> u64
     ensures { λ r. ⌜ (r ≡ boundOf f) × (r ≤ 4294967296) ⌝ }
 {

@@ -22,40 +22,40 @@ use Rattle.features.specs.Features.{soun}
 use Rattle.profiles.specs.Profiles.{keptIn}
 use Rattle.profiles.proofs.Kept.{kept-none, kept-here, kept-next}
 use Rattle.feature_checks.specs.Records.{recordCode, recordValue, isUniversal}
-use Rattle.format_checks.specs.Formats.{vfmt, afmt, isFormat, formats, formatValues, lacksOne}
+use Rattle.format_checks.specs.Formats.{vfmt, afmt, namesFormat, formats, formatValues, lacksOne}
 
 -- ---- a record
 
 -- by its own bytes
-pub format-taken : (subtype : ℕ) (t : List ℕ) → isFormat subtype (take 16 t) ≡ isFormat subtype t
-unfolding isFormat isUniversal
+pub format-taken : (subtype : ℕ) (t : List ℕ) → namesFormat subtype (take 16 t) ≡ namesFormat subtype t
+unfolding namesFormat isUniversal
 format-taken subtype t = rw (beAt-take 4 16 t 4 (lit≤ tt), beAt-take 4 16 t 8 (lit≤ tt))
 
 module _ (subtype : ℕ) (e : List ℕ) where
-  pub format-part : isUniversal e ≡ false → isFormat subtype e ≡ false
-  unfolding isFormat
+  pub format-part : isUniversal e ≡ false → namesFormat subtype e ≡ false
+  unfolding namesFormat
   format-part h = rw h
 
   module _ (code : ℕ) (c : code ≡ recordCode e) (u : isUniversal e ≡ true) where
-    pub format-pictures : code ≡ vfmt → isFormat subtype e ≡ eqb subtype vide
-    unfolding isFormat
+    pub format-pictures : code ≡ vfmt → namesFormat subtype e ≡ eqb subtype vide
+    unfolding namesFormat
     format-pictures q = rw (u, ← c, q) (or-false (eqb subtype vide))
       where
         or-false : (b : Bool) → (b || false) ≡ b
         or-false true = refl
         or-false false = refl
 
-    pub format-sound : code ≡ afmt → isFormat subtype e ≡ eqb subtype soun
-    unfolding isFormat
+    pub format-sound : code ≡ afmt → namesFormat subtype e ≡ eqb subtype soun
+    unfolding namesFormat
     format-sound q = rw (u, ← c, q)
 
-    pub format-other : (code ≡ vfmt → ⊥) → (code ≡ afmt → ⊥) → isFormat subtype e ≡ false
-    unfolding isFormat
+    pub format-other : (code ≡ vfmt → ⊥) → (code ≡ afmt → ⊥) → namesFormat subtype e ≡ false
+    unfolding namesFormat
     format-other p q = rw (u, ← c, ne-eqb code vfmt p, ne-eqb code afmt q)
 
   -- a format record has a code
-  pub format-coded : isFormat subtype e ≡ true → recordCode e ≡ 0 → ⊥
-  unfolding isFormat
+  pub format-coded : namesFormat subtype e ≡ true → recordCode e ≡ 0 → ⊥
+  unfolding namesFormat
   format-coded h z =
       let g : _≡_ {A = Bool} false true = sym (and-false (isUniversal e)) ∙ (rw z at h) in
       let n : _≡_ {A = ℕ} 0 1 = cc in
@@ -68,11 +68,11 @@ module _ (subtype : ℕ) (t : List ℕ) where
   unfolding formatValues
   values-none h = rw (kept-none t h)
 
-  pub values-here : 16 ≤ length t → isFormat subtype t ≡ true → formatValues subtype (keptIn t) ≡ recordValue t ∷ formatValues subtype (keptIn (drop 16 t))
+  pub values-here : 16 ≤ length t → namesFormat subtype t ≡ true → formatValues subtype (keptIn t) ≡ recordValue t ∷ formatValues subtype (keptIn (drop 16 t))
   unfolding formatValues
   values-here h f = rw (kept-here t (recordCode t) h refl (format-coded subtype t f), format-taken subtype t, f, beAt-take 4 16 t 12 (lit≤ tt))
 
-  pub values-next : 16 ≤ length t → isFormat subtype t ≡ false → formatValues subtype (keptIn t) ≡ formatValues subtype (keptIn (drop 16 t))
+  pub values-next : 16 ≤ length t → namesFormat subtype t ≡ false → formatValues subtype (keptIn t) ≡ formatValues subtype (keptIn (drop 16 t))
   unfolding formatValues
   values-next h f = elim (ℕ-discrete (recordCode t) 0) [
     | yes z ↦ rw (kept-next t (recordCode t) h refl z)
@@ -81,14 +81,14 @@ module _ (subtype : ℕ) (t : List ℕ) where
 
   -- whether a format is one of them
   module _ (format : ℕ) where
-    pub named-here : 16 ≤ length t → (isFormat subtype t && eqb (recordValue t) format) ≡ true → listed format (formatValues subtype (keptIn t)) ≡ true
-    named-here h f = rw (values-here h (and-left _ _ f), and-right (isFormat subtype t) _ f)
+    pub named-here : 16 ≤ length t → (namesFormat subtype t && eqb (recordValue t) format) ≡ true → listed format (formatValues subtype (keptIn t)) ≡ true
+    named-here h f = rw (values-here h (and-left _ _ f), and-right (namesFormat subtype t) _ f)
 
-    pub named-next : 16 ≤ length t → (isFormat subtype t && eqb (recordValue t) format) ≡ false
+    pub named-next : 16 ≤ length t → (namesFormat subtype t && eqb (recordValue t) format) ≡ false
         → listed format (formatValues subtype (keptIn t)) ≡ listed format (formatValues subtype (keptIn (drop 16 t)))
-    named-next h f = go (isFormat subtype t) refl
+    named-next h f = go (namesFormat subtype t) refl
       where
-        go : (b : Bool) → isFormat subtype t ≡ b → listed format (formatValues subtype (keptIn t)) ≡ listed format (formatValues subtype (keptIn (drop 16 t)))
+        go : (b : Bool) → namesFormat subtype t ≡ b → listed format (formatValues subtype (keptIn t)) ≡ listed format (formatValues subtype (keptIn (drop 16 t)))
         go false q = rw (values-next h q)
         go true q = let z : eqb (recordValue t) format ≡ false = rw q at f in rw (values-here h q, z)
 

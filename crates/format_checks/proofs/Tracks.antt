@@ -11,7 +11,7 @@ use Rattle.structure.specs.Track.{subtypeOf, tableOf, profileOf}
 use Rattle.track.specs.Track.{leastSize, trackOf}
 use Rattle.profiles.specs.Profiles.{keptOf}
 use Rattle.feature_checks.specs.Records.{recordValue}
-use Rattle.format_checks.specs.Formats.{isFormat, formats, formatValues, lacksOne, isMissing, formatFault}
+use Rattle.format_checks.specs.Formats.{namesFormat, formats, formatValues, lacksOne, isMissing, formatFault}
 
 module _ (b : List ℕ) (subtype : ℕ) (q : subtype ≡ subtypeOf b) where
   pub missing-is : (p s : List ℕ) (least : ℕ) (r : Bool) → p ≡ profileOf b → s ≡ tableOf stsd b → least ≡ leastSize subtype
@@ -20,17 +20,17 @@ module _ (b : List ℕ) (subtype : ℕ) (q : subtype ≡ subtypeOf b) where
   missing-is p s least r d f l e = e ∙ rw (l, q, d, f) refl
 
   -- a record e of its profile
-  module _ (charged : Bool) (e : List ℕ) where
-    pub no-format : isFormat subtype e ≡ false → formatFault (trackOf b) charged e ≡ false
+  module _ (missing : Bool) (e : List ℕ) where
+    pub no-format : namesFormat subtype e ≡ false → formatFault (trackOf b) missing e ≡ false
     unfolding formatFault trackOf
     no-format n = rw (← q, n)
 
-    module _ (y : isFormat subtype e ≡ true) where
-      pub charged-format : charged ≡ true → formatFault (trackOf b) charged e ≡ true
+    module _ (y : namesFormat subtype e ≡ true) where
+      pub missing-format : missing ≡ true → formatFault (trackOf b) missing e ≡ true
       unfolding formatFault trackOf
-      charged-format c = rw (← q, y, c)
+      missing-format c = rw (← q, y, c)
 
-      pub judged-format : (s : List ℕ) (least f : ℕ) (r : Bool) → charged ≡ false → s ≡ tableOf stsd b → least ≡ leastSize subtype → f ≡ recordValue e
-          → r ≡ listed f (formats (descriptions least s)) → not r ≡ formatFault (trackOf b) charged e
+      pub judged-format : (s : List ℕ) (least f : ℕ) (r : Bool) → missing ≡ false → s ≡ tableOf stsd b → least ≡ leastSize subtype → f ≡ recordValue e
+          → r ≡ listed f (formats (descriptions least s)) → not r ≡ formatFault (trackOf b) missing e
       unfolding formatFault trackOf
       judged-format s least f r c d l g h = rw (← q, y, c, h, g, l, d) refl

@@ -20,8 +20,8 @@ abbrev pub afmt : ℕ
 afmt = 0x61666d74
 
 -- whether a record is a "universal 'vfmt' (vide) or 'afmt' (soun) record"; "these two in a track of another subtype, are passed over"
-unfoldable pub isFormat : ℕ → List ℕ → Bool
-isFormat subtype e =
+unfoldable pub namesFormat : ℕ → List ℕ → Bool
+namesFormat subtype e =
     isUniversal e && ((eqb (recordCode e) vfmt && eqb subtype vide) || (eqb (recordCode e) afmt && eqb subtype soun))
 
 -- "the formats in stsd"
@@ -31,17 +31,19 @@ formats ds = map formatOf ds
 -- "the values" of these records
 unfoldable pub formatValues : ℕ → List (List ℕ) → List ℕ
 formatValues subtype [] = []
-formatValues subtype (e ∷ es) = cond (isFormat subtype e) (recordValue e ∷ formatValues subtype es) (formatValues subtype es)
+formatValues subtype (e ∷ es) = cond (namesFormat subtype e) (recordValue e ∷ formatValues subtype es) (formatValues subtype es)
 
 -- whether one of some formats is none of some values
 unfoldable pub lacksOne : List ℕ → List ℕ → Bool
 lacksOne values [] = false
 lacksOne values (f ∷ fs) = not (listed f values) || lacksOne values fs
 
--- "a missing format": whether one of the track's is none of its profile's values
+-- "a missing format": whether one of the track's is none of its profile's values. It is so too where no record names a format, and the rule is "If
+-- any .. record is there": it counts only at such a record, in formatFault
 unfoldable pub isMissing : Track → Bool
 isMissing t = lacksOne (formatValues (t .subtype) (keptOf (t .profile))) (formats (t .descriptions))
 
--- whether a record names a format that stsd has not, or a missing format is charged to it
+-- whether a record of those named above names a format that stsd has not, or a format is missing: of the records that are then at fault "the first
+-- vfmt or afmt record not passed over" is the one that is answered
 unfoldable pub formatFault : Track → Bool → List ℕ → Bool
-formatFault t charged e = isFormat (t .subtype) e && (charged || not (listed (recordValue e) (formats (t .descriptions))))
+formatFault t missing e = namesFormat (t .subtype) e && (missing || not (listed (recordValue e) (formats (t .descriptions))))

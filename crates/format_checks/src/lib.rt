@@ -17,16 +17,16 @@ ghost use Rattle.places.specs.Places.{AreParts};
 ghost use Rattle.track.specs.Track.{leastSize, trackOf};
 ghost use Rattle.profiles.specs.Profiles.{keptOf};
 ghost use Rattle.feature_checks.specs.Records.{recordValue};
-ghost use Rattle.format_checks.specs.Formats.{isFormat, formats, formatValues, lacksOne, isMissing, formatFault};
+ghost use Rattle.format_checks.specs.Formats.{namesFormat, formats, formatValues, lacksOne, isMissing, formatFault};
 
 // The codes of the records that name a format.
 const VFMT: u32 = 0x76666d74;
 
 const AFMT: u32 = 0x61666d74;
 
-// Whether the record that a part begins with names a format, and is not passed over in a track of that subtype.
-fn is_format(subtype: u32, t: &[u8]) -> bool
-    ensures { λ r. ⌜ r ≡ isFormat subtype (now (t .entry)) ⌝ }
+// Whether the record that a part begins with is a universal vfmt or afmt record, not passed over in a track of that subtype.
+fn names_format(subtype: u32, t: &[u8]) -> bool
+    ensures { λ r. ⌜ r ≡ namesFormat subtype (now (t .entry)) ⌝ }
 {
     if !is_universal(t) {
         return false;
@@ -40,10 +40,10 @@ fn is_format(subtype: u32, t: &[u8]) -> bool
 }
 
 // Whether it names that format.
-fn names_format(subtype: u32, t: &[u8], format: u32) -> bool
-    ensures { λ r. ⌜ r ≡ (isFormat subtype (now (t .entry)) && eqb (recordValue (now (t .entry))) format) ⌝ }
+fn record_names(subtype: u32, t: &[u8], format: u32) -> bool
+    ensures { λ r. ⌜ r ≡ (namesFormat subtype (now (t .entry)) && eqb (recordValue (now (t .entry))) format) ⌝ }
 {
-    if !is_format(subtype, t) {
+    if !names_format(subtype, t) {
         return false;
     }
     u32_at(t, 12) == format
@@ -55,7 +55,7 @@ fn is_named(subtype: u32, profile: &[u8], format: u32) -> bool
 {
     let mut t = after(profile, 16);
     while 16 <= t.len() {
-        if names_format(subtype, t, format) {
+        if record_names(subtype, t, format) {
             return true;
         }
         t = &t[16..];
@@ -63,11 +63,19 @@ fn is_named(subtype: u32, profile: &[u8], format: u32) -> bool
     false
 }
 
-// The least size of a description.
+// The least size of a description, and that of one of pictures.
+const LEAST_SIZE: usize = 16;
+
+const LEAST_VIDE_SIZE: usize = 36;
+
 fn least_size(subtype: u32) -> usize
     ensures { λ r. ⌜ r ≡ leastSize subtype ⌝ }
 {
-    if subtype == kinds::VIDE { 36 } else { 16 }
+    if subtype == kinds::VIDE {
+        LEAST_VIDE_SIZE
+    } else {
+        LEAST_SIZE
+    }
 }
 
 // Whether a description has that format.
@@ -89,7 +97,7 @@ fn has_format(stsd: &[u8], least: usize, format: u32) -> bool
     }
 }
 
-// Whether the profile names no format of one of the descriptions.
+// Whether the format of one of the descriptions is not named in the profile.
 fn lacks_one(subtype: u32, profile: &[u8], stsd: &[u8], least: usize) -> bool
     ensures { λ r. ⌜ r ≡ lacksOne (formatValues subtype (keptOf (now (profile .entry)))) (formats (descriptions least (now (stsd .entry)))) ⌝ }
 {
@@ -123,16 +131,16 @@ pub fn is_missing(trak: &[u8], p: Parts) -> bool
     )
 }
 
-// Whether the record names a format that stsd has not, or a missing one is charged to it.
-pub fn format_fault(trak: &[u8], p: Parts, charged: bool, t: &[u8]) -> bool
+// Whether the record names a format and is at fault: stsd has not that format, or one of its formats is missing in the profile.
+pub fn format_fault(trak: &[u8], p: Parts, missing: bool, t: &[u8]) -> bool
     requires { ⌜ AreParts (now trak) p ⌝ }
-    ensures { λ r. ⌜ r ≡ formatFault (trackOf (now (trak .entry))) charged (now (t .entry)) ⌝ }
+    ensures { λ r. ⌜ r ≡ formatFault (trackOf (now (trak .entry))) missing (now (t .entry)) ⌝ }
 {
     let subtype = subtype_in(trak, p);
-    if !is_format(subtype, t) {
+    if !names_format(subtype, t) {
         return false;
     }
-    if charged {
+    if missing {
         return true;
     }
     let least = least_size(subtype);

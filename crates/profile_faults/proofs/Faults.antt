@@ -2,7 +2,7 @@
 -- Assumes nothing.
 use Prim.Native.Nat.{ℕ, suc, _+_, _≤_, _<_}
 use mathlib.Core.Path.{_≡_, refl, sym, ap, _∙_}
-use mathlib.Core.Bool.{Bool, true, false, cond, not, _&&_, _||_}
+use mathlib.Core.Bool.{Bool, true, false, cond, _||_}
 use mathlib.Core.List.{List, [], _∷_}
 use native.Mathlib.Omega.{arith}
 use native.Mathlib.Numerals.{add-one}
@@ -22,25 +22,11 @@ use Rattle.feature_checks.specs.Features.{featureFault}
 use Rattle.feature_checks.specs.Bounds.{AreBounds, Judges}
 use Rattle.feature_checks.specs.declared.Bounds.{Bounds}
 use Rattle.feature_checks.specs.declared.Judged.{Judged}
-use Rattle.format_checks.specs.Formats.{isFormat, isMissing, formatFault}
+use Rattle.format_checks.specs.Formats.{isMissing, formatFault}
 use Rattle.format_checks.proofs.Formats.{format-taken}
 use Rattle.profile_faults.specs.Faults.{atFault, faultFrom, profileFault}
 
 -- ---- a record
-
--- a record that is not at fault leaves a missing format as it is: it names none, or none is missing
-pub still-missing : (movie : ℕ) (t : Track) (missing : Bool) (e : List ℕ) → atFault movie t missing e ≡ false → (missing && not (isFormat (t .subtype) e)) ≡ missing
-unfolding atFault formatFault
-still-missing movie t false e h = refl
-still-missing movie t true e h = by (isFormat (t .subtype) e) refl
-  where
-    by : (b : Bool) → isFormat (t .subtype) e ≡ b → not (isFormat (t .subtype) e) ≡ true
-    by false q = rw q
-    by true q =
-        let g : (featureFault movie t e || true) ≡ false = rw q at h in
-        let z : _≡_ {A = Bool} true false = sym (or-second (featureFault movie t e) true refl) ∙ g in
-        let n : _≡_ {A = ℕ} 0 1 = cc in
-        absurd (omega arith)
 
 -- by its own bytes
 fault-taken : (movie : ℕ) (t : Track) (missing : Bool) (s : List ℕ) → atFault movie t missing (take 16 s) ≡ atFault movie t missing s
@@ -79,7 +65,7 @@ module _ (movie : ℕ) (t : Track) (missing : Bool) (k : ℕ) (s : List ℕ) whe
     unfolding faultFrom
     fault-next n f =
         let g = fault-taken movie t missing s ∙ f in
-        rw (kept-here s c h e n, g, still-missing movie t missing (take 16 s) g, add-one k)
+        rw (kept-here s c h e n, g, add-one k)
 
 -- ---- the walk
 

@@ -1,56 +1,56 @@
--- A profile is accepted exactly if it keeps the rules, and the fault of another is at the first record at fault.
+-- A profile is accepted exactly if it keeps the rules, and the fault of another is at the first record that breaks one.
 -- Assumes nothing.
-use Prim.Native.Nat.{ℕ, zero, suc, _+_, _≤_, _<_}
+use Prim.Native.Nat.{ℕ, zero, suc, _+_, _/_, _%_, _≤_, _<_}
 use mathlib.Core.Path.{_≡_, refl, sym, ap, _∙_}
 use mathlib.Core.Bool.{Bool, true, false, cond, not, _&&_, _||_}
 use mathlib.Core.List.{List, [], _∷_, map}
 use native.Mathlib.Omega.{arith}
-use borrow.Author.Tests.{not-true, not-false}
-use lib.ListN.{length, getD, take}
+use native.Mathlib.Decide.{ℕ-discrete}
+use borrow.Author.Tests.{not-true, not-false, eq-eqb, ne-eqb, ltb-false, le-ltb}
+use lib.Dec.{eqb, ltb}
+use lib.ListN.{length, getD}
 use Rattle.words.specs.Words.{listed}
-use Rattle.lists.proofs.Booleans.{or-left, or-right, or-second, or-neither, and-false}
+use Rattle.lists.proofs.Booleans.{or-left, or-right, or-neither}
 use Rattle.descriptions.specs.Descriptions.{formatOf}
-use Rattle.structure.specs.Rows.{some}
+use Rattle.rates.specs.declared.Feature.{Feature}
+use Rattle.rates.specs.declared.Feature.the-variants.{Value, NotComputed}
+use Rattle.features.specs.Features.{tvsz, featureOf}
 use Rattle.track.specs.Track.{Track}
 use Rattle.profiles.specs.Profiles.{keptOf}
-use Rattle.feature_checks.specs.Records.{recordValue}
-use Rattle.feature_checks.specs.Features.{featureFault}
-use Rattle.format_checks.specs.Formats.{isFormat, formats, formatValues, lacksOne, isMissing, formatFault}
+use Rattle.feature_checks.specs.Records.{recordCode, recordValue, isUniversal}
+use Rattle.feature_checks.specs.Features.{featureCodes, tooLow, featureFault}
+use Rattle.format_checks.specs.Formats.{namesFormat, formats, formatValues, lacksOne, isMissing, formatFault}
 use Rattle.profile_faults.specs.Faults.{atFault, faultFrom, profileFault}
-use Rattle.profile_faults.specs.Sentences.{records, recordAt, Keeps, faultAt, TrueExactly}
-use Rattle.profile_faults.proofs.Faults.{still-missing}
+use Rattle.profile_faults.specs.Sentences.{records, recordAt, AtLeast, Obeys, Keeps, FirstAtFault, TrueExactly}
 
 impossible : {A : Type 0} → _≡_ {A = Bool} true false → A
 impossible e = let n : _≡_ {A = ℕ} 0 1 = cc in absurd (omega arith)
 
-and-none : (a : Bool) → (a && true) ≡ a
-and-none true = refl
-and-none false = refl
+-- ---- a value and its feature
 
--- ---- some of them
+high : (code value : ℕ) (f : Feature) → tooLow code value f ≡ false → AtLeast code value f
+unfolding tooLow
+high code value NotComputed h = impossible h
+high code value (Value v) h =
+    record {
+      feature = v;
+      computed = refl;
+      enough = λ n. ltb-false value v (rw (ne-eqb code tvsz n) at h);
+      halves = λ q.
+          let g : (ltb (value / 65536) (v / 65536) || ltb (value % 65536) (v % 65536)) ≡ false = rw (eq-eqb code tvsz q) at h in
+          (ltb-false (value / 65536) (v / 65536) (or-left _ _ g), ltb-false (value % 65536) (v % 65536) (or-right (ltb (value / 65536) (v / 65536)) _ g));
+    }
 
-some-at : (f : List ℕ → Bool) (es : List (List ℕ)) (i : ℕ) → i < length es → f (getD es i []) ≡ true → some f es ≡ true
-unfolding some
-some-at f [] i h q = absurd (omega arith)
-some-at f (e ∷ es) zero h q = rw q
-some-at f (e ∷ es) (suc i) h q = or-second (f e) _ (some-at f es i (omega arith) q)
+not-low : (code value v : ℕ) → ((code ≡ tvsz → ⊥) → v ≤ value) → (code ≡ tvsz → (v / 65536 ≤ value / 65536) × (v % 65536 ≤ value % 65536))
+    → tooLow code value (Value v) ≡ false
+unfolding tooLow
+not-low code value v a b = elim (ℕ-discrete code tvsz) [
+  | yes q ↦ rw (eq-eqb code tvsz q) (or-neither _ _ (le-ltb (value / 65536) (v / 65536) (b q .0)) (le-ltb (value % 65536) (v % 65536) (b q .1)))
+  | no n ↦ rw (ne-eqb code tvsz n) (le-ltb value v (a n))
+]
 
-record FirstOf (f : List ℕ → Bool) (es : List (List ℕ)) : Type 0 where
-  index : ℕ
-  within : index < length es
-  here : f (getD es index []) ≡ true
-  none : some f (take index es) ≡ false
-
-first-of : (f : List ℕ → Bool) (es : List (List ℕ)) → some f es ≡ true → FirstOf f es
-unfolding some
-first-of f [] h = impossible (sym h)
-first-of f (e ∷ es) h = by (f e) refl (λ g. first-of f es g)
-  where
-    by : (b : Bool) → f e ≡ b → (some f es ≡ true → FirstOf f es) → FirstOf f (e ∷ es)
-    by true q r = record { index = 0; within = omega arith; here = q; none = refl }
-    by false q r =
-        let g = r (rw q at h) in
-        record { index = suc (g .index); within = omega (arith, g .within); here = g .here; none = rw q (g .none) }
+reached : (code value : ℕ) (f : Feature) → AtLeast code value f → tooLow code value f ≡ false
+reached code value f a = rw (a .computed) (not-low code value (a .feature) (a .enough) (a .halves))
 
 -- ---- no format is missing
 
@@ -65,44 +65,82 @@ lacks-all vs [] h j g = absurd (omega arith)
 lacks-all vs (d ∷ ds) h zero g = not-false _ (or-left _ _ h)
 lacks-all vs (d ∷ ds) h (suc j) g = lacks-all vs ds (or-right (not (listed (formatOf d) vs)) _ h) j (omega arith)
 
--- ---- the walk, and the record at each index
-
 module _ (movie : ℕ) (t : Track) where
-  -- whether a missing format is charged to the record at i of some records
-  abbrev chargedAt : Bool → List (List ℕ) → ℕ → Bool
-  chargedAt missing es i = missing && not (some (isFormat (t .subtype)) (take i es))
+  -- ---- a record is not at fault exactly if it obeys the rules
 
-  charged-next : (missing : Bool) (e : List ℕ) (es : List (List ℕ)) (i : ℕ)
-      → chargedAt missing (e ∷ es) (suc i) ≡ chargedAt (missing && not (isFormat (t .subtype) e)) es i
-  unfolding some
-  charged-next missing e es i = by missing (isFormat (t .subtype) e)
+  high-feature : (e : List ℕ) → featureFault movie t e ≡ false → isUniversal e ≡ true → listed (recordCode e) featureCodes ≡ true
+      → AtLeast (recordCode e) (recordValue e) (featureOf movie t (recordCode e))
+  unfolding featureFault
+  high-feature e h u l = high _ _ _ (rw (u, l) at h)
+
+  reached-feature : (e : List ℕ)
+      → (isUniversal e ≡ true → listed (recordCode e) featureCodes ≡ true → AtLeast (recordCode e) (recordValue e) (featureOf movie t (recordCode e)))
+      → featureFault movie t e ≡ false
+  unfolding featureFault
+  reached-feature e h = by (isUniversal e) (listed (recordCode e) featureCodes) refl refl
     where
-      by : (m b : Bool) → (m && not (b || some (isFormat (t .subtype)) (take i es))) ≡ ((m && not b) && not (some (isFormat (t .subtype)) (take i es)))
-      by false b = refl
-      by true true = refl
-      by true false = refl
+      by : (a b : Bool) → isUniversal e ≡ a → listed (recordCode e) featureCodes ≡ b
+          → (isUniversal e && (listed (recordCode e) featureCodes && tooLow (recordCode e) (recordValue e) (featureOf movie t (recordCode e)))) ≡ false
+      by false b p q = rw p
+      by true false p q = rw (p, q)
+      by true true p q = rw (p, q) (reached _ _ _ (h p q))
 
-  charged-first : (missing : Bool) (e : List ℕ) (es : List (List ℕ)) → chargedAt missing (e ∷ es) 0 ≡ missing
-  unfolding some
-  charged-first missing e es = and-none missing
+  clear-format : (missing : Bool) (e : List ℕ) → atFault movie t missing e ≡ false → namesFormat (t .subtype) e ≡ true
+      → (missing || not (listed (recordValue e) (formats (t .descriptions)))) ≡ false
+  unfolding atFault formatFault
+  clear-format missing e h f = rw f at (or-right (featureFault movie t e) _ h)
+
+  clear-feature : (missing : Bool) (e : List ℕ) → atFault movie t missing e ≡ false → featureFault movie t e ≡ false
+  unfolding atFault
+  clear-feature missing e h = or-left _ _ h
+
+  obeyed-clear : (missing : Bool) (e : List ℕ) → featureFault movie t e ≡ false
+      → (namesFormat (t .subtype) e ≡ true → (missing ≡ false) × (listed (recordValue e) (formats (t .descriptions)) ≡ true)) → atFault movie t missing e ≡ false
+  unfolding atFault formatFault
+  obeyed-clear missing e h f = rw h (by (namesFormat (t .subtype) e) refl)
+    where
+      by : (b : Bool) → namesFormat (t .subtype) e ≡ b → (namesFormat (t .subtype) e && (missing || not (listed (recordValue e) (formats (t .descriptions))))) ≡ false
+      by false q = rw q
+      by true q = let g = f q in rw (q, g .0, g .1)
+
+  none-missing : ((j : ℕ) → j < length (t .descriptions) → listed (formatOf (getD (t .descriptions) j [])) (formatValues (t .subtype) (records t)) ≡ true)
+      → isMissing t ≡ false
+  unfolding isMissing
+  none-missing h = lacks-none _ (t .descriptions) h
+
+  all-named : isMissing t ≡ false → (j : ℕ) → j < length (t .descriptions)
+      → listed (formatOf (getD (t .descriptions) j [])) (formatValues (t .subtype) (records t)) ≡ true
+  unfolding isMissing
+  all-named h = lacks-all _ (t .descriptions) h
+
+  clear-obeys : (e : List ℕ) → atFault movie t (isMissing t) e ≡ false → Obeys movie t e
+  clear-obeys e h =
+      record {
+        enough = high-feature e (clear-feature _ e h);
+        named = λ f. not-false _ (or-right (isMissing t) _ (clear-format _ e h f));
+        complete = λ f. all-named (or-left _ _ (clear-format _ e h f));
+      }
+
+  obeys-clear : (e : List ℕ) → Obeys movie t e → atFault movie t (isMissing t) e ≡ false
+  obeys-clear e o = obeyed-clear _ e (reached-feature e (o .enough)) (λ f. (none-missing (o .complete f), o .named f))
+
+  -- ---- the walk, and the record at each index
 
   abbrev Clear : Bool → List (List ℕ) → ℕ → Type 0
-  Clear missing es i = atFault movie t (chargedAt missing es i) (getD es i []) ≡ false
+  Clear missing es i = atFault movie t missing (getD es i []) ≡ false
 
-  clear-next : (missing : Bool) (e : List ℕ) (es : List (List ℕ)) → atFault movie t missing e ≡ false → (i : ℕ) (n : ℕ) → i < suc n
-      → ((j : ℕ) → j < n → Clear (missing && not (isFormat (t .subtype) e)) es j) → Clear missing (e ∷ es) i
-  clear-next missing e es q zero n g r = rw (charged-first missing e es) q
-  clear-next missing e es q (suc j) n g r = rw (charged-next missing e es j) (r j (omega arith))
+  clear-next : (missing : Bool) (e : List ℕ) (es : List (List ℕ)) → atFault movie t missing e ≡ false → (i n : ℕ) → i < suc n
+      → ((j : ℕ) → j < n → Clear missing es j) → Clear missing (e ∷ es) i
+  clear-next missing e es q zero n g r = q
+  clear-next missing e es q (suc j) n g r = r j (omega arith)
 
   -- no record is at fault
   fault-clear : (missing : Bool) (k : ℕ) (es : List (List ℕ)) → faultFrom movie t missing (suc k) es ≡ 0 → (i : ℕ) → i < length es → Clear missing es i
   unfolding faultFrom
   fault-clear missing k [] h i g = absurd (omega arith)
-  fault-clear missing k (e ∷ es) h i g =
-      by (atFault movie t missing e) refl (λ l j m. fault-clear (missing && not (isFormat (t .subtype) e)) (suc k) es l j m)
+  fault-clear missing k (e ∷ es) h i g = by (atFault movie t missing e) refl (λ l j m. fault-clear missing (suc k) es l j m)
     where
-      by : (b : Bool) → atFault movie t missing e ≡ b
-          → (faultFrom movie t (missing && not (isFormat (t .subtype) e)) (suc (suc k)) es ≡ 0 → (j : ℕ) → j < length es → Clear (missing && not (isFormat (t .subtype) e)) es j)
+      by : (b : Bool) → atFault movie t missing e ≡ b → (faultFrom movie t missing (suc (suc k)) es ≡ 0 → (j : ℕ) → j < length es → Clear missing es j)
           → Clear missing (e ∷ es) i
       by true q r = let z : suc k ≡ 0 = rw q at h in absurd (omega arith)
       by false q r = clear-next missing e es q i (length es) (omega arith) (λ j m. r (rw q at h) j m)
@@ -110,85 +148,51 @@ module _ (movie : ℕ) (t : Track) where
   clear-fault : (missing : Bool) (k : ℕ) (es : List (List ℕ)) → ((i : ℕ) → i < length es → Clear missing es i) → faultFrom movie t missing k es ≡ 0
   unfolding faultFrom
   clear-fault missing k [] h = refl
-  clear-fault missing k (e ∷ es) h =
-      let q = rw (charged-first missing e es) at (h 0 (omega arith)) in
-      rw q (clear-fault (missing && not (isFormat (t .subtype) e)) (suc k) es (λ j g. rw (charged-next missing e es j) at (h (suc j) (omega arith))))
+  clear-fault missing k (e ∷ es) h = rw (h 0 (omega arith)) (clear-fault missing (suc k) es (λ j g. h (suc j) (omega arith)))
 
   -- one is
   record First (missing : Bool) (k p : ℕ) (es : List (List ℕ)) : Type 0 where
     index : ℕ
     place : k + index ≡ p
     within : index < length es
-    here : atFault movie t (chargedAt missing es index) (getD es index []) ≡ true
+    here : atFault movie t missing (getD es index []) ≡ true
     before : (j : ℕ) → j < index → Clear missing es j
 
   fault-first : (missing : Bool) (k p : ℕ) (es : List (List ℕ)) → faultFrom movie t missing k es ≡ p → (p ≡ 0 → ⊥) → First missing k p es
   unfolding faultFrom
   fault-first missing k p [] h n = absurd (n (sym h))
-  fault-first missing k p (e ∷ es) h n =
-      by (atFault movie t missing e) refl (λ l. fault-first (missing && not (isFormat (t .subtype) e)) (suc k) p es l n)
+  fault-first missing k p (e ∷ es) h n = by (atFault movie t missing e) refl (λ l. fault-first missing (suc k) p es l n)
     where
-      by : (b : Bool) → atFault movie t missing e ≡ b
-          → (faultFrom movie t (missing && not (isFormat (t .subtype) e)) (suc k) es ≡ p → First (missing && not (isFormat (t .subtype) e)) (suc k) p es)
-          → First missing k p (e ∷ es)
+      by : (b : Bool) → atFault movie t missing e ≡ b → (faultFrom movie t missing (suc k) es ≡ p → First missing (suc k) p es) → First missing k p (e ∷ es)
       by true q r =
           let z : k ≡ p = rw q at h in
-          record { index = 0; place = omega arith; within = omega arith; here = rw (charged-first missing e es) q; before = λ j g. absurd (omega arith) }
+          record { index = 0; place = omega arith; within = omega arith; here = q; before = λ j g. absurd (omega arith) }
       by false q r =
           let f = r (rw q at h) in
           record {
             index = suc (f .index);
             place = omega (arith, f .place);
             within = omega (arith, f .within);
-            here = rw (charged-next missing e es (f .index)) (f .here);
+            here = f .here;
             before = λ j g. clear-next missing e es q j (f .index) (omega arith) (f .before);
           }
 
-  -- ---- the rules
+  -- ---- the profile
 
-  -- a record that is not at fault
-  clear-format : (charged : Bool) (e : List ℕ) → atFault movie t charged e ≡ false → isFormat (t .subtype) e ≡ true → (charged || not (listed (recordValue e) (formats (t .descriptions)))) ≡ false
-  unfolding atFault formatFault
-  clear-format charged e h f = rw f at (or-right (featureFault movie t e) _ h)
-
-  clear-feature : (charged : Bool) (e : List ℕ) → atFault movie t charged e ≡ false → featureFault movie t e ≡ false
-  unfolding atFault
-  clear-feature charged e h = or-left _ _ h
-
-  keeps-clear : (charged : Bool) (e : List ℕ) → featureFault movie t e ≡ false
-      → (isFormat (t .subtype) e ≡ true → (charged ≡ false) × (listed (recordValue e) (formats (t .descriptions)) ≡ true)) → atFault movie t charged e ≡ false
-  unfolding atFault formatFault
-  keeps-clear charged e h f = rw h (by (isFormat (t .subtype) e) refl)
-    where
-      by : (b : Bool) → isFormat (t .subtype) e ≡ b → (isFormat (t .subtype) e && (charged || not (listed (recordValue e) (formats (t .descriptions))))) ≡ false
-      by false q = rw q
-      by true q = let g = f q in rw (q, g .0, g .1)
-
-  kept-missing : Keeps movie t → (i : ℕ) → i < length (records t) → isFormat (t .subtype) (recordAt t i) ≡ true → isMissing t ≡ false
-  unfolding isMissing
-  kept-missing k i g f = lacks-none _ (t .descriptions) (k .complete (some-at (isFormat (t .subtype)) (records t) i g f))
-
-  missing-none : FirstOf (isFormat (t .subtype)) (records t) → ((i : ℕ) → i < length (records t) → Clear (isMissing t) (records t) i) → (j : ℕ) → j < length (t .descriptions)
-      → listed (formatOf (getD (t .descriptions) j [])) (formatValues (t .subtype) (records t)) ≡ true
-  unfolding isMissing
-  missing-none f c =
-      let m : chargedAt (isMissing t) (records t) (f .index) ≡ false = or-left _ _ (clear-format _ (recordAt t (f .index)) (c (f .index) (f .within)) (f .here)) in
-      lacks-all _ (t .descriptions) (sym (and-none _) ∙ (rw (f .none) at m))
+  first-at-fault : (i : ℕ) → First (isMissing t) 1 (suc i) (records t) → FirstAtFault movie t i
+  first-at-fault i f =
+      let q : f .index ≡ i = omega (arith, f .place) in
+      record {
+        within = rw q at (f .within);
+        breaks = λ o. impossible (sym (rw q at (f .here)) ∙ obeys-clear (recordAt t i) o);
+        before = λ j g. clear-obeys (recordAt t j) (f .before j (omega arith));
+      }
 
   pub true-exactly : TrueExactly movie t
   unfolding profileFault
   true-exactly =
       record {
-        accepted = λ k. clear-fault (isMissing t) 1 (records t) (λ i g. keeps-clear _ (recordAt t i) (k .enough i g) (λ f. (rw (kept-missing k i g f), k .named i g f)));
-        keeps = λ z.
-            let c = fault-clear (isMissing t) 0 (records t) z in
-            record {
-              enough = λ i g. clear-feature _ (recordAt t i) (c i g);
-              named = λ i g f. not-false _ (or-right (chargedAt (isMissing t) (records t) i) _ (clear-format _ (recordAt t i) (c i g) f));
-              complete = λ f. missing-none (first-of (isFormat (t .subtype)) (records t) f) c;
-            };
-        first = λ i e.
-            let f = fault-first (isMissing t) 1 (suc i) (records t) e (λ n. omega arith) in
-            let q : f .index ≡ i = omega (arith, f .place) in
-            (rw q at (f .within), rw q at (f .here), rw q at (f .before));
+        accepted = λ k. clear-fault (isMissing t) 1 (records t) (λ i g. obeys-clear (recordAt t i) (k i g));
+        keeps = λ z i g. clear-obeys (recordAt t i) (fault-clear (isMissing t) 0 (records t) z i g);
+        first = λ i e. first-at-fault i (fault-first (isMissing t) 1 (suc i) (records t) e (λ n. omega arith));
       }

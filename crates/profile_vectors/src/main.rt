@@ -1,6 +1,6 @@
-// Asks films whether the profiles of their tracks are true, and writes a line for each ID from 0 to 9. Its arguments are the films. These and the lines are
-// those that the reference in host/reference writes.
-use profile_checks::Verdict;
+// Asks films whether the profiles of their tracks are true, and writes a line for each ID from 0 to 9. Its arguments are the films.
+// These and the lines are those that the reference in host/reference writes.
+use profile_checks::ProfileCheckAnswer;
 use profile_checks::check_profile;
 use structure::source::Source;
 
@@ -17,9 +17,9 @@ fn field(words: &[u8], n: u64) {
 fn line(film: &[u8], id: u32) {
     field(b"  ", id as u64);
     match check_profile(film, Source::whole(), id) {
-        Verdict::Yes => text(b": yes"),
-        Verdict::Fault(place) => field(b": record ", place as u64),
-        Verdict::Refused(number) => field(b": refused ", number as u64),
+        ProfileCheckAnswer::Yes => text(b": yes"),
+        ProfileCheckAnswer::Fault(place) => field(b": record ", place as u64),
+        ProfileCheckAnswer::Refused(number) => field(b": refused ", number as u64),
     }
     text(b"\n");
 }

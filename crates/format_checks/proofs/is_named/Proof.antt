@@ -26,13 +26,13 @@ after-requires c κs = search needs
 loop-holds : tie.Need-loop-holds Inv-loop μ-loop
 loop-holds c = rw (c .after .ensures, kept-in (now (c .before .before .args .profile)))
 
-names-format-requires : tie.Need-names-format-requires Inv-loop μ-loop
-names-format-requires c κs = search needs
+record-names-requires : tie.Need-record-names-requires Inv-loop μ-loop
+record-names-requires c κs = search needs
 
 returns : tie.Need-returns Inv-loop μ-loop
 returns c =
     let l = c .before .before .before .loop in
-    sym (named-here _ _ _ (c .before .before .loop-test .taken) (sym (c .before .names-format .ensures) ∙ c .if1 .taken)) ∙ l .inv
+    sym (named-here _ _ _ (c .before .before .loop-test .taken) (sym (c .before .record-names .ensures) ∙ c .if1 .taken)) ∙ l .inv
 
 sub-t : tie.Need-sub-t Inv-loop μ-loop
 sub-t c = search needs
@@ -50,7 +50,7 @@ loop-again : tie.Need-loop-again Inv-loop μ-loop
 loop-again c =
     let n = c .before .before in
     let l = n .before .before .loop in
-    rw (part-rest 16 (now (l .t))) (sym (named-next _ _ _ (n .before .loop-test .taken) (sym (n .names-format .ensures) ∙ c .before .if1 .left)) ∙ l .inv)
+    rw (part-rest 16 (now (l .t))) (sym (named-next _ _ _ (n .before .loop-test .taken) (sym (n .record-names .ensures) ∙ c .before .if1 .left)) ∙ l .inv)
 
 returns-2 : tie.Need-returns-2 Inv-loop μ-loop
 returns-2 c =
@@ -65,7 +65,7 @@ is-named-spec =
     μ-loop
     after-requires
     loop-holds
-    names-format-requires
+    record-names-requires
     returns
     sub-t
     part-t-start

@@ -24,8 +24,8 @@ first-fault-requires c κs =
     let d = ask-body _ _ _ _ a z _ (c .part-of .ensures) in
     (ask-parts _ _ _ _ a z _ (c .part-of .ensures), asked-computable _ _ _ _ _ (a .refusal) z d, asked-averaged _ _ _ _ _ (a .refusal) z d _ _ refl (a .movie z))
 
-verdict-of-requires : tie.Need-verdict-of-requires
-verdict-of-requires c κs = search needs
+to-fault-requires : tie.Need-to-fault-requires
+to-fault-requires c κs = search needs
 
 returns-2 : tie.Need-returns-2
 returns-2 c =
@@ -33,7 +33,7 @@ returns-2 c =
     let p = f .before in
     let a = p .before .before .before .before .of .ensures in
     let z = p .before .before .if1 .left in
-    checked _ _ _ _ _ _ _ _ _ (a .refusal) z refl (a .movie z) (ask-body _ _ _ _ a z _ (p .part-of .ensures)) (f .first-fault .ensures) (c .verdict-of .ensures)
+    checked _ _ _ _ _ _ _ _ _ (a .refusal) z refl (a .movie z) (ask-body _ _ _ _ a z _ (p .part-of .ensures)) (f .first-fault .ensures) (c .to-fault .ensures)
 
 pub check-profile-spec : {M : Type 1} → statement M
 check-profile-spec =
@@ -43,5 +43,5 @@ check-profile-spec =
     returns
     part-of-requires
     first-fault-requires
-    verdict-of-requires
+    to-fault-requires
     returns-2)

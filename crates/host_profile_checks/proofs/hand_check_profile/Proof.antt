@@ -1,10 +1,10 @@
--- `host_profile_checks::hand_profile_check` meets its contract, case by case of the answer.
+-- `host_profile_checks::hand_check_profile` meets its contract, case by case of the answer.
 -- Assumes nothing.
 use Rattle.hand.proofs.Answered.{handed, of-case}
 use Rattle.profile_checks.specs.Checks.{checkNumbers}
 use borrow.Author.Needs.{needs}
-use Rattle.host_profile_checks.proofs.hand_profile_check.Statement.{statement}
-use Rattle.host_profile_checks.proofs.hand_profile_check.Tie as tie
+use Rattle.host_profile_checks.proofs.hand_check_profile.Statement.{statement}
+use Rattle.host_profile_checks.proofs.hand_check_profile.Tie as tie
 
 check-profile-requires : tie.Need-check-profile-requires
 check-profile-requires c κs = search needs
@@ -63,8 +63,8 @@ returns-3 c =
     let e = c .before .before .before .before .before .before in
     handed _ _ _ _ _ _ (of-case checkNumbers (e .before .before .check-profile .ensures .answer) (e .r .given .1)) (c .before .before .hand3 .ensures)
 
-pub hand-profile-check-spec : {M : Type 1} → statement M
-hand-profile-check-spec =
+pub hand-check-profile-spec : {M : Type 1} → statement M
+hand-check-profile-spec =
     tie.close
     (tie.spec
     check-profile-requires
