@@ -41,7 +41,7 @@ pub const MABR: u32 = 0x6d616272;
 pub const SOUN: u32 = 0x736f756e;
 
 // The component subtype.
-fn subtype_in(trak: &[u8], p: Parts) -> u32
+pub fn subtype_in(trak: &[u8], p: Parts) -> u32
     requires { ⌜ AreParts (now trak) p ⌝ }
     ensures { λ r. ⌜ r ≡ subtypeOf (now (trak .entry)) ⌝ }
 {

@@ -85,6 +85,7 @@ module _ (s m : List ℕ) (w v : Source) (e : filmRefusal m v ≡ filmRefusal s 
     movie = rw (e, d);
     edits = λ id room. (rw (ask id, edits id), rw (ask id, edits id));
     profile = λ id room. (rw (e, ask id, track id, d), rw (e, ask id, track id, d));
+    profile-check = λ id. rw (ask id, track id, d);
     stretch = λ id x y room. (rw (ask id, track id), rw (ask id, track id));
     slip = λ id x y out. (rw (strict id, track id), rw (strict id, track id));
   }

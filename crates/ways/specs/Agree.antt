@@ -17,6 +17,7 @@ use Rattle.questions.specs.Samples.{sampleAnswer}
 use Rattle.time_questions.specs.Times.{atAnswer, mapAnswer}
 use Rattle.feature_questions.specs.Feature.{featureAnswer, peakAnswer}
 use Rattle.profiles.specs.Profiles.{profileNumbers, profileRefusal, profileAnswer}
+use Rattle.profile_checks.specs.Checks.{checkAnswer}
 use Rattle.movie_times.specs.Header.{movieAnswer}
 use Rattle.movie_times.specs.Entries.{editNumbers, editsAsked, editsRefusal, editsAnswer}
 use Rattle.pairs.specs.Pairs.{flat}
@@ -40,6 +41,7 @@ pub record SameAnswers (s : List ℕ) (w : Source) (m : List ℕ) (v : Source) :
       ≡ roomAfter (editsRefusal s w id room) (editNumbers (editsAsked s id)) room)
   pub profile : (id : ℕ) (room : List ℕ) → (profileAnswer m v id room ≡ profileAnswer s w id room)
       × (roomAfter (profileRefusal m v id room) (profileNumbers m id) room ≡ roomAfter (profileRefusal s w id room) (profileNumbers s id) room)
+  pub profile-check : (id : ℕ) → checkAnswer m v id ≡ checkAnswer s w id
   pub stretch : (id : ℕ) (a b : MediaTime) (room : List ℕ) → (stretchAnswer m v id a b room ≡ stretchAnswer s w id a b room)
       × (roomAfter (stretchRefusal m v id a b room) (flat (stretchPairs m id a b)) room
       ≡ roomAfter (stretchRefusal s w id a b room) (flat (stretchPairs s id a b)) room)
