@@ -1,0 +1,3 @@
+pub mod Lowest
+pub mod Others
+pub mod Answers
