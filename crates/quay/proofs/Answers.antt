@@ -69,16 +69,16 @@ unfolding quayNumbers
 refused-film s w r e n = gives-refused quayNumbers (refusedWith 2) Refused (λ k. refl) (quayVerdict s) (filmRefusal s w) r (sym e) n
 
 -- no track has a condition of the first rule
-first-of-none : (movie : ℕ) (ts : List (List ℕ)) → firstBreaking (quayRules movie) 1 ts ≡ 0
+pub first-of-none : (movie : ℕ) (ts : List (List ℕ)) → firstBreaking (quayRules movie) 1 ts ≡ 0
 unfolding firstBreaking breaks quayRules
 first-of-none movie [] = refl
 first-of-none movie (t ∷ ts) = first-of-none movie ts
 
-first-rule : (m : List ℕ) → otherTracks m ≡ true → brokenRule m ≡ 1
+pub first-rule : (m : List ℕ) → otherTracks m ≡ true → brokenRule m ≡ 1
 unfolding brokenRule first quayRules
 first-rule m e = rw e
 
-later-rules : (m : List ℕ) → otherTracks m ≡ false → brokenRule m ≡ ofTracks (quayRules (movieScale m)) (tracksOf m)
+pub later-rules : (m : List ℕ) → otherTracks m ≡ false → brokenRule m ≡ ofTracks (quayRules (movieScale m)) (tracksOf m)
 unfolding brokenRule first quayRules
 later-rules m e = by-tracks 0 (quayRules (movieScale m)) m (tracksOf m) (quay-rise (movieScale m)) ∙ earlier-zero (ofWhole (quayRules (movieScale m)) m) _ (rw e)
 

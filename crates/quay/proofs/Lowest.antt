@@ -41,7 +41,7 @@ module _ (t : List ℕ) where
       ]
 
   -- the track's own lowest rule is one that it breaks
-  own-broken : (n : ℕ) (rs : List Row) → ranksRise n rs ≡ true → (ofTrack rs t ≡ 0 → ⊥) → breaks rs (ofTrack rs t) t ≡ true
+  pub own-broken : (n : ℕ) (rs : List Row) → ranksRise n rs ≡ true → (ofTrack rs t ≡ 0 → ⊥) → breaks rs (ofTrack rs t) t ≡ true
   unfolding breaks ranksRise first
   own-broken n [] h z = absurd (z refl)
   own-broken n (r ∷ rs) h z =
@@ -57,7 +57,7 @@ module _ (t : List ℕ) where
           rw (ne-eqb (r .number) (ofTrack rs t) (λ y. let w = ap rank y in omega arith)) e
 
   -- and none that it breaks is lower
-  own-lowest : (n k : ℕ) (rs : List Row) → ranksRise n rs ≡ true → breaks rs k t ≡ true → (ofTrack rs t ≡ 0 → ⊥) × (rank (ofTrack rs t) ≤ rank k)
+  pub own-lowest : (n k : ℕ) (rs : List Row) → ranksRise n rs ≡ true → breaks rs k t ≡ true → (ofTrack rs t ≡ 0 → ⊥) × (rank (ofTrack rs t) ≤ rank k)
   unfolding breaks ranksRise first
   own-lowest n k [] h e = absurd (not-both false e refl)
   own-lowest n k (r ∷ rs) h e =
@@ -79,13 +79,13 @@ module _ (t : List ℕ) where
 
 -- ---- the earlier of two rules: the first, or the second
 
-abbrev Kept : ℕ → ℕ → Type 0
+abbrev pub Kept : ℕ → ℕ → Type 0
 Kept a b = (earlierOf a b ≡ a) × ((b ≡ 0) ⊎ ((a ≡ 0 → ⊥) × (rank a ≤ rank b)))
 
-abbrev Taken : ℕ → ℕ → Type 0
+abbrev pub Taken : ℕ → ℕ → Type 0
 Taken a b = (earlierOf a b ≡ b) × ((b ≡ 0 → ⊥) × ((a ≡ 0) ⊎ (rank b < rank a)))
 
-earlier-is : (a b : ℕ) → Kept a b ⊎ Taken a b
+pub earlier-is : (a b : ℕ) → Kept a b ⊎ Taken a b
 unfolding earlierOf
 earlier-is a b = elim (ℕ-discrete b 0) [
   | yes z ↦ elim (ℕ-discrete a 0) [
