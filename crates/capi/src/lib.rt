@@ -3,7 +3,7 @@
 mod handles;
 mod index;
 mod moov;
-mod quay;
+mod quay_check;
 mod steps;
 
 use host_any_slips::hand_read_any_slip;

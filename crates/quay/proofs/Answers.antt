@@ -2,7 +2,7 @@
 -- Assumes nothing.
 use Prim.Native.Nat.{ℕ, _<_, _^_}
 use mathlib.Core.Path.{_≡_, refl, sym, ap, _∙_}
-use mathlib.Core.Bool.{Bool, true, false, cond, not, _&&_}
+use mathlib.Core.Bool.{true, false, not, _&&_}
 use mathlib.Core.List.{List, [], _∷_}
 use native.Mathlib.Omega.{arith}
 use borrow.Author.Tests.{eq-eqb, ne-eqb, not-false}
@@ -15,7 +15,7 @@ use Rattle.structure.specs.declared.source.Source.{Source}
 use Rattle.structure.specs.Source.{lengthOf}
 use Rattle.structure.specs.Track.{tableOf, samplesOf, chunksOf, descriptionsOf}
 use Rattle.structure.specs.Movie.{moovOf, movieScale, tracksOf}
-use Rattle.structure.specs.Rows.{first, firstJudged, ofWhole}
+use Rattle.structure.specs.Rows.{first, ofWhole}
 use Rattle.structure.specs.ByTracks.{ofTracks}
 use Rattle.structure.proofs.Rows.{by-tracks, earlier-zero}
 use Rattle.structure.proofs.Callers.{track-at}

@@ -1,6 +1,6 @@
 -- The lowest rule over the tracks and the first track that breaks it, in one walk: a track breaks the lowest rule of all exactly if it is its own lowest.
 -- Assumes nothing.
-use Prim.Native.Nat.{ℕ, zero, suc, _+_, _≤_, _<_}
+use Prim.Native.Nat.{ℕ, _+_, _≤_, _<_}
 use mathlib.Core.Path.{_≡_, refl, sym, ap, _∙_}
 use mathlib.Core.Logic.{_⊎_, inl, inr, ⊎-elim}
 use mathlib.Core.Bool.{Bool, true, false, cond}
@@ -8,9 +8,8 @@ use mathlib.Core.List.{List, [], _∷_}
 use native.Mathlib.Omega.{arith}
 use native.Mathlib.Decide.{ℕ-discrete, decLe}
 use borrow.Author.Tests.{eq-eqb, ne-eqb, le-leb, lt-leb, ltb-true}
-use lib.Dec.{ltb, leb, eqb}
-use lib.ListN.{length, getD, drop, drop-of-length-le}
-use lib.Seq.{drop-cons}
+use lib.Dec.{ltb, eqb}
+use lib.ListN.{length, getD, drop}
 use Rattle.lists.proofs.Booleans.{and-left, and-right}
 use Rattle.structure.specs.Track.{idOf}
 use Rattle.structure.specs.Rows.{Row, first, rank, ranksRise}
@@ -20,7 +19,6 @@ use Rattle.movie.proofs.Traks.{from-here, found-more, found-past}
 use Rattle.quay_tracks.specs.Profile.{quayRules}
 use Rattle.quay.specs.Quay.{breaks, firstBreaking}
 use Rattle.quay.specs.Walk.{IsBroken}
-use Rattle.quay.specs.declared.Broken.{Broken}
 
 not-both : (b : Bool) → b ≡ true → b ≡ false → ⊥
 not-both b p q = let z : _≡_ {A = ℕ} 0 1 = cc in omega arith

@@ -9,13 +9,12 @@ use mathlib.Core.List.{List, [], _∷_}
 use native.Mathlib.Omega.{arith}
 use native.Mathlib.Decide.{ℕ-discrete}
 use borrow.Author.Tests.{eq-eqb, ne-eqb}
-use lib.Dec.{eqb}
 use lib.ListN.{length, getD}
 use Rattle.lists.proofs.Booleans.{or-left, or-right}
 use Rattle.structure.specs.Track.{idOf}
 use Rattle.structure.specs.Movie.{moovOf, movieScale, tracksOf}
 use Rattle.structure.specs.Rows.{Row, some, rank, ranksRise}
-use Rattle.structure.specs.ByTracks.{ofTrack, ofTracks, earlierOf}
+use Rattle.structure.specs.ByTracks.{ofTrack, ofTracks}
 use Rattle.structure.proofs.Callers.{Clear, clear, some-none}
 use Rattle.quay_tracks.specs.Profile.{otherTracks, quayRules}
 use Rattle.quay.specs.Quay.{breaks, firstBreaking, brokenRule, breakingTrack, quayVerdict}

@@ -2,18 +2,18 @@
 -- Assumes nothing.
 use Prim.Native.Nat.{ℕ, zero, suc, _+_, _-_, _≤_, _<_}
 use mathlib.Core.Path.{_≡_, refl, sym, ap, _∙_}
-use mathlib.Core.Bool.{Bool, true, false, cond, not, _||_}
+use mathlib.Core.Bool.{Bool, true, false, _||_}
 use mathlib.Core.List.{List, [], _∷_, _++_, map, map-append}
 use native.Mathlib.Omega.{arith}
-use native.Mathlib.Decide.{decLt, ℕ-discrete}
+use native.Mathlib.Decide.{decLt}
 use borrow.Author.Tests.{eq-eqb, ne-eqb, ltb-true, leb-true, lt-ltb, le-ltb, le-leb, lt-leb}
-use lib.Dec.{ltb, leb, eqb}
+use lib.Dec.{ltb, leb}
 use lib.ListN.{length, getD, drop}
 use Rattle.lists.specs.Lists.{upTo}
 use Rattle.lists.proofs.Booleans.{cond-both}
 use Rattle.words.specs.Words.{wordsIn, strictlyRising, syncsAgree, listed, isSync}
 use Rattle.words.proofs.Syncs.{agree-in, sync-absent, sync-in}
-use Rattle.quay_rules.specs.Rules.{syncFlags, untilSync, groups, anyAbove, startsSync, lacksSyncs}
+use Rattle.quay_rules.specs.Rules.{syncFlags, untilSync, groups, anyAbove, lacksSyncs}
 use Rattle.quay_rules.specs.Computed.{longGroup}
 
 -- ---- flags, from the front

@@ -1,5 +1,5 @@
 pub mod Turns
 pub mod Groups
 pub mod Zeros
-pub mod Orders
 pub mod Frames
+pub mod Sentences

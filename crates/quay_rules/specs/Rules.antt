@@ -1,10 +1,9 @@
--- Rules of the quay film profile (document 02), of the lists of a track: those of its samples, and of its chunks.
-use Prim.Native.Nat.{ℕ, suc, _+_}
-use mathlib.Core.Bool.{Bool, true, false, cond, not, _&&_, _||_}
+-- Rules of the quay film profile (document 02), of the lists of a track: those on its samples. The eighth, on its chunks, is in chunk_order.
+use Prim.Native.Nat.{ℕ, suc}
+use mathlib.Core.Bool.{Bool, true, false, cond, not, _||_}
 use mathlib.Core.List.{List, [], _∷_, map}
-use lib.ListN.{getD, take, drop}
-use lib.Dec.{ltb, leb}
-use Rattle.lists.specs.Lists.{sum, upTo}
+use lib.Dec.{ltb}
+use Rattle.lists.specs.Lists.{upTo}
 use Rattle.words.specs.Words.{isSync, listed}
 use Rattle.rates.specs.declared.Feature.{Feature}
 use Rattle.rates.specs.declared.Feature.the-variants.{Value, NotComputed}
@@ -45,32 +44,6 @@ lacksSyncs bs = not (startsSync bs) || anyAbove 250 (groups bs)
 -- broken, if one of the sizes, or of the durations, is 0
 abbrev pub hasZero : List ℕ → Bool
 hasZero xs = listed 0 xs
-
--- ---- the eighth
-
--- a chunk: its offset, and the sizes of its samples, added
-pub record Extent : Type 0 where
-  pub offset : ℕ
-  pub bytes : ℕ
-
--- the chunks, with the samples of each, the offsets and the sizes: "Chunk after chunk gets the next samples"
-abbrev pub extents : List ℕ → List ℕ → List ℕ → List Extent
-extents [] cs zs = []
-extents (p ∷ ps) cs zs = record { offset = getD cs 0 0; bytes = sum (take p zs) } ∷ extents ps (drop 1 cs) (drop p zs)
-
--- "rising order of offset with none overlapping the one before": a chunk, and the next one
-abbrev pub follows : Extent → Extent → Bool
-follows a b = ltb (a .offset) (b .offset) && leb (a .offset + a .bytes) (b .offset)
-
--- "chunks in rising order of offset with none overlapping the one before"
-abbrev pub inOrder : List Extent → Bool
-inOrder [] = true
-inOrder (a ∷ []) = true
-inOrder (a ∷ (b ∷ es)) = follows a b && inOrder (b ∷ es)
-
--- broken, if they are not
-unfoldable pub disordered : List ℕ → List ℕ → List ℕ → Bool
-disordered ps cs zs = not (inOrder (extents ps cs zs))
 
 -- ---- the ninth
 

@@ -1,6 +1,4 @@
 // Rules of the quay film profile, each of the tables that it speaks of, in one pass.
-pub mod order;
-
 use bigendian::after;
 use bigendian::u32_at;
 use rates::Feature;

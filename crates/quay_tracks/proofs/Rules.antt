@@ -1,7 +1,7 @@
 -- Each rule by what the code reads of a track, and one rule after the other.
 -- Assumes nothing.
 use Prim.Native.Nat.{ℕ, _<_, _^_}
-use mathlib.Core.Path.{_≡_, refl, sym, ap, _∙_}
+use mathlib.Core.Path.{_≡_, refl, ap, _∙_}
 use mathlib.Core.Bool.{Bool, true, false, cond, not}
 use mathlib.Core.List.{List}
 use lib.ListN.{length}
@@ -11,14 +11,15 @@ use Rattle.atoms.specs.Kinds.{stts, ctts, stsc, stsz, stss, stsd}
 use Rattle.lists.specs.Lists.{sum}
 use Rattle.structure.specs.Rows.{first}
 use Rattle.structure.specs.ByTracks.{ofTrack}
-use Rattle.structure.specs.Track.{tableOf, offsetTable, elstOf, samplesOf, chunksOf}
+use Rattle.structure.specs.Track.{tableOf, offsetTable, elstOf, samplesOf}
 use Rattle.runs.specs.Runs.{perSample}
 use Rattle.words.specs.Words.{sizes, chunkOffsets, syncsAgree}
 use Rattle.chunks.specs.Chunks.{perChunk}
 use Rattle.track.specs.Track.{trackOf}
 use Rattle.rates.specs.declared.Feature.{Feature}
 use Rattle.features.specs.Features.{vfps, featureOf}
-use Rattle.quay_rules.specs.Rules.{syncFlags, lacksSyncs, hasZero, disordered, tooFast}
+use Rattle.chunk_order.specs.Order.{disordered}
+use Rattle.quay_rules.specs.Rules.{syncFlags, lacksSyncs, hasZero, tooFast}
 use Rattle.quay_tracks.specs.Profile.{manyEdits, otherDescriptions, hasCtts, fewSyncs, zeroSize, zeroDuration, chunksDisordered, tooManyFrames, quayRules}
 use Rattle.quay_tracks.specs.Judged.{Judgeable, fromSixth}
 

@@ -1,5 +1,5 @@
--- The quay film profile (document 02): its rules as a table, each a condition on the body m of a movie's moov or on the body t of a trak that holds where the
--- rule is broken. Of all that is said of the profile this table is to be believed, with `quay/specs/Quay.antt`, which judges by it.
+-- The quay film profile (document 02): its rules as a table, each a condition on the body m of a movie's moov or on the body t of a trak, which
+-- holds where the rule is broken. This table is to be believed, and `quay/specs/Quay.antt`, which judges by it.
 use Prim.Native.Nat.{ℕ}
 use mathlib.Core.Bool.{Bool, true, not, _&&_, _||_}
 use mathlib.Core.List.{List, [], _∷_}
@@ -11,7 +11,8 @@ use Rattle.structure.specs.Movie.{tracksOf}
 use Rattle.structure.specs.Rows.{Row, row, never}
 use Rattle.track.specs.Track.{trackOf}
 use Rattle.features.specs.Features.{vfps, featureOf}
-use Rattle.quay_rules.specs.Rules.{lacksSyncs, hasZero, disordered, tooFast}
+use Rattle.chunk_order.specs.Order.{disordered}
+use Rattle.quay_rules.specs.Rules.{lacksSyncs, hasZero, tooFast}
 
 -- whether each of some tracks has the subtype
 abbrev pub allOf : ℕ → List (List ℕ) → Bool

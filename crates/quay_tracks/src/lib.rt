@@ -1,5 +1,6 @@
 // The lowest rule of the quay film profile that a track breaks.
 use bigendian::u32_at;
+use chunk_order::is_disordered;
 use features::VFPS;
 use features::feature_of;
 use places::part_of;
@@ -8,11 +9,10 @@ use quay_rules::has_zero_duration;
 use quay_rules::has_zero_size;
 use quay_rules::is_too_fast;
 use quay_rules::lacks_syncs;
-use quay_rules::order::is_disordered;
 ghost use mathlib.Core.Path.{_≡_};
 ghost use Rattle.structure.specs.ByTracks.{ofTrack};
 ghost use Rattle.places.specs.Places.{AreParts};
-ghost use Rattle.quay_tracks.specs.Profile.{manyEdits, otherDescriptions, hasCtts, fewSyncs, zeroSize, zeroDuration, chunksDisordered, tooManyFrames, quayRules};
+ghost use Rattle.quay_tracks.specs.Profile.{manyEdits, otherDescriptions, hasCtts, fewSyncs, quayRules};
 ghost use Rattle.quay_tracks.specs.Judged.{Judgeable, fromSixth};
 
 // 2: more than one edit entry.

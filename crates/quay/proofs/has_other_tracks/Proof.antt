@@ -1,10 +1,9 @@
 -- `quay::has_other_tracks` meets its contract. The loop's invariant: the subtypes of the tracks from i on say what all say.
 -- Assumes nothing.
-use borrow.Author.Needs.{needs}
 use native.Mathlib.Omega.{arith}
 use Prim.Native.Nat.{_-_, _≤_}
 use mathlib.Core.Path.{_≡_, refl, sym, ap, _∙_}
-use lib.ListN.{length, drop}
+use lib.ListN.{drop}
 use Rattle.atoms.specs.Kinds.{vide}
 use Rattle.structure.specs.Track.{subtypeOf}
 use Rattle.structure.specs.Movie.{moovOf, tracksOf}

@@ -3,8 +3,7 @@
 use borrow.Author.Needs.{needs}
 use native.Mathlib.Omega.{arith}
 use Prim.Native.Nat.{_-_, _≤_}
-use mathlib.Core.Path.{_≡_, refl, sym, ap, _∙_}
-use lib.ListN.{length, drop}
+use mathlib.Core.Path.{ap, _∙_}
 use Rattle.structure.specs.ByTracks.{ofTrack}
 use Rattle.structure.specs.Track.{idOf}
 use Rattle.structure.specs.Movie.{moovOf, tracksOf}

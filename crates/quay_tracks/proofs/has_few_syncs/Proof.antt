@@ -1,7 +1,7 @@
 -- `quay_tracks::has_few_syncs` meets its contract, by the parts that are read.
 -- Assumes nothing.
 use borrow.Author.Needs.{needs}
-use mathlib.Core.Path.{refl, sym, _∙_}
+use mathlib.Core.Path.{_∙_}
 use Rattle.quay_tracks.proofs.Rules.{samples-by, syncs-by, syncs-agree}
 use Rattle.quay_tracks.proofs.has_few_syncs.Statement.{statement}
 use Rattle.quay_tracks.proofs.has_few_syncs.Tie as tie

@@ -1,7 +1,7 @@
 -- `quay_tracks::has_other_descriptions` meets its contract, by the part that is read.
 -- Assumes nothing.
 use borrow.Author.Needs.{needs}
-use mathlib.Core.Path.{refl, sym, _∙_}
+use mathlib.Core.Path.{_∙_}
 use Rattle.quay_tracks.proofs.Rules.{descriptions-by}
 use Rattle.quay_tracks.proofs.has_other_descriptions.Statement.{statement}
 use Rattle.quay_tracks.proofs.has_other_descriptions.Tie as tie

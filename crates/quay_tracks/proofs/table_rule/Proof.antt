@@ -1,7 +1,7 @@
 -- `quay_tracks::table_rule` meets its contract: each test is the condition of a rule.
 -- Assumes nothing.
 use borrow.Author.Needs.{needs}
-use mathlib.Core.Path.{refl, sym, _∙_}
+use mathlib.Core.Path.{refl, _∙_}
 use Rattle.quay_tracks.proofs.Rules.{sizes-by, durations-by, order-by, dealt-fits, frames-by, holds, passed}
 use Rattle.quay_tracks.proofs.table_rule.Statement.{statement}
 use Rattle.quay_tracks.proofs.table_rule.Tie as tie

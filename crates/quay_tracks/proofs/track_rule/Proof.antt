@@ -1,7 +1,7 @@
 -- `quay_tracks::track_rule` meets its contract: each test is the condition of a rule.
 -- Assumes nothing.
 use borrow.Author.Needs.{needs}
-use mathlib.Core.Path.{refl, sym, _∙_}
+use mathlib.Core.Path.{sym, _∙_}
 use Rattle.quay_tracks.proofs.Rules.{rules-are, holds, passed}
 use Rattle.quay_tracks.proofs.track_rule.Statement.{statement}
 use Rattle.quay_tracks.proofs.track_rule.Tie as tie

@@ -1,11 +1,9 @@
--- `quay_rules::order::may_follow` meets its contract: what is past the offset before it is compared with the bytes there.
+-- `chunk_order::may_follow` meets its contract: what is past the offset before it is compared with the bytes there.
 -- Assumes nothing.
 use borrow.Author.Needs.{needs}
-use native.Mathlib.Omega.{arith}
-use mathlib.Core.Path.{sym}
-use Rattle.quay_rules.proofs.Orders.{not-past, past-end}
-use Rattle.quay_rules.proofs.order.may_follow.Statement.{statement}
-use Rattle.quay_rules.proofs.order.may_follow.Tie as tie
+use Rattle.chunk_order.proofs.Orders.{not-past, past-end}
+use Rattle.chunk_order.proofs.may_follow.Statement.{statement}
+use Rattle.chunk_order.proofs.may_follow.Tie as tie
 
 returns : tie.Need-returns
 returns c = search needs

@@ -1,4 +1,4 @@
-// Whether the chunks of a track stand in order: stsc with stco or co64 and stsz, one pass over each.
+// Whether the chunks of a track rise in the file and none overlaps the one before it: stsc with stco or co64 and stsz, one pass over each.
 use bigendian::after;
 use bigendian::u32_at;
 use chunks::pass;
@@ -15,10 +15,11 @@ ghost use Rattle.bigendian.specs.BigEndian.{u32At};
 ghost use Rattle.lists.specs.Lists.{sum};
 ghost use Rattle.words.specs.Words.{sizes, chunkOffsets};
 ghost use Rattle.chunks.specs.Chunks.{perChunk};
-ghost use Rattle.quay_rules.specs.Rules.{follows, disordered};
-ghost use Rattle.quay_rules.specs.Computed.{extent};
+ghost use Rattle.chunk_order.specs.Order.{follows, disordered};
+ghost use Rattle.chunk_order.specs.Walk.{extent};
 
-// Whether a chunk is the first, or begins past the offset of the one before it and no earlier than where that ends. The sum of its offset and bytes could wrap.
+// Whether a chunk is the first, or begins past the offset of the one before it and no earlier than where that ends. A sum of offset and bytes
+// could wrap.
 fn may_follow(first: bool, offset: u64, bytes: u64, next: u64) -> bool
     ensures { λ r. ⌜ r ≡ (first || follows (extent offset bytes) (extent next 0)) ⌝ }
 {

@@ -1,8 +1,8 @@
--- `capi::quay::chaldoref_check_quay` meets its contract: the source of its call is that of a whole file.
+-- `capi::quay_check::chaldoref_check_quay` meets its contract: the source of its call is that of a whole file.
 -- Assumes nothing.
 use borrow.Author.Needs.{needs}
-use Rattle.capi.proofs.quay.chaldoref_check_quay.Statement.{statement}
-use Rattle.capi.proofs.quay.chaldoref_check_quay.Tie as tie
+use Rattle.capi.proofs.quay_check.chaldoref_check_quay.Statement.{statement}
+use Rattle.capi.proofs.quay_check.chaldoref_check_quay.Tie as tie
 
 whole-requires : tie.Need-whole-requires
 whole-requires c κs = search needs

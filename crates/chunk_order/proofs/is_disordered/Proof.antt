@@ -1,20 +1,19 @@
--- `quay_rules::order::is_disordered` meets its contract: what the chunks ahead of the cursor say after the last one is what all say.
+-- `chunk_order::is_disordered` meets its contract: what the chunks ahead of the cursor say after the last one is what all say.
 -- Assumes nothing.
 use borrow.Author.Needs.{needs}
 use native.Mathlib.Omega.{arith}
-use mathlib.Core.Path.{_≡_, refl, sym, ap, _∙_}
+use mathlib.Core.Path.{refl}
 use denote.Ref.{now}
-use lib.ListN.{length, drop, length-drop}
-use mathlib.Core.Bool.{not, true}
+use lib.ListN.{length}
 use Rattle.bigendian.specs.BigEndian.{u32At}
 use borrow.Author.Tests.{not-true, not-false}
 use Rattle.words.specs.Words.{numbersIn, widthOf, sizes, chunkOffsets}
 use Rattle.chunks.specs.Chunks.{perChunk}
 use Rattle.chunks.specs.Cursors.{ahead}
-use Rattle.quay_rules.specs.Rules.{inOrder, extents}
-use Rattle.quay_rules.proofs.Orders.{Ordering, ordering-start, ordered, per-fits, breaks-order, ordering-less, ordering-next, next-offsets, not-ordered}
-use Rattle.quay_rules.proofs.order.is_disordered.Statement.{statement}
-use Rattle.quay_rules.proofs.order.is_disordered.Tie as tie
+use Rattle.chunk_order.specs.Order.{inOrder, extents}
+use Rattle.chunk_order.proofs.Orders.{Ordering, ordering-start, ordered, per-fits, breaks-order, ordering-less, ordering-next, next-offsets, not-ordered}
+use Rattle.chunk_order.proofs.is_disordered.Statement.{statement}
+use Rattle.chunk_order.proofs.is_disordered.Tie as tie
 
 abbrev Inv-loop : tie.InvT-loop
 Inv-loop stsc stsz offsets chunks long width t₀ from₀ first₀ offset₀ bytes₀ c₀ t from first offset bytes c = Ordering stsc chunks (numbersIn (widthOf long) t) (sizes stsz) from first offset bytes (inOrder (extents (perChunk stsc (u32At offsets 12)) (chunkOffsets offsets) (sizes stsz))) c

@@ -1,8 +1,8 @@
--- `capi::quay::chaldoref_moov_check_quay` meets its contract: the source of its call is that of a moov alone.
+-- `capi::quay_check::chaldoref_moov_check_quay` meets its contract: the source of its call is that of a moov alone.
 -- Assumes nothing.
 use borrow.Author.Needs.{needs}
-use Rattle.capi.proofs.quay.chaldoref_moov_check_quay.Statement.{statement}
-use Rattle.capi.proofs.quay.chaldoref_moov_check_quay.Tie as tie
+use Rattle.capi.proofs.quay_check.chaldoref_moov_check_quay.Statement.{statement}
+use Rattle.capi.proofs.quay_check.chaldoref_moov_check_quay.Tie as tie
 
 of-moov-requires : tie.Need-of-moov-requires
 of-moov-requires c κs = search needs

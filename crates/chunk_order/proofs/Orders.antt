@@ -1,13 +1,13 @@
 -- The eighth rule: one turn of the walk over the chunks, and its ways out.
 -- Assumes nothing.
-use Prim.Native.Nat.{ℕ, zero, suc, _+_, _-_, _*_, _≤_, _<_, _^_}
+use Prim.Native.Nat.{ℕ, _+_, _-_, _*_, _≤_, _<_, _^_}
 use mathlib.Core.Path.{_≡_, refl, sym, ap, _∙_}
-use mathlib.Core.Bool.{Bool, true, false, cond, not, _&&_, _||_}
+use mathlib.Core.Bool.{Bool, true, false, not, _&&_, _||_}
 use mathlib.Core.List.{List, [], _∷_}
 use native.Mathlib.Omega.{arith}
-use native.Mathlib.Decide.{decLt, decLe}
+use native.Mathlib.Decide.{decLe}
 use borrow.Author.Tests.{lt-ltb, le-ltb, le-leb, lt-leb}
-use lib.Dec.{ltb, leb, eqb}
+use lib.Dec.{leb, eqb}
 use lib.ListN.{length, getD, take, drop}
 use lib.Seq.{drop-drop}
 use Rattle.bigendian.specs.BigEndian.{u32At}
@@ -20,8 +20,8 @@ use Rattle.chunks.specs.Chunks.{perChunk}
 use Rattle.chunks.specs.Cursors.{ahead, Stands, startCursor, readied, past}
 use Rattle.chunks.specs.declared.ChunkCursor.{ChunkCursor}
 use Rattle.chunks.proofs.Cursors.{start-samples, Same, ready-same, no-samples, ahead-cons}
-use Rattle.quay_rules.specs.Rules.{Extent, extents, follows, inOrder, disordered}
-use Rattle.quay_rules.specs.Computed.{extent, orderedAfter}
+use Rattle.chunk_order.specs.Order.{Extent, extents, follows, inOrder, disordered}
+use Rattle.chunk_order.specs.Walk.{extent, orderedAfter}
 
 -- ---- a chunk after another, with no sum
 
