@@ -4,6 +4,7 @@ mod checks;
 mod handles;
 mod index;
 mod moov;
+mod quay_check;
 mod steps;
 
 use host_any_slips::hand_read_any_slip;

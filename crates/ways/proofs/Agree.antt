@@ -15,6 +15,7 @@ use Rattle.movie.specs.Refusals.{filmRefusal}
 use Rattle.movie.specs.TableRows.{tableRows, tablesRefusal}
 use Rattle.movie.proofs.Tables.{film-is}
 use Rattle.track_list.specs.TrackList.{trackLines, listRefusal}
+use Rattle.quay.specs.Quay.{quayVerdict}
 use Rattle.questions.specs.Asked.{askRefusal, trackAsked}
 use Rattle.questions.specs.Samples.{sampleRefusal}
 use Rattle.time_questions.specs.Times.{atRefusal, atNumber, atEntry, mappedOf}
@@ -73,10 +74,11 @@ module _ (s m : List ℕ) (w v : Source) (e : filmRefusal m v ≡ filmRefusal s 
 
   same-answers : SameAnswers s w m v
   unfolding trackLines listRefusal sampleRefusal atRefusal atNumber atEntry mappedOf profileAsked profileNumbers profileRefusal editsRefusal
-      stretchPairs spanRefusal stretchRefusal slipHead slipOfStretch slipRefusal
+      stretchPairs spanRefusal stretchRefusal slipHead slipOfStretch slipRefusal quayVerdict
   same-answers = record {
     refusal = e;
     tracks = λ room. (rw (e, d), rw (e, d));
+    quay = rw (e, d);
     sample = λ id n. rw (ask id, track id);
     sample-at = λ id t. rw (ask id, track id);
     media-time = λ id t. rw (ask id, track id, d);

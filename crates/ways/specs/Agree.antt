@@ -13,6 +13,7 @@ use Rattle.structure.specs.Source.{wholeFile, moovAlone, strictly}
 use Rattle.movie.specs.Rooms.{roomAfter}
 use Rattle.movie.specs.Refusals.{filmRefusal}
 use Rattle.track_list.specs.TrackList.{trackLines, listRefusal, listAnswer}
+use Rattle.quay.specs.Quay.{quayAnswer}
 use Rattle.questions.specs.Samples.{sampleAnswer}
 use Rattle.time_questions.specs.Times.{atAnswer, mapAnswer}
 use Rattle.feature_questions.specs.Feature.{featureAnswer, peakAnswer}
@@ -30,6 +31,7 @@ pub record SameAnswers (s : List ℕ) (w : Source) (m : List ℕ) (v : Source) :
   pub refusal : filmRefusal m v ≡ filmRefusal s w
   pub tracks : (room : List ℕ) → (listAnswer m v room ≡ listAnswer s w room)
       × (roomAfter (listRefusal m v room) (trackLines m) room ≡ roomAfter (listRefusal s w room) (trackLines s) room)
+  pub quay : quayAnswer m v ≡ quayAnswer s w
   pub sample : (id n : ℕ) → sampleAnswer m v id n ≡ sampleAnswer s w id n
   pub sample-at : (id : ℕ) (t : MediaTime) → atAnswer m v id t ≡ atAnswer s w id t
   pub media-time : (id : ℕ) (t : MovieTime) → mapAnswer m v id t ≡ mapAnswer s w id t

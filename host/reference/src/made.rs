@@ -37,6 +37,40 @@ pub fn empty_track(id: u32) -> Track {
     }
 }
 
+/// A track that keeps every rule of the quay film profile: 25 frames a second, and the second chunk just after the first.
+pub fn quay_track(id: u32) -> Track {
+    Track {
+        id,
+        duration: 96,
+        stts: vec![(4, 24)],
+        stsz: Sizes::Each(vec![100, 50, 30, 70]),
+        stco: vec![2600, 2780],
+        ..w_track()
+    }
+}
+
+/// The same, but that it breaks that rule alone.
+pub fn breaking(mut track: Track, rule: u64) -> Track {
+    match rule {
+        2 => track.edits = edits(&[(1, 0), (1, -1)]),
+        3 => track.descriptions.push(picture(1, 1)),
+        4 => track.ctts = Some(vec![(4, 0)]),
+        5 => track.stss = Some(vec![2]),
+        6 => track.stsz = Sizes::Each(vec![100, 0, 30, 70]),
+        7 => track.stts = vec![(1, 24), (1, 0), (2, 24)],
+        8 => track.stco[1] = 2650,
+        9 => track.scale = 721,
+        _ => panic!(),
+    }
+    track
+}
+
+/// A track of so many samples of a byte in one chunk, with those sync samples, that keeps every other rule of that profile.
+pub fn quay_syncs(samples: u32, stss: Option<Vec<u32>>) -> Track {
+    let (stts, stsc) = (vec![(samples, 24)], vec![(1, samples, 1)]);
+    Track { stts, stsc, stsz: Sizes::Common(1, samples), stco: vec![0], stss, ..quay_track(1) }
+}
+
 /// Edits at rate 1.0: duration and media time.
 pub fn edits(list: &[(u32, i32)]) -> Option<Vec<(u32, i32, u32)>> {
     Some(list.iter().map(|(duration, media)| (*duration, *media, 65536)).collect())

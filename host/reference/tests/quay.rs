@@ -1,39 +1,11 @@
 //! Document 02, "The quay film profile", rule by rule.
 use reference::film::*;
-use reference::made::{edits, empty_track};
+use reference::made::{breaking as broken, edits, empty_track, quay_syncs as syncs, quay_track as good};
 use reference::maker::quay::quay;
 use reference::maker::Random;
 use reference::movie::refusals::read;
 use reference::movie::tables::Track as Read;
 use reference::movie::*;
-
-/// A track that keeps every rule: 25 frames a second, and the second chunk just after the first.
-fn good(id: u32) -> Track {
-    Track {
-        id,
-        duration: 96,
-        stts: vec![(4, 24)],
-        stsz: Sizes::Each(vec![100, 50, 30, 70]),
-        stco: vec![2600, 2780],
-        ..w_track()
-    }
-}
-
-/// Breaks that rule alone.
-fn broken(mut track: Track, rule: u64) -> Track {
-    match rule {
-        2 => track.edits = edits(&[(1, 0), (1, -1)]),
-        3 => track.descriptions.push(picture(1, 1)),
-        4 => track.ctts = Some(vec![(4, 0)]),
-        5 => track.stss = Some(vec![2]),
-        6 => track.stsz = Sizes::Each(vec![100, 0, 30, 70]),
-        7 => track.stts = vec![(1, 24), (1, 0), (2, 24)],
-        8 => track.stco[1] = 2650,
-        9 => track.scale = 721,
-        _ => panic!(),
-    }
-    track
-}
 
 /// The rule and the ID, of a film that is accepted.
 fn fault(tracks: &[Track]) -> (u64, u64) {
@@ -129,12 +101,6 @@ fn a_track_with_no_samples() {
     assert_eq!(rule(empty_track(1)), 3);
     assert_eq!(rule(Track { ctts: Some(vec![]), ..one() }), 4);
     assert_eq!(fault(&[good(7), Track { id: 3, ..one() }]), (5, 3));
-}
-
-/// A track of so many samples in one chunk, with those sync samples.
-fn syncs(samples: u32, stss: Option<Vec<u32>>) -> Track {
-    let (stts, stsc) = (vec![(samples, 24)], vec![(1, samples, 1)]);
-    Track { stts, stsc, stsz: Sizes::Common(1, samples), stco: vec![0], stss, ..good(1) }
 }
 
 #[test]

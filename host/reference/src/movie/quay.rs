@@ -1,5 +1,6 @@
 //! Document 02, "The quay film profile": its rules, a function each, and the lowest that a film breaks.
 use super::features::{computed, is_video};
+use super::lent::Film;
 use super::questions::answered;
 use super::refusals::read;
 use super::tables::{Movie, Track};
@@ -107,6 +108,6 @@ impl Movie {
 }
 
 /// The rule and the track's ID, both 0 for the yes. "Refusals: those of the file."
-pub fn quay_fault(file: &[u8]) -> (u32, (u64, u64)) {
-    answered(read(file).map(|movie| movie.quay_fault().unwrap_or((0, 0))))
+pub fn quay_fault(film: &(impl Film + ?Sized)) -> (u32, (u64, u64)) {
+    answered(read(film).map(|movie| movie.quay_fault().unwrap_or((0, 0))))
 }

@@ -1,0 +1,4 @@
+pub mod Lowest
+pub mod Others
+pub mod Answers
+pub mod Sentences

@@ -1,0 +1,2 @@
+pub mod Quay
+pub mod Walk

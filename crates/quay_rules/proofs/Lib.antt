@@ -1,0 +1,5 @@
+pub mod Turns
+pub mod Groups
+pub mod Zeros
+pub mod Frames
+pub mod Sentences
