@@ -38,7 +38,7 @@ held-within t h =
     (or-neither _ _ (lt-leb 18446744073709551616 (t .samples) (h .samples))
     (or-neither _ _ (lt-leb 18446744073709551616 (t .bytes) (h .bytes))
     (over-append (t .refused) _
-        ∙ or-neither _ _ (h .refused) (within-from (take (min (t .count) 32) (t .scales)) _ (within-take (min (t .count) 32) (t .units) (h .units)))))))
+    ∙ or-neither _ _ (h .refused) (within-from (take (min (t .count) 32) (t .scales)) _ (within-take (min (t .count) 32) (t .units) (h .units)))))))
 
 held-few : (t : FilmReturn) → length (scalesIn t) ≤ 32
 unfolding scalesIn
@@ -55,9 +55,9 @@ module _ (r : FilmReturn) (f : Filed) (s : Return) (w : Follows s f) where
   refused-by n = elim (ℕ-discrete (f .refusal) 20) [
     | yes e ↦ e ∙ rw (lt-ltb 32 (length (s .scales)) (w .full e))
     | no d ↦ elim (ℕ-discrete (f .refusal) 21) [
-        | yes e ↦ e ∙ rw (le-ltb 32 (length (s .scales)) (met-few (f .totals) s (w .met d)), w .over e)
-        | no g ↦ absurd (n (w .kept d g .0))
-      ]
+      | yes e ↦ e ∙ rw (le-ltb 32 (length (s .scales)) (met-few (f .totals) s (w .met d)), w .over e)
+      | no g ↦ absurd (n (w .kept d g .0))
+    ]
   ]
 
   pub settle-refused : (f .refusal ≡ 0 → ⊥) → Settles r s (record { refusal = f .refusal; totals = r })
@@ -102,7 +102,7 @@ module _ (r : FilmReturn) (x : Sum) (q : ℕ) (e : q ≡ cond (x .over) 21 0) wh
   one-refused n i d h z =
       follows-by (withRefused n (returnOf r)) (withSlot i) (x .over) q e refl
       (λ o. over-rest (r .accepted) (r .tracks) (r .samples) (r .bytes) (oneMore (r .refused) (slotOf n) ++ unitsIn (scalesIn r)) (over-append (oneMore (r .refused) (slotOf n)) (unitsIn (scalesIn r))
-          ∙ or-first (anyOver (oneMore (r .refused) (slotOf n))) _ (rw (← d) (over-set (r .refused) i (getD (r .refused) i 0 + 1) h (leb-true 18446744073709551616 _ (sym (z .over) ∙ o))))))
+      ∙ or-first (anyOver (oneMore (r .refused) (slotOf n))) _ (rw (← d) (over-set (r .refused) i (getD (r .refused) i 0 + 1) h (leb-true 18446744073709551616 _ (sym (z .over) ∙ o))))))
       (λ o. rw (z .sum o, d))
 
 -- ---- a track more
@@ -117,9 +117,9 @@ module _ (f : Filed) (t : TrackTotals) (a : Filed) (s : Return) (w : Follows s f
     full = λ q. elim (ℕ-discrete (f .refusal) 20) [
       | yes d ↦ let g = w .full d in omega (arith, units-longer (t .scale) (t .total) (s .scales))
       | no d ↦
-        let g = z .full (eqb-true _ _ (rw (ne-eqb (f .refusal) 20 d) at e)) in
-        let m = same-met (t .scale) (t .total) (scalesIn (f .totals)) (s .scales) (w .met d) in
-        omega (arith, ap length m, met-length (withUnits (t .scale) (t .total) (scalesIn (f .totals))), met-length (withUnits (t .scale) (t .total) (s .scales)))
+          let g = z .full (eqb-true _ _ (rw (ne-eqb (f .refusal) 20 d) at e)) in
+          let m = same-met (t .scale) (t .total) (scalesIn (f .totals)) (s .scales) (w .met d) in
+          omega (arith, ap length m, met-length (withUnits (t .scale) (t .total) (scalesIn (f .totals))), met-length (withUnits (t .scale) (t .total) (s .scales)))
     ];
     over = λ q. absurd (omega arith);
     met = λ q. absurd (q refl);
@@ -167,8 +167,8 @@ module _ (f : Filed) (t : TrackTotals) (a : Filed) (s : Return) (w : Follows s f
     any-over h = elim (ℕ-discrete (f .refusal) 21) [
       | yes d ↦ track-over t s (w .over d)
       | no d ↦
-        rw (← w .kept before-20 d .1)
-        (one-over (eqb (a .refusal) 21) (x .over) (y .over) (b .over) refl refl refl refl (rw (ne-eqb (f .refusal) 21 d) at (sym o ∙ h)))
+          rw (← w .kept before-20 d .1)
+          (one-over (eqb (a .refusal) 21) (x .over) (y .over) (b .over) refl refl refl refl (rw (ne-eqb (f .refusal) 21 d) at (sym o ∙ h)))
     ]
 
     all-kept : over ≡ false → returnOf withCounts ≡ withTrack t s

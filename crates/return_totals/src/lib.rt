@@ -87,7 +87,11 @@ fn over_refusal(over: bool) -> u32
 fn held(count: usize) -> usize
     ensures { λ r. ⌜ r ≡ min count 32 ⌝ }
 {
-    if count < MOST_SCALES { count } else { MOST_SCALES }
+    if count < MOST_SCALES {
+        count
+    } else {
+        MOST_SCALES
+    }
 }
 
 // The index of a scale among the first n; n where it is not there.
@@ -187,7 +191,11 @@ fn slot_of(number: u32) -> usize
     if number == 19 {
         return 13;
     }
-    if number == 0 { 0 } else { (number - 1) as usize }
+    if number == 0 {
+        0
+    } else {
+        (number - 1) as usize
+    }
 }
 
 // One file more that is refused with that number.

@@ -42,8 +42,7 @@ totals-of-requires c κs =
     let p = e .pre .0 in
     let h = c .before .before .before .loop-test .taken in
     let t = c .before .before .trak-at .ensures in
-    let b = c .part-of .ensures in
-    (
+    let b = c .part-of .ensures in (
       body-parts _ _ _ p (l .loop .i) h _ t _ b,
       body-fits _ _ _ p (l .loop .i) h _ t _ b (e .pre .2),
       rw (body-is _ _ _ p (l .loop .i) h _ t _ b) (fits-here _ _ _ (from-here _ (l .loop .i) (in-tracks _ _ _ p (l .loop .i) h)) (l .loop .inv .1)),
