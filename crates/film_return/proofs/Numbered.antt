@@ -1,4 +1,4 @@
--- Each number with which a film is refused has a place among the fourteen: by a test over the rows of the table.
+-- The numbers with which films are refused, by a test over the rows of the table; each has a place among the fourteen.
 -- Assumes nothing.
 use Prim.Native.Nat.{ℕ, _<_}
 use mathlib.Core.Path.{_≡_, refl, sym, _∙_}
@@ -15,36 +15,37 @@ use Rattle.shape.specs.Refusals.{fileRows}
 use Rattle.movie.specs.Refusals.{moovRows, moovRefusal, filmRefusal}
 use Rattle.return_totals.specs.Returns.{slotOf}
 
-abbrev slotsFit : List Row → Bool
-slotsFit [] = true
-slotsFit (r ∷ rs) = ltb (slotOf (r .number)) 14 && slotsFit rs
+-- each row's number passes a test
+abbrev pub passes : (ℕ → Bool) → List Row → Bool
+passes p [] = true
+passes p (r ∷ rs) = p (r .number) && passes p rs
 
-first-fits : (f : Row → Bool) (rs : List Row) → slotsFit rs ≡ true → ltb (slotOf (first f rs)) 14 ≡ true
-unfolding first slotOf
-first-fits f [] e = refl
-first-fits f (r ∷ rs) e = go (f r) (first-fits f rs (and-right (ltb (slotOf (r .number)) 14) _ e))
-  where
-    go : (b : Bool) → ltb (slotOf (first f rs)) 14 ≡ true → ltb (slotOf (cond b (r .number) (first f rs))) 14 ≡ true
-    go true h = and-left (ltb (slotOf (r .number)) 14) (slotsFit rs) e
-    go false h = h
+module _ (p : ℕ → Bool) (z : p 0 ≡ true) where
+  first-passes : (f : Row → Bool) (rs : List Row) → passes p rs ≡ true → p (first f rs) ≡ true
+  unfolding first
+  first-passes f [] e = z
+  first-passes f (r ∷ rs) e = go (f r) (first-passes f rs (and-right (p (r .number)) _ e))
+    where
+      go : (b : Bool) → p (first f rs) ≡ true → p (cond b (r .number) (first f rs)) ≡ true
+      go true h = and-left (p (r .number)) (passes p rs) e
+      go false h = h
 
-else-fits : (a b : ℕ) → ltb (slotOf a) 14 ≡ true → ltb (slotOf b) 14 ≡ true → ltb (slotOf (orElse a b)) 14 ≡ true
-unfolding orElse
-else-fits a b p q = go (eqb a 0)
-  where
-    go : (c : Bool) → ltb (slotOf (cond c b a)) 14 ≡ true
-    go true = q
-    go false = p
+  else-passes : (a b : ℕ) → p a ≡ true → p b ≡ true → p (orElse a b) ≡ true
+  unfolding orElse
+  else-passes a b q r = go (eqb a 0)
+    where
+      go : (c : Bool) → p (cond c b a) ≡ true
+      go true = r
+      go false = q
 
-file-fits : (w : Source) → slotsFit (fileRows w) ≡ true
-unfolding fileRows slotOf
-file-fits w = refl
+  -- so does the refusal of a film
+  pub film-passes : (s : List ℕ) (w : Source) → passes p (fileRows w) ≡ true → passes p (moovRows w (movieScale (moovOf s)) (lengthOf w s)) ≡ true → p (filmRefusal s w) ≡ true
+  unfolding filmRefusal moovRefusal
+  film-passes s w a b = else-passes _ _ (first-passes _ (fileRows w) a) (first-passes _ (moovRows w (movieScale (moovOf s)) (lengthOf w s)) b)
 
-moov-fits : (w : Source) (scale len : ℕ) → slotsFit (moovRows w scale len) ≡ true
-unfolding moovRows slotOf
-moov-fits w scale len = refl
+abbrev hasSlot : ℕ → Bool
+hasSlot n = ltb (slotOf n) 14
 
 pub film-slot : (s : List ℕ) (w : Source) → slotOf (filmRefusal s w) < 14
-unfolding filmRefusal moovRefusal
-film-slot s w =
-    ltb-true _ _ (else-fits _ _ (first-fits _ (fileRows w) (file-fits w)) (first-fits _ (moovRows w (movieScale (moovOf s)) (lengthOf w s)) (moov-fits w (movieScale (moovOf s)) (lengthOf w s))))
+unfolding fileRows moovRows slotOf
+film-slot s w = ltb-true _ _ (film-passes hasSlot refl s w refl refl)

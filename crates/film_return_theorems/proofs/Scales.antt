@@ -131,11 +131,11 @@ all-same : (ts : List TrackTotals) {l m : List Scale} → Same l m → Same (wit
 all-same [] s = s
 all-same (t ∷ ts) s = all-same ts (units-same (t .scale) (t .total) s)
 
-pub any-order : {ts us : List TrackTotals} → Reordered ts us → (l : List Scale) → Same (withAll ts l) (withAll us l)
-any-order none l = same-refl _
-any-order (keep {x} h) l = any-order h (withUnits (x .scale) (x .total) l)
-any-order (swap {x} {y} {l = ts}) l = all-same ts (units-swap (x .scale) (x .total) (y .scale) (y .total) l)
-any-order (then h k) l = same-then (any-order h l) (any-order k l)
+pub tracks-order : {ts us : List TrackTotals} → Reordered ts us → (l : List Scale) → Same (withAll ts l) (withAll us l)
+tracks-order none l = same-refl _
+tracks-order (keep {x} h) l = tracks-order h (withUnits (x .scale) (x .total) l)
+tracks-order (swap {x} {y} {l = ts}) l = all-same ts (units-swap (x .scale) (x .total) (y .scale) (y .total) l)
+tracks-order (then h k) l = same-then (tracks-order h l) (tracks-order k l)
 
 -- ---- the limit of a scale's total
 
