@@ -1,5 +1,5 @@
--- The film return: what a film adds to it. Document 02: "totals over many movies: files accepted, files refused under each number, tracks, samples, film
--- bytes (all sizes) and, for each media time scale met, its tracks' totals added."
+-- The film return: what a film adds to it. Document 02: "totals over many movies: files accepted, files refused under each number, tracks, samples,
+-- film bytes (all sizes) and, for each media time scale met, its tracks' totals added."
 use Prim.Native.Nat.{ℕ}
 use mathlib.Core.Path.{_≡_}
 use mathlib.Core.Bool.{cond}
@@ -35,8 +35,8 @@ filedRefusal r s w = limitRefusal (withFilm s w r)
 unfoldable pub filedReturn : Return → List ℕ → Source → Return
 filedReturn r s w = limited r (withFilm s w r)
 
--- the promise of `add_film`, of any state of the return. What stands in its arrays past the scales that are held is read by nobody, and may differ from
--- one correct program to another; a refusal leaves it too
+-- the promise of `add_film`, of any state of the return. What stands in its arrays past the scales that are held is read by nobody, and may differ
+-- from one correct program to another; a refusal leaves it too
 pub record Files (r : FilmReturn) (s : List ℕ) (w : Source) (f : Filed) : Type 0 where
   pub refusal : f .refusal ≡ filedRefusal (returnOf r) s w
   pub totals : returnOf (f .totals) ≡ filedReturn (returnOf r) s w

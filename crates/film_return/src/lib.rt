@@ -21,10 +21,8 @@ ghost use lib.ListN.{length};
 ghost use Rattle.structure.specs.Movie.{moovOf, tracksOf};
 ghost use Rattle.places.specs.Places.{AreParts};
 ghost use Rattle.track.specs.Refusals.{totalIn};
-ghost use Rattle.movie.specs.Traks.{FewTraks};
-ghost use Rattle.track_list.specs.Lines.{TotalsFit};
 ghost use Rattle.film_return.specs.Films.{totalsOf, Files};
-ghost use Rattle.film_return.specs.Adding.{AddsTracks};
+ghost use Rattle.film_return.specs.Adding.{Addable, AddsTracks};
 
 // What the return counts of a track.
 fn totals_of(trak: &[u8], p: Parts) -> TrackTotals
@@ -42,7 +40,7 @@ fn totals_of(trak: &[u8], p: Parts) -> TrackTotals
 
 // The tracks of a film, from its traks, added to the return of the film so far.
 fn add_tracks(f: Filed, lent: &[u8], traks: Traks) -> Filed
-    requires { ⌜ FewTraks (now lent) (tracksOf (moovOf (now lent))) traks × TotalsFit (tracksOf (moovOf (now lent))) × (length (now lent) < 2 ^ 32) ⌝ }
+    requires { ⌜ Addable (now lent) traks ⌝ }
     ensures { λ g. ⌜ AddsTracks f (tracksOf (moovOf (now (lent .entry)))) g ⌝ }
 {
     let count = traks.count;

@@ -1,5 +1,5 @@
--- What holds of a return over many films. Document 02: "From an empty return, each total must equal the sum over the files not refused 20 or 21; where none
--- is, any order of filing gives the same totals but for the scales' order."
+-- What holds of a return over many films. Document 02: "From an empty return, each total must equal the sum over the files not refused 20 or 21;
+-- where none is, any order of filing gives the same totals but for the scales' order."
 use Prim.Native.Nat.{ℕ, _+_}
 use mathlib.Core.Path.{_≡_}
 use mathlib.Core.Bool.{Bool, true, false, cond, _||_, _&&_}
@@ -21,20 +21,26 @@ pub record Film : Type 0 where
 
 -- ---- films filed one after the other
 
+-- a film at its turn: its refusal, 20, 21 or 0, and the return after it
+abbrev pub turnRefusal : Return → Film → ℕ
+turnRefusal r f = filedRefusal r (f .bytes) (f .source)
+
+abbrev pub turnReturn : Return → Film → Return
+turnReturn r f = filedReturn r (f .bytes) (f .source)
+
 abbrev pub filedAll : Return → List Film → Return
 filedAll r [] = r
-filedAll r (f ∷ fs) = filedAll (filedReturn r (f .bytes) (f .source)) fs
+filedAll r (f ∷ fs) = filedAll (turnReturn r f) fs
 
 -- those that are not refused 20 or 21 at their turn
 abbrev pub keptOf : Return → List Film → List Film
 keptOf r [] = []
-keptOf r (f ∷ fs) =
-    cond (eqb (filedRefusal r (f .bytes) (f .source)) 0) (f ∷ keptOf (filedReturn r (f .bytes) (f .source)) fs) (keptOf (filedReturn r (f .bytes) (f .source)) fs)
+keptOf r (f ∷ fs) = cond (eqb (turnRefusal r f) 0) (f ∷ keptOf (turnReturn r f) fs) (keptOf (turnReturn r f) fs)
 
 -- none is
 abbrev pub NoneRefused : Return → List Film → Type 0
 NoneRefused r [] = Unit
-NoneRefused r (f ∷ fs) = (filedRefusal r (f .bytes) (f .source) ≡ 0) × NoneRefused (filedReturn r (f .bytes) (f .source)) fs
+NoneRefused r (f ∷ fs) = (turnRefusal r f ≡ 0) × NoneRefused (turnReturn r f) fs
 
 -- ---- what a film is counted with
 

@@ -1,5 +1,5 @@
--- The film return as plain lists. Document 02: "The waste return wants totals over many movies: files accepted, files refused under each number, tracks,
--- samples, film bytes (all sizes) and, for each media time scale met, its tracks' totals added."
+-- The film return as plain lists. Document 02: "The waste return wants totals over many movies: files accepted, files refused under each number,
+-- tracks, samples, film bytes (all sizes) and, for each media time scale met, its tracks' totals added."
 use Prim.Native.Nat.{ℕ, _+_, _-_, min}
 use mathlib.Core.Bool.{Bool, false, cond, _||_}
 use mathlib.Core.List.{List, [], _∷_, _++_, map}
@@ -93,8 +93,8 @@ abbrev pub anyOver : List ℕ → Bool
 anyOver [] = false
 anyOver (n ∷ ns) = leb 18446744073709551616 n || anyOver ns
 
--- "Up to 32 scales are held"; "20 for a thirty-third scale, then 21 for a total that would reach 2^64"; 0 where neither is. r is the return with the whole
--- of a file in it
+-- "Up to 32 scales are held"; "20 for a thirty-third scale, then 21 for a total that would reach 2^64"; 0 where neither is. r is the return with the
+-- whole of a file in it
 unfoldable pub limitRefusal : Return → ℕ
 limitRefusal r = cond (ltb 32 (length (r .scales))) 20 (cond (anyOver (totalsIn r)) 21 0)
 

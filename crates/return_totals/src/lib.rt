@@ -9,8 +9,8 @@ ghost use Rattle.return_totals.specs.Following.{placeOf, Sums, AddsUnits
 // How many scales are held.
 pub const MOST_SCALES: usize = 32;
 
-// Files accepted, files refused under each of the numbers 1 to 13 and 19, tracks, samples, bytes, and the media time scales met, each with its tracks' totals
-// added. Of the scales the first `count` are held.
+// Files accepted, files refused under each of the numbers 1 to 13 and 19, tracks, samples, bytes, and the media time scales met, each with its
+// tracks' totals added. Of the scales the first `count` are held.
 pub struct FilmReturn {
     pub accepted: u64,
     pub refused: [u64; 14],
