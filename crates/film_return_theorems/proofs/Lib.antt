@@ -1,0 +1,5 @@
+pub mod Scales
+pub mod Orders
+pub mod Films
+pub mod Sums
+pub mod AnyOrder

@@ -1,0 +1,4 @@
+pub mod Overs
+pub mod Scales
+pub mod Units
+pub mod Following
