@@ -111,6 +111,7 @@ enum {
     CHALDOREF_MEDIA_TIME_PLACES = 2,
     CHALDOREF_STRETCH_PLACES = 2,
     CHALDOREF_PROFILE_PLACES = 1,
+    CHALDOREF_CHECK_PROFILE_PLACES = 1,
     CHALDOREF_FEATURE_PLACES = 1,
     CHALDOREF_PEAK_PLACES = 2,
     CHALDOREF_READ_SLIP_PLACES = 6,
@@ -419,6 +420,27 @@ uint32_t chaldoref_profile(
     uint32_t *room, size_t room_len,
     uint64_t *places, size_t places_len);
 
+/* The part-ID of the records that chaldoref_check_profile judges. */
+enum {
+    CHALDOREF_UNIVERSAL_PART = 0x20202020
+};
+
+/*
+ * Whether the stored profile of a track is true. Of its records with the part-ID
+ * CHALDOREF_UNIVERSAL_PART each with the code of a feature is at least the computed feature, tvsz
+ * in each half, and where that is refused 18 the record is at fault; and if there is one with the
+ * code vfmt in a vide track, or afmt in a soun track, the values of all such are exactly the formats
+ * of the track's descriptions, in any order and as often as they like: a format that none has is
+ * charged to the first of them. All other records are passed over.
+ * Refusals: the file's but 11; 14, 16.
+ * places: 1: 0 where it is, also without a profile; or the place, from 1, of the first record at
+ *         fault among those of chaldoref_profile.
+ */
+uint32_t chaldoref_check_profile(
+    const uint8_t *file, size_t file_len,
+    uint32_t id,
+    uint64_t *places, size_t places_len);
+
 /* The features' codes: average video and audio bit rate, greatest picture, highest frame rate,
    highest video and audio bit rate over one second. */
 #define CHALDOREF_AVVB UINT32_C(0x61767662)
@@ -561,6 +583,11 @@ uint32_t chaldoref_moov_profile(
     const uint8_t *moov, size_t moov_len, uint64_t length,
     uint32_t id,
     uint32_t *room, size_t room_len,
+    uint64_t *places, size_t places_len);
+
+uint32_t chaldoref_moov_check_profile(
+    const uint8_t *moov, size_t moov_len, uint64_t length,
+    uint32_t id,
     uint64_t *places, size_t places_len);
 
 uint32_t chaldoref_moov_feature(

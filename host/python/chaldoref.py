@@ -25,8 +25,8 @@ from dataclasses import dataclass
 from typing import Any, BinaryIO, Dict, Iterator, Optional, Tuple, Union
 
 __all__ = [
-    "FEATURES", "ByteRange", "Edit", "Header", "Indexed", "MalformedSlip", "Movie", "Opened", "Peak", "ProfileRecord", "Refusal",
-    "Refused", "Sample", "SampleAt", "Slip", "Stretch", "Track", "read_any_slip", "read_slip",
+    "FEATURES", "UNIVERSAL_PART", "ByteRange", "Edit", "Header", "Indexed", "MalformedSlip", "Movie", "Opened", "Peak",
+    "ProfileRecord", "Refusal", "Refused", "Sample", "SampleAt", "Slip", "Stretch", "Track", "read_any_slip", "read_slip",
 ]
 
 #: What the library and this module take as bytes. All but bytes are copied, since nothing may write to them in a call.
@@ -41,6 +41,9 @@ FEATURES = {
     "mvbr": "highest video bit rate over one second",
     "mabr": "highest audio bit rate over one second",
 }
+
+#: The part-ID of the records that Movie.check_profile judges.
+UNIVERSAL_PART = 0x20202020
 
 # As include/chaldoref.h has them.
 _TRACK_NUMBERS, _PAIR_NUMBERS, _RECORD_NUMBERS, _EDIT_NUMBERS = 8, 2, 3, 3
@@ -418,6 +421,14 @@ class Movie:
         rows = _rows(room, count, _RECORD_NUMBERS)
         return tuple(ProfileRecord(part, _characters(code), value) for part, code, value in rows)
 
+    def check_profile(self, track: int) -> Optional[int]:
+        """Whether the stored profile of a track is true: None if it is, also without one; or the place of the first record
+        at fault, from 1, in profile. Of its records with the part-ID UNIVERSAL_PART each with the code of a feature is at
+        least that feature, tvsz in each half; and the values of those with the code vfmt in a vide track, or afmt in a soun
+        track, if there are any, are exactly the formats of the track's descriptions. Refusal 14."""
+        place, = self._ask("check_profile", 1, track)
+        return place or None
+
     def feature(self, track: int, code: str) -> int:
         """A feature computed from a track's tables, by its code: bits a second for avvb, avab, mvbr and mabr; width *
         65536 + height for tvsz; frames a second * 65536 for vfps. avvb and avab are taken over the samples that the
@@ -609,6 +620,7 @@ _PARAMETERS = {
     "media_time": "nn",
     "stretch": "nnnr",
     "profile": "nr",
+    "check_profile": "n",
     "feature": "nn",
     "peak": "nn",
     "movie": "",
@@ -631,8 +643,8 @@ _PARAMETERS = {
     "indexed_sample_at": "rrn",
 }
 _MOOV = (
-    "track_list", "sample", "sample_at", "media_time", "stretch", "profile", "feature", "peak", "movie", "edits",
-    "write_slip", "step_start", "open",
+    "track_list", "sample", "sample_at", "media_time", "stretch", "profile", "check_profile", "feature", "peak", "movie",
+    "edits", "write_slip", "step_start", "open",
 )
 _PARAMETERS.update({"moov_" + name: "l" + _PARAMETERS[name] for name in _MOOV})
 

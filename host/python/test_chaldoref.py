@@ -15,8 +15,8 @@ from pathlib import Path
 
 import chaldoref
 from chaldoref import (
-    FEATURES, ByteRange, MalformedSlip, Movie, Peak, ProfileRecord, Refusal, Refused, Sample, SampleAt, Stretch, Track,
-    read_any_slip, read_slip,
+    FEATURES, UNIVERSAL_PART, ByteRange, MalformedSlip, Movie, Peak, ProfileRecord, Refusal, Refused, Sample, SampleAt,
+    Stretch, Track, read_any_slip, read_slip,
 )
 
 W = Path("films/w.mov").read_bytes()
@@ -238,6 +238,14 @@ class FilmsMadeOfW(Case):
         self.assertEqual(Movie(with_atom(W, prfl, b"tkhd", (b"moov", b"trak"))).profile(1),
                          (ProfileRecord(7, "avvb", 8800),))
         self.assertEqual(Movie(with_atom(W, prfl, b"mvhd", (b"moov",))).profile(0), (ProfileRecord(7, "avvb", 8800),))
+
+    def test_check_profile(self):
+        avvb = int.from_bytes(b"avvb", "big")
+        for value, fault in ((8800, None), (8799, 2)):
+            prfl = atom(b"prfl", numbers(0, 2, 0, 7, avvb, 1, 0, UNIVERSAL_PART, avvb, value))
+            self.assertEqual(Movie(with_atom(W, prfl, b"tkhd", (b"moov", b"trak"))).check_profile(1), fault)
+        self.assertIs(Movie(W).check_profile(1), None)
+        self.assertRefused(14, Movie(W).check_profile, 0)
 
 
 class TwoHoses(Case):

@@ -334,6 +334,34 @@ impl<'a> Movie<'a> {
         self.profile(TrackId(0)).unwrap_or_else(|_| broken())
     }
 
+    /// Whether the stored profile of a track is true: `None` if it is, also without one; or the place of the first record
+    /// at fault, from 1, in [`Movie::profile`].
+    ///
+    /// Of the records with the part-ID [`UNIVERSAL_PART`](crate::UNIVERSAL_PART) each with the code of a
+    /// [`Feature`](crate::Feature) is at least that feature, `tvsz` in each half; one whose feature cannot be computed is at
+    /// fault. If there is one with the code `vfmt` in a `vide` track, or `afmt` in a `soun` track, their values are exactly the
+    /// formats of the track's descriptions; a format that none has is charged to the first of them. All others are passed
+    /// over.
+    ///
+    /// ```
+    /// use chaldoref::{Movie, Refusal, TrackId};
+    ///
+    /// # std::env::set_current_dir("../..")?;
+    /// let file = std::fs::read("films/w.mov")?;
+    /// let movie = Movie::open(&file)?;
+    /// assert_eq!(movie.check_profile(TrackId(1))?, None);
+    /// assert_eq!(movie.check_profile(TrackId(2)), Err(Refusal::NoTrack));
+    /// # Ok::<(), Box<dyn std::error::Error>>(())
+    /// ```
+    ///
+    /// # Errors
+    ///
+    /// [`Refusal::NoTrack`], also for `TrackId(0)`.
+    pub fn check_profile(&self, id: TrackId) -> Result<Option<u32>, Refusal> {
+        let [place] = ffi::check_profile(self.film, id.0)?;
+        Ok((place != 0).then(|| promised(place)))
+    }
+
     /// A feature computed from a track's tables, by its [`Feature`](crate::Feature) or any four-character code.
     ///
     /// ```

@@ -73,6 +73,14 @@ extern "C" {
         places_len: usize,
     ) -> u32;
 
+    pub fn chaldoref_check_profile(
+        file: *const u8,
+        file_len: usize,
+        id: u32,
+        places: *mut u64,
+        places_len: usize,
+    ) -> u32;
+
     pub fn chaldoref_feature(
         file: *const u8,
         file_len: usize,
@@ -172,6 +180,15 @@ extern "C" {
         id: u32,
         room: *mut u32,
         room_len: usize,
+        places: *mut u64,
+        places_len: usize,
+    ) -> u32;
+
+    pub fn chaldoref_moov_check_profile(
+        moov: *const u8,
+        moov_len: usize,
+        length: u64,
+        id: u32,
         places: *mut u64,
         places_len: usize,
     ) -> u32;

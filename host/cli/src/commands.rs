@@ -1,5 +1,6 @@
 //! What each command prints, for people and for machines.
 mod check;
+mod check_profile;
 mod edits;
 mod features;
 mod questions;
@@ -94,6 +95,7 @@ fn answer(request: &Request, name: &OsStr, out: &mut dyn Write) -> Result<(), Fa
         Ask::Features { track, code: None } => features::features(&movie()?, *track, to),
         Ask::Features { track, code: Some(code) } => features::feature(&movie()?, *track, *code, to),
         Ask::Profile { track } => questions::profile(&movie()?, *track, to),
+        Ask::CheckProfile { track } => check_profile::check_profile(&movie()?, *track, to),
         Ask::Stretch { track, time, bytes: false } => ranges::stretch(&movie()?, *track, time, to),
         Ask::Stretch { track, time, bytes: true } => ranges::stretch_bytes(&film, &movie()?, *track, time, to),
         Ask::Slip { track, time, out: None } => ranges::slip(&film, &filed()?, *track, time, to),

@@ -30,7 +30,7 @@ pub const OUT: Opt = Opt { flag: "-o", value: Some("OUT"), about: "write raw byt
 /// What stands in the place of a command and asks no film.
 pub const HELPERS: [&str; 2] = ["completion", "help"];
 
-pub static COMMANDS: [Command; 12] = [
+pub static COMMANDS: [Command; 13] = [
     Command {
         name: "tracks",
         operands: &["FILE..."],
@@ -117,6 +117,13 @@ pub static COMMANDS: [Command; 12] = [
         options: &[&JSON],
         about: "the stored profile of a movie, or of a track",
         ask: |words| Ok(Ask::Profile { track: words.if_given(1, Words::track)? }),
+    },
+    Command {
+        name: "check-profile",
+        operands: &["FILE...", "TRACK"],
+        options: &[&JSON],
+        about: "whether the stored profile of a track is true, or its first record at fault",
+        ask: |words| Ok(Ask::CheckProfile { track: words.track(1)? }),
     },
 ];
 

@@ -375,3 +375,56 @@ fn profiles() {
     answers("profile films/w.mov", "part  code  value  hex\n");
     answers("profile films/w.mov 1 --json", "{\"format\":1,\"file\":\"films/w.mov\",\"track\":1,\"records\":[]}\n");
 }
+
+/// A track of W's kind whose profile has these records, each with the universal part-ID.
+fn claiming(records: &[(&[u8; 4], u32)]) -> Vec<u8> {
+    let profile = records.iter().map(|(code, value)| [0, 0x2020_2020, u32::from_be_bytes(**code), *value]).collect();
+    film_of(vec![film::Track { profile: Some(profile), ..w_track() }])
+}
+
+#[test]
+fn true_profiles() {
+    let film = claiming(&[(b"avvb", 8800), (b"vfmt", u32::from_be_bytes(*b"jpeg")), (b"abcd", 7)]);
+    answers_on(
+        &film,
+        &["check-profile", "-", "1"],
+        "record       part  code       value  computed\n     \
+              1  538976288  avvb        8800      8800\n     \
+              2  538976288  vfmt  1785750887         -\n     \
+              3  538976288  abcd           7         -\n\
+         the profile of track 1 is true\n",
+    );
+    answers(
+        "check-profile films/w.mov 1",
+        "record  part  code  value  computed\ntrack 1 has no profile, and none is untrue\n",
+    );
+    answers(
+        "check-profile films/w.mov 1 --json",
+        "{\"format\":1,\"file\":\"films/w.mov\",\"track\":1,\"true\":true,\"fault\":null,\"records\":[]}\n",
+    );
+}
+
+#[test]
+fn records_at_fault() {
+    let told = |film: &[u8], line: &str| {
+        let ran = run_on(film, &["check-profile", "-", "1"]);
+        assert_eq!((ran.out.lines().last(), ran.err.as_str(), ran.status), (Some(line), "", 1));
+    };
+    told(
+        &claiming(&[(b"vfps", u32::MAX), (b"avvb", 8799)]),
+        "record 2 is at fault: avvb is 8799, and 8800 is computed",
+    );
+    told(&claiming(&[(b"avab", 9)]), "record 1 is at fault: avab is 9, and none can be computed of this track");
+    told(
+        &claiming(&[(b"tvsz", 0xffff_0000)]),
+        "record 1 is at fault: tvsz is 65535 x 0 pixels, and 320 x 240 pixels is computed",
+    );
+    told(
+        &claiming(&[(b"vfmt", u32::from_be_bytes(*b"jpeg")), (b"vfmt", u32::from_be_bytes(*b"avc1"))]),
+        "record 2 is at fault: vfmt names avc1; such records name all formats of the track's descriptions, and no others",
+    );
+    let json = run_on(&claiming(&[(b"avvb", 8799)]), &["check-profile", "-", "1", "--json"]);
+    let records = "[{\"part\":538976288,\"code\":\"avvb\",\"value\":8799,\"computed\":8800}]";
+    let out = format!("{{\"format\":1,\"file\":\"-\",\"track\":1,\"true\":false,\"fault\":1,\"records\":{records}}}\n");
+    assert_eq!((json.out, json.status), (out, 1));
+}

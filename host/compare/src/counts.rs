@@ -25,6 +25,8 @@ pub struct Counts {
     slips: [u64; 2],
     /// Malformed slips of the two kinds by what is at fault.
     faults: [[u64; FAULTS.len()]; 2],
+    /// Profiles that were found true, and those with a record at fault.
+    profiles: [u64; 2],
 }
 
 impl Default for Counts {
@@ -36,6 +38,7 @@ impl Default for Counts {
             accepted: [0; KINDS.len()],
             slips: [0; 2],
             faults: [[0; FAULTS.len()]; 2],
+            profiles: [0; 2],
         }
     }
 }
@@ -66,7 +69,7 @@ fn can_meet(number: usize, kind: &str) -> bool {
         _ if reads => false,
         11 => kind == "write_slip",
         14 => !["track_list", "movie"].contains(&kind),
-        15 => !["track_list", "movie", "edits", "profile", "feature", "peak", "open"].contains(&kind),
+        15 => !["track_list", "movie", "edits", "profile", "check_profile", "feature", "peak", "open"].contains(&kind),
         18 => ["feature", "peak"].contains(&kind),
         _ => true,
     }
@@ -95,6 +98,11 @@ impl Counts {
         if let Some(kind) = fault {
             self.faults[form][kind] += 1;
         }
+    }
+
+    /// The verdict on a profile.
+    pub fn profile(&mut self, is_true: bool) {
+        self.profiles[usize::from(!is_true)] += 1;
     }
 
     pub fn question(&mut self, kind: usize, number: u32) {
@@ -146,6 +154,10 @@ impl Counts {
         WAYS.iter().zip(&self.strict).map(line).collect::<Vec<_>>().join("\n")
     }
 
+    pub fn profile_line(&self) -> String {
+        format!("profiles that are true: {}, with a record at fault: {}", self.profiles[0], self.profiles[1])
+    }
+
     /// How many slips were read, and how many of them were malformed where.
     pub fn slip_lines(&self) -> String {
         let line = |form: usize| {
@@ -177,6 +189,8 @@ impl Counts {
         }
         let unasked = KINDS.iter().zip(self.accepted).filter(|(kind, count)| *count == 0 && !is_of_slip(kind));
         all.extend(unasked.map(|(kind, _)| format!("{kind} was never answered of a film that is refused 11 strictly")));
+        let never = ["true", "at fault"].into_iter().zip(self.profiles).filter(|(_, count)| *count == 0);
+        all.extend(never.map(|(verdict, _)| format!("no profile was {verdict}")));
         for (form, faults) in self.faults.iter().enumerate() {
             let of = ["slip of form 1", "slip of form 2"][form];
             let never = FAULTS.iter().zip(faults).filter(|(_, count)| **count == 0);
@@ -208,6 +222,7 @@ mod tests {
             AFTER_11.into_iter().for_each(|number| counts.film(way, number.try_into().unwrap(), 11));
         }
         (0..KINDS.len()).for_each(|kind| counts.strict(kind, 0));
+        [true, false].into_iter().for_each(|verdict| counts.profile(verdict));
         for slip in [[1], [2]] {
             (0..FAULTS.len()).for_each(|kind| counts.slip(&slip, Some(kind)));
         }
@@ -228,12 +243,14 @@ mod tests {
         counts.strict[0][12] = 0;
         counts.accepted[5] = 0;
         counts.faults[1][4] = 0;
+        counts.profiles[0] = 0;
         let expected = [
             "sample never met 15",
             "of whole files none was refused 7",
             "of whole files none was refused 11 strictly and 12 by default",
             "of moovs alone none was refused 1",
             "stretch was never answered of a film that is refused 11 strictly",
+            "no profile was true",
             "no slip of form 2 was malformed at: b",
         ];
         assert_eq!(counts.complaints(), expected);

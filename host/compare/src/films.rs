@@ -111,6 +111,10 @@ impl Comparison {
         }
         let fault = |words| other(question, *way, lengths, words);
         match question {
+            Question::CheckProfile { .. } => {
+                self.counts.profile(places[0] == 0);
+                Ok(())
+            }
             Question::SampleBytes { .. } if places[0] + places[1] > u64::try_from(bytes.lent().len()).unwrap() => {
                 Err(fault("the sample's bytes pass the file's end"))
             }
