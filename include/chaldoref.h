@@ -112,6 +112,7 @@ enum {
     CHALDOREF_STRETCH_PLACES = 2,
     CHALDOREF_PROFILE_PLACES = 1,
     CHALDOREF_CHECK_PROFILE_PLACES = 1,
+    CHALDOREF_CHECK_QUAY_PLACES = 2,
     CHALDOREF_FEATURE_PLACES = 1,
     CHALDOREF_PEAK_PLACES = 2,
     CHALDOREF_READ_SLIP_PLACES = 6,
@@ -441,6 +442,20 @@ uint32_t chaldoref_check_profile(
     uint32_t id,
     uint64_t *places, size_t places_len);
 
+/*
+ * Whether a film keeps the quay film profile. Its rules, in order: 1, one or two vide tracks and no
+ * others; 2, at most one edit entry a track; 3, one description a track; 4, no ctts; 5, sample 1
+ * sync, and a sync sample and those after it before the next sync one, or to the end, at most 250
+ * samples (a track with no samples breaks it); 6, no zero sizes; 7, no zero durations; 8, chunks in
+ * rising order of offset with none overlapping the one before; 9, vfps at most 30.0 (one that is
+ * refused 18 breaks it). Refusals: the file's but 11; 16.
+ * places: 2: 0 and 0 where it does; or the lowest rule that any track breaks and the ID of the
+ *         first track in file order that breaks it, which is 0 for rule 1.
+ */
+uint32_t chaldoref_check_quay(
+    const uint8_t *file, size_t file_len,
+    uint64_t *places, size_t places_len);
+
 /* The features' codes: average video and audio bit rate, greatest picture, highest frame rate,
    highest video and audio bit rate over one second. */
 #define CHALDOREF_AVVB UINT32_C(0x61767662)
@@ -588,6 +603,10 @@ uint32_t chaldoref_moov_profile(
 uint32_t chaldoref_moov_check_profile(
     const uint8_t *moov, size_t moov_len, uint64_t length,
     uint32_t id,
+    uint64_t *places, size_t places_len);
+
+uint32_t chaldoref_moov_check_quay(
+    const uint8_t *moov, size_t moov_len, uint64_t length,
     uint64_t *places, size_t places_len);
 
 uint32_t chaldoref_moov_feature(

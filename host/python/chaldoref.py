@@ -26,7 +26,7 @@ from typing import Any, BinaryIO, Dict, Iterator, Optional, Tuple, Union
 
 __all__ = [
     "FEATURES", "UNIVERSAL_PART", "ByteRange", "Edit", "Header", "Indexed", "MalformedSlip", "Movie", "Opened", "Peak",
-    "ProfileRecord", "Refusal", "Refused", "Sample", "SampleAt", "Slip", "Stretch", "Track", "read_any_slip", "read_slip",
+    "ProfileRecord", "QUAY_RULES", "QuayFault", "Refusal", "Refused", "Sample", "SampleAt", "Slip", "Stretch", "Track", "read_any_slip", "read_slip",
 ]
 
 #: What the library and this module take as bytes. All but bytes are copied, since nothing may write to them in a call.
@@ -44,6 +44,19 @@ FEATURES = {
 
 #: The part-ID of the records that Movie.check_profile judges.
 UNIVERSAL_PART = 0x20202020
+
+#: The rules of the quay film profile, by their numbers.
+QUAY_RULES = {
+    1: "one or two vide tracks and no others",
+    2: "at most one edit entry a track",
+    3: "one description a track",
+    4: "no ctts",
+    5: "sample 1 sync, and a sync sample and those after it before the next sync one, or to the end, at most 250 samples",
+    6: "no zero sizes",
+    7: "no zero durations",
+    8: "chunks in rising order of offset with none overlapping the one before",
+    9: "vfps at most 30.0",
+}
 
 # As include/chaldoref.h has them.
 _TRACK_NUMBERS, _PAIR_NUMBERS, _RECORD_NUMBERS, _EDIT_NUMBERS = 8, 2, 3, 3
@@ -254,8 +267,18 @@ class ProfileRecord:
     part: int
     #: The feature's code: four characters, one for each byte (Latin-1).
     code: str
-    #: The feature's value as the file has it; nothing checks it.
+    #: The feature's value as the file has it; Movie.check_profile judges it.
     value: int
+
+
+@dataclass(frozen=True)
+class QuayFault:
+    """What keeps a movie from the quay film profile."""
+
+    #: The lowest rule that any track breaks, from 1; its words are in QUAY_RULES.
+    rule: int
+    #: The ID of the first track in file order that breaks it; None for the first rule, which is the movie's.
+    track: Optional[int]
 
 
 @dataclass(frozen=True)
@@ -428,6 +451,12 @@ class Movie:
         track, if there are any, are exactly the formats of the track's descriptions. Refusal 14."""
         place, = self._ask("check_profile", 1, track)
         return place or None
+
+    def check_quay(self) -> Optional[QuayFault]:
+        """Whether the movie keeps the quay film profile: None if it does; or the lowest of its rules that any track breaks,
+        with the first track that breaks it."""
+        rule, track = self._ask("check_quay", 2)
+        return QuayFault(rule, track or None) if rule else None
 
     def feature(self, track: int, code: str) -> int:
         """A feature computed from a track's tables, by its code: bits a second for avvb, avab, mvbr and mabr; width *
@@ -621,6 +650,7 @@ _PARAMETERS = {
     "stretch": "nnnr",
     "profile": "nr",
     "check_profile": "n",
+    "check_quay": "",
     "feature": "nn",
     "peak": "nn",
     "movie": "",
@@ -643,8 +673,8 @@ _PARAMETERS = {
     "indexed_sample_at": "rrn",
 }
 _MOOV = (
-    "track_list", "sample", "sample_at", "media_time", "stretch", "profile", "check_profile", "feature", "peak", "movie",
-    "edits", "write_slip", "step_start", "open",
+    "track_list", "sample", "sample_at", "media_time", "stretch", "profile", "check_profile", "check_quay", "feature",
+    "peak", "movie", "edits", "write_slip", "step_start", "open",
 )
 _PARAMETERS.update({"moov_" + name: "l" + _PARAMETERS[name] for name in _MOOV})
 

@@ -15,8 +15,8 @@ from pathlib import Path
 
 import chaldoref
 from chaldoref import (
-    FEATURES, UNIVERSAL_PART, ByteRange, MalformedSlip, Movie, Peak, ProfileRecord, Refusal, Refused, Sample, SampleAt,
-    Stretch, Track, read_any_slip, read_slip,
+    FEATURES, UNIVERSAL_PART, ByteRange, MalformedSlip, Movie, Peak, ProfileRecord, QUAY_RULES, QuayFault, Refusal, Refused,
+    Sample, SampleAt, Stretch, Track, read_any_slip, read_slip,
 )
 
 W = Path("films/w.mov").read_bytes()
@@ -238,6 +238,11 @@ class FilmsMadeOfW(Case):
         self.assertEqual(Movie(with_atom(W, prfl, b"tkhd", (b"moov", b"trak"))).profile(1),
                          (ProfileRecord(7, "avvb", 8800),))
         self.assertEqual(Movie(with_atom(W, prfl, b"mvhd", (b"moov",))).profile(0), (ProfileRecord(7, "avvb", 8800),))
+
+    def test_check_quay(self):
+        self.assertEqual(Movie(W).check_quay(), QuayFault(6, 1))
+        self.assertIs(Movie(TWO_HOSES).check_quay(), None)
+        self.assertEqual(QUAY_RULES[6], "no zero sizes")
 
     def test_check_profile(self):
         avvb = int.from_bytes(b"avvb", "big")

@@ -129,6 +129,10 @@ pub fn check_profile(film: Film, id: u32) -> Result<[u64; 1], Refusal> {
     ask(|places, len| of_film!(film, chaldoref_check_profile, chaldoref_moov_check_profile, id, places, len))
 }
 
+pub fn check_quay(film: Film) -> Result<[u64; 2], Refusal> {
+    ask(|places, len| of_film!(film, chaldoref_check_quay, chaldoref_moov_check_quay, places, len))
+}
+
 pub fn feature(film: Film, id: u32, code: u32) -> Result<[u64; 1], Refusal> {
     ask(|places, len| of_film!(film, chaldoref_feature, chaldoref_moov_feature, id, code, places, len))
 }

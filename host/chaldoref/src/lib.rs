@@ -40,7 +40,7 @@
 //! some hundredths of a second. A [`Movie`] keeps where a track's tables are: the first question about the samples, times
 //! or stretches of a track judges the film, and those after it do not. A lookup then grows with the entries of the tables
 //! before the sample, which [`Opened::indexed`] takes from it, and a stretch with those up to its end. The
-//! other questions, [`Movie::header`], [`Movie::edits`], [`Movie::profile`], [`Movie::check_profile`], [`Movie::feature`], [`Movie::peak`],
+//! other questions, [`Movie::header`], [`Movie::edits`], [`Movie::profile`], [`Movie::check_profile`], [`Movie::check_quay`], [`Movie::feature`], [`Movie::peak`],
 //! [`Movie::write_slip`] and the start of [`Movie::samples`], judge the film each time; the samples themselves take some
 //! nanoseconds each.
 //!
@@ -68,6 +68,7 @@ mod film;
 mod moov;
 mod movie;
 mod opened;
+mod quay;
 #[allow(missing_docs)]
 pub mod raw;
 mod refusal;
@@ -84,6 +85,7 @@ pub use film::Film;
 pub use moov::{Moov, ReadError};
 pub use movie::{strict_refusal, Movie, MAX_FILE_BYTES, MAX_LENGTH};
 pub use opened::{Indexed, Opened};
+pub use quay::{QuayFault, QuayRule};
 pub use refusal::{Refusal, UnknownRefusal};
 pub use samples::Samples;
 pub use slip::{AnySlip, MalformedSlip, Slip};

@@ -3,6 +3,7 @@ use crate::answers::{Edit, Header, Peak, ProfileRecord, Sample, SampleAt, Shown,
 use crate::ffi::{self, broken, promised, Handle};
 use crate::film::Film;
 use crate::opened::Opened;
+use crate::quay::{QuayFault, QuayRule};
 use crate::refusal::Refusal;
 use crate::room::room;
 use crate::samples::Samples;
@@ -360,6 +361,27 @@ impl<'a> Movie<'a> {
     pub fn check_profile(&self, id: TrackId) -> Result<Option<u32>, Refusal> {
         let [place] = ffi::check_profile(self.film, id.0)?;
         Ok((place != 0).then(|| promised(place)))
+    }
+
+    /// Whether the movie keeps the quay film profile, the subset of films that camera contracts name: `None` if it does; or the
+    /// lowest of its rules that any track breaks, with the first track that breaks it.
+    ///
+    /// ```
+    /// use chaldoref::{Movie, QuayRule, TrackId};
+    ///
+    /// # std::env::set_current_dir("../..")?;
+    /// assert_eq!(Movie::open(&std::fs::read("films/two-hoses.mov")?)?.check_quay(), None);
+    /// let fault = Movie::open(&std::fs::read("films/w.mov")?)?.check_quay().unwrap();
+    /// assert_eq!((fault.rule, fault.track), (QuayRule::Sizes, Some(TrackId(1))));
+    /// # Ok::<(), Box<dyn std::error::Error>>(())
+    /// ```
+    #[must_use]
+    pub fn check_quay(&self) -> Option<QuayFault> {
+        // The film is accepted, so that no refusal is left.
+        let [rule, id] = ffi::check_quay(self.film).unwrap_or_else(|_| broken());
+        let rule =
+            if rule == 0 { None } else { Some(QuayRule::from_number(promised(rule)).unwrap_or_else(|| broken())) };
+        rule.map(|rule| QuayFault { rule, track: (id != 0).then(|| TrackId(promised(id))) })
     }
 
     /// A feature computed from a track's tables, by its [`Feature`](crate::Feature) or any four-character code.

@@ -81,6 +81,8 @@ extern "C" {
         places_len: usize,
     ) -> u32;
 
+    pub fn chaldoref_check_quay(file: *const u8, file_len: usize, places: *mut u64, places_len: usize) -> u32;
+
     pub fn chaldoref_feature(
         file: *const u8,
         file_len: usize,
@@ -189,6 +191,14 @@ extern "C" {
         moov_len: usize,
         length: u64,
         id: u32,
+        places: *mut u64,
+        places_len: usize,
+    ) -> u32;
+
+    pub fn chaldoref_moov_check_quay(
+        moov: *const u8,
+        moov_len: usize,
+        length: u64,
         places: *mut u64,
         places_len: usize,
     ) -> u32;

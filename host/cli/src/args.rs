@@ -37,6 +37,7 @@ pub enum Ask {
     Features { track: TrackId, code: Option<FourCC> },
     Profile { track: Option<TrackId> },
     CheckProfile { track: TrackId },
+    CheckQuay,
 }
 
 pub fn parse(words: impl IntoIterator<Item = OsString>) -> Result<Parsed, Failure> {

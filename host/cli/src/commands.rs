@@ -1,6 +1,7 @@
 //! What each command prints, for people and for machines.
 mod check;
 mod check_profile;
+mod check_quay;
 mod edits;
 mod features;
 mod questions;
@@ -95,6 +96,7 @@ fn answer(request: &Request, name: &OsStr, out: &mut dyn Write) -> Result<(), Fa
         Ask::Features { track, code: None } => features::features(&movie()?, *track, to),
         Ask::Features { track, code: Some(code) } => features::feature(&movie()?, *track, *code, to),
         Ask::Profile { track } => questions::profile(&movie()?, *track, to),
+        Ask::CheckQuay => check_quay::check_quay(&movie()?, to),
         Ask::CheckProfile { track } => check_profile::check_profile(&movie()?, *track, to),
         Ask::Stretch { track, time, bytes: false } => ranges::stretch(&movie()?, *track, time, to),
         Ask::Stretch { track, time, bytes: true } => ranges::stretch_bytes(&film, &movie()?, *track, time, to),

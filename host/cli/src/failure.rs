@@ -25,7 +25,7 @@ pub enum Failure {
     NotWritten(OsString, io::Error),
     /// Standard output could not be written.
     Output(io::Error),
-    /// Slips or a profile were checked, and not all is good: the report says why. Whether some could not be read.
+    /// Slips, a profile or a film's rules were checked, and not all is good: the report says why. Whether some could not be read.
     NotAllGood { unread: bool },
 }
 

@@ -20,8 +20,8 @@ const REST: &str = "\
 chaldoref COMMAND --help tells the options of a command; the page chaldoref(1)
 tells all. chaldoref completion bash prints the completion for bash. Exit
 status: 0 answered; 1 refused, for the reason on standard error, or something
-that check or check-profile found is not good; 2 bad usage, unreadable file or
-no memory. Of several files the greatest counts.
+that check, check-profile or check-quay found is not good; 2 bad usage,
+unreadable file or no memory. Of several files the greatest counts.
 ";
 
 impl Command {

@@ -30,7 +30,7 @@ pub const OUT: Opt = Opt { flag: "-o", value: Some("OUT"), about: "write raw byt
 /// What stands in the place of a command and asks no film.
 pub const HELPERS: [&str; 2] = ["completion", "help"];
 
-pub static COMMANDS: [Command; 13] = [
+pub static COMMANDS: [Command; 14] = [
     Command {
         name: "tracks",
         operands: &["FILE..."],
@@ -124,6 +124,13 @@ pub static COMMANDS: [Command; 13] = [
         options: &[&JSON],
         about: "whether the stored profile of a track is true, or its first record at fault",
         ask: |words| Ok(Ask::CheckProfile { track: words.track(1)? }),
+    },
+    Command {
+        name: "check-quay",
+        operands: &["FILE..."],
+        options: &[&JSON],
+        about: "whether each film keeps the quay film profile, or the rule that it breaks",
+        ask: |_| Ok(Ask::CheckQuay),
     },
 ];
 

@@ -428,3 +428,27 @@ fn records_at_fault() {
     let out = format!("{{\"format\":1,\"file\":\"-\",\"track\":1,\"true\":false,\"fault\":1,\"records\":{records}}}\n");
     assert_eq!((json.out, json.status), (out, 1));
 }
+
+#[test]
+fn the_quay_film_profile() {
+    answers("check-quay films/two-hoses.mov", "the film keeps the quay film profile\n");
+    answers(
+        "check-quay films/two-hoses.mov --json",
+        "{\"format\":1,\"file\":\"films/two-hoses.mov\",\"keeps\":true,\"rule\":null,\"words\":null,\"track\":null}\n",
+    );
+    let told = |film: &[u8], args: &[&str], out: &str| {
+        let ran = run_on(film, args);
+        assert_eq!((ran.out.as_str(), ran.err.as_str(), ran.status), (out, "", 1));
+    };
+    told(&film_of(vec![w_track()]), &["check-quay", "-"], "rule 6 is broken by track 1: no zero sizes\n");
+    told(
+        &film_of(vec![]),
+        &["check-quay", "-"],
+        "rule 1 is broken by the movie: one or two vide tracks and no others\n",
+    );
+    told(
+        &film_of(vec![w_track()]),
+        &["check-quay", "-", "--json"],
+        "{\"format\":1,\"file\":\"-\",\"keeps\":false,\"rule\":6,\"words\":\"no zero sizes\",\"track\":1}\n",
+    );
+}

@@ -9,7 +9,7 @@ use std::fs::File;
 use std::os::unix::ffi::OsStringExt;
 use std::process::{Command, Stdio};
 
-const COMMANDS: [&str; 13] = [
+const COMMANDS: [&str; 14] = [
     "tracks",
     "sample",
     "samples",
@@ -23,6 +23,7 @@ const COMMANDS: [&str; 13] = [
     "features",
     "profile",
     "check-profile",
+    "check-quay",
 ];
 
 #[test]

@@ -27,7 +27,12 @@ pub struct Counts {
     faults: [[u64; FAULTS.len()]; 2],
     /// Profiles that were found true, and those with a record at fault.
     profiles: [u64; 2],
+    /// Films by the rule of the quay film profile that they break, 0 for none.
+    quay: [u64; QUAY_RULES + 1],
 }
+
+/// The rules of the quay film profile.
+const QUAY_RULES: usize = 9;
 
 impl Default for Counts {
     fn default() -> Counts {
@@ -39,6 +44,7 @@ impl Default for Counts {
             slips: [0; 2],
             faults: [[0; FAULTS.len()]; 2],
             profiles: [0; 2],
+            quay: [0; QUAY_RULES + 1],
         }
     }
 }
@@ -52,6 +58,10 @@ fn is_of_film(number: usize) -> bool {
 fn is_of_slip(kind: &str) -> bool {
     kind.ends_with("slip")
 }
+
+/// The questions that ask for no number in a track.
+const WITHOUT_15: [&str; 9] =
+    ["track_list", "movie", "edits", "profile", "check_profile", "check_quay", "feature", "peak", "open"];
 
 /// Whether include/chaldoref.h names that number for that question.
 fn can_meet(number: usize, kind: &str) -> bool {
@@ -68,8 +78,8 @@ fn can_meet(number: usize, kind: &str) -> bool {
         17 => reads,
         _ if reads => false,
         11 => kind == "write_slip",
-        14 => !["track_list", "movie"].contains(&kind),
-        15 => !["track_list", "movie", "edits", "profile", "check_profile", "feature", "peak", "open"].contains(&kind),
+        14 => !["track_list", "movie", "check_quay"].contains(&kind),
+        15 => !WITHOUT_15.contains(&kind),
         18 => ["feature", "peak"].contains(&kind),
         _ => true,
     }
@@ -103,6 +113,11 @@ impl Counts {
     /// The verdict on a profile.
     pub fn profile(&mut self, is_true: bool) {
         self.profiles[usize::from(!is_true)] += 1;
+    }
+
+    /// The rule of the quay film profile that a film breaks, 0 for none.
+    pub fn quay(&mut self, rule: u64) {
+        self.quay[usize::try_from(rule).unwrap()] += 1;
     }
 
     pub fn question(&mut self, kind: usize, number: u32) {
@@ -154,8 +169,15 @@ impl Counts {
         WAYS.iter().zip(&self.strict).map(line).collect::<Vec<_>>().join("\n")
     }
 
-    pub fn profile_line(&self) -> String {
-        format!("profiles that are true: {}, with a record at fault: {}", self.profiles[0], self.profiles[1])
+    /// The verdicts on profiles, and on films by the quay film profile.
+    pub fn verdict_lines(&self) -> String {
+        let [good, bad] = self.profiles;
+        let quay: Vec<String> = self.quay.iter().map(u64::to_string).collect();
+        format!(
+            "profiles that are true: {good}, with a record at fault: {bad}\n\
+             films that keep the quay film profile, and that break rule 1 to 9 of it: {}",
+            quay.join(", ")
+        )
     }
 
     /// How many slips were read, and how many of them were malformed where.
@@ -191,6 +213,8 @@ impl Counts {
         all.extend(unasked.map(|(kind, _)| format!("{kind} was never answered of a film that is refused 11 strictly")));
         let never = ["true", "at fault"].into_iter().zip(self.profiles).filter(|(_, count)| *count == 0);
         all.extend(never.map(|(verdict, _)| format!("no profile was {verdict}")));
+        let never = self.quay.iter().enumerate().filter(|(_, count)| **count == 0);
+        all.extend(never.map(|(rule, _)| format!("no film met rule {rule} of the quay film profile")));
         for (form, faults) in self.faults.iter().enumerate() {
             let of = ["slip of form 1", "slip of form 2"][form];
             let never = FAULTS.iter().zip(faults).filter(|(_, count)| **count == 0);
@@ -223,6 +247,7 @@ mod tests {
         }
         (0..KINDS.len()).for_each(|kind| counts.strict(kind, 0));
         [true, false].into_iter().for_each(|verdict| counts.profile(verdict));
+        (0..=9).for_each(|rule| counts.quay(rule));
         for slip in [[1], [2]] {
             (0..FAULTS.len()).for_each(|kind| counts.slip(&slip, Some(kind)));
         }
@@ -244,6 +269,7 @@ mod tests {
         counts.accepted[5] = 0;
         counts.faults[1][4] = 0;
         counts.profiles[0] = 0;
+        counts.quay[8] = 0;
         let expected = [
             "sample never met 15",
             "of whole files none was refused 7",
@@ -251,6 +277,7 @@ mod tests {
             "of moovs alone none was refused 1",
             "stretch was never answered of a film that is refused 11 strictly",
             "no profile was true",
+            "no film met rule 8 of the quay film profile",
             "no slip of form 2 was malformed at: b",
         ];
         assert_eq!(counts.complaints(), expected);

@@ -115,6 +115,10 @@ impl Comparison {
                 self.counts.profile(places[0] == 0);
                 Ok(())
             }
+            Question::CheckQuay => {
+                self.counts.quay(places[0]);
+                Ok(())
+            }
             Question::SampleBytes { .. } if places[0] + places[1] > u64::try_from(bytes.lent().len()).unwrap() => {
                 Err(fault("the sample's bytes pass the file's end"))
             }

@@ -40,6 +40,7 @@ fn ask_whole(file: &[u8], question: Question, lending: &mut Lending) -> u32 {
             Question::Edits { id } => chaldoref_edits(f, len, id, wide.cast(), wide_len, places, places_len),
             Question::Profile { id } => chaldoref_profile(f, len, id, room, room_len, places, places_len),
             Question::CheckProfile { id } => chaldoref_check_profile(f, len, id, places, places_len),
+            Question::CheckQuay => chaldoref_check_quay(f, len, places, places_len),
             Question::Feature { id, code } => chaldoref_feature(f, len, id, code, places, places_len),
             Question::Peak { id, code } => chaldoref_peak(f, len, id, code, places, places_len),
             Question::ReadSlip => chaldoref_read_slip(f, len, room, room_len, places, places_len),
@@ -73,6 +74,7 @@ fn ask_moov(moov: &[u8], length: u64, question: Question, lending: &mut Lending)
             }
             Question::Profile { id } => chaldoref_moov_profile(m, len, length, id, room, room_len, places, places_len),
             Question::CheckProfile { id } => chaldoref_moov_check_profile(m, len, length, id, places, places_len),
+            Question::CheckQuay => chaldoref_moov_check_quay(m, len, length, places, places_len),
             Question::Feature { id, code } => chaldoref_moov_feature(m, len, length, id, code, places, places_len),
             Question::Peak { id, code } => chaldoref_moov_peak(m, len, length, id, code, places, places_len),
             Question::WriteSlip { id, a, b } => {

@@ -17,6 +17,7 @@ pub enum Question {
     Edits { id: u32 },
     Profile { id: u32 },
     CheckProfile { id: u32 },
+    CheckQuay,
     Feature { id: u32, code: u32 },
     Peak { id: u32, code: u32 },
     ReadSlip,
@@ -32,7 +33,7 @@ pub enum Way {
 }
 
 /// How the functions are called, in the order of `Question::place`, and how many places each fills.
-const FUNCTIONS: [(&str, usize); 15] = [
+const FUNCTIONS: [(&str, usize); 16] = [
     ("track_list", 1),
     ("sample", 8),
     ("sample_bytes", 2),
@@ -48,6 +49,7 @@ const FUNCTIONS: [(&str, usize); 15] = [
     ("movie", 2),
     ("edits", 1),
     ("check_profile", 1),
+    ("check_quay", 2),
 ];
 
 /// Every function of include/chaldoref.h but the step at top level: those of a whole file and of slips, then those of a moov alone, then the steps,
@@ -68,6 +70,7 @@ pub const KINDS: [&str; 2 * FUNCTIONS.len() - 3 + 14] = [
     "movie",
     "edits",
     "check_profile",
+    "check_quay",
     "moov_track_list",
     "moov_sample",
     "moov_sample_at",
@@ -80,6 +83,7 @@ pub const KINDS: [&str; 2 * FUNCTIONS.len() - 3 + 14] = [
     "moov_movie",
     "moov_edits",
     "moov_check_profile",
+    "moov_check_quay",
     "step_start",
     "moov_step_start",
     "step",
@@ -167,6 +171,7 @@ impl Question {
             Question::Movie => 12,
             Question::Edits { .. } => 13,
             Question::CheckProfile { .. } => 14,
+            Question::CheckQuay => 15,
         }
     }
 
@@ -231,6 +236,10 @@ impl Question {
                 listed(records.into_iter().map(|record| [record.part_id, record.code, record.value]))
             }
             Question::CheckProfile { id } => only(&[movie.profile_fault(id)?.unwrap_or(0)]),
+            Question::CheckQuay => {
+                let (rule, id) = movie.quay_fault().unwrap_or((0, 0));
+                only(&[rule, id])
+            }
             Question::Feature { id, code } => only(&[u64::from(movie.feature(id, code)?)]),
             Question::Peak { id, code } => {
                 let (first, samples) = movie.peak(id, code)?;
