@@ -25,8 +25,9 @@ from dataclasses import dataclass
 from typing import Any, BinaryIO, Dict, Iterator, Optional, Tuple, Union
 
 __all__ = [
-    "FEATURES", "UNIVERSAL_PART", "ByteRange", "Edit", "Header", "Indexed", "MalformedSlip", "Movie", "Opened", "Peak",
-    "ProfileRecord", "QUAY_RULES", "QuayFault", "Refusal", "Refused", "Sample", "SampleAt", "Slip", "Stretch", "Track", "read_any_slip", "read_slip",
+    "FEATURES", "QUAY_RULES", "UNIVERSAL_PART", "ByteRange", "Edit", "FilmReturn", "Header", "Indexed", "MalformedSlip",
+    "Movie", "Opened", "Peak", "ProfileRecord", "QuayFault", "Refusal", "Refused", "Sample", "SampleAt", "Slip", "Stretch",
+    "Track", "read_any_slip", "read_slip",
 ]
 
 #: What the library and this module take as bytes. All but bytes are copied, since nothing may write to them in a call.
@@ -65,6 +66,7 @@ _SLIP_HEAD_BYTES, _SLIP_PAIR_BYTES, _SLIP_WIDE_PAIR_BYTES = 24, 10, 18
 _HEADER_BYTES, _TOP_LEVEL_PLACES = 16, 6
 _STEPPER_NUMBERS, _SAMPLE_NUMBERS, _OPENED_NUMBERS = 29, 8, 19
 _CHECKPOINT_SAMPLES, _CHECKPOINT_NUMBERS = 64, 6
+_FILM_RETURN_NUMBERS, _MAX_SCALES = 83, 32
 
 #: As many samples are had from the library at once.
 _FETCHED = 64
@@ -95,6 +97,8 @@ class Refusal(enum.IntEnum):
     MALFORMED_SLIP = 17
     NOT_COMPUTED = 18
     DATA_ELSEWHERE = 19
+    TOO_MANY_SCALES = 20
+    TOTAL_TOO_GREAT = 21
 
     @property
     def words(self) -> str:
@@ -125,6 +129,8 @@ _WORDS = {
     Refusal.MALFORMED_SLIP: "a slip is malformed",
     Refusal.NOT_COMPUTED: "the feature cannot be computed",
     Refusal.DATA_ELSEWHERE: "a description names data elsewhere, or no such data reference",
+    Refusal.TOO_MANY_SCALES: "a thirty-third time scale would be met",
+    Refusal.TOTAL_TOO_GREAT: "a total would reach 2^64",
 }
 
 
@@ -554,6 +560,59 @@ class Opened:
         return list(places)
 
 
+class FilmReturn:
+    """The quarter's film return: totals over many films."""
+
+    def __init__(self) -> None:
+        self._numbers = (ctypes.c_uint64 * _FILM_RETURN_NUMBERS)()
+
+    def add(self, file: Bytes) -> None:
+        """Adds a film by the bytes of its file, be it accepted or refused under its number. Refusals 20, 21, with which the
+        return is left without any of the film."""
+        lent = _lent(file)
+        self._add("film_return", lent)
+
+    def add_moov(self, moov: Bytes, length: int) -> None:
+        """The same by its moov alone, with the length of its file."""
+        self._add("moov_film_return", _lent(moov), _number(length, 64))
+
+    def _add(self, name: str, lent: bytes, *numbers: int) -> None:
+        answer = _function(name)(lent, len(lent), *numbers, self._numbers, len(self._numbers))
+        if answer != 0:
+            raise Refused(answer)
+
+    @property
+    def accepted(self) -> int:
+        """How many films are accepted."""
+        return self._numbers[0]
+
+    @property
+    def refused(self) -> Dict[int, int]:
+        """How many films are refused, by the number of the refusal."""
+        return dict(zip((*range(1, 14), 19), self._numbers[1:15]))
+
+    @property
+    def tracks(self) -> int:
+        """The tracks of the accepted films."""
+        return self._numbers[15]
+
+    @property
+    def samples(self) -> int:
+        """Their samples."""
+        return self._numbers[16]
+
+    @property
+    def bytes(self) -> int:
+        """Their film bytes: the sizes of all samples."""
+        return self._numbers[17]
+
+    @property
+    def scales(self) -> Dict[int, int]:
+        """Each media time scale met, in order of first meeting, with the film time of its tracks in units of it."""
+        held, first, after = self._numbers[18], 19, 19 + _MAX_SCALES
+        return dict(zip(self._numbers[first:first + held], self._numbers[after:after + held]))
+
+
 class Indexed:
     """An opened track with its index, which Opened.indexed has made. Its answers are those of the opened track, in time that
     does not grow with the entries of the tables before a sample."""
@@ -659,6 +718,7 @@ _PARAMETERS = {
     "read_any_slip": "r",
     "write_slip": "nnnr",
     "top_level_step": "",
+    "film_return": "",
     "step_start": "nn",
     "step": "r",
     "steps": "rr",
@@ -674,7 +734,7 @@ _PARAMETERS = {
 }
 _MOOV = (
     "track_list", "sample", "sample_at", "media_time", "stretch", "profile", "check_profile", "check_quay", "feature",
-    "peak", "movie", "edits", "write_slip", "step_start", "open",
+    "peak", "movie", "edits", "film_return", "write_slip", "step_start", "open",
 )
 _PARAMETERS.update({"moov_" + name: "l" + _PARAMETERS[name] for name in _MOOV})
 

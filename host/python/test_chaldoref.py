@@ -15,7 +15,7 @@ from pathlib import Path
 
 import chaldoref
 from chaldoref import (
-    FEATURES, UNIVERSAL_PART, ByteRange, MalformedSlip, Movie, Peak, ProfileRecord, QUAY_RULES, QuayFault, Refusal, Refused,
+    FEATURES, UNIVERSAL_PART, ByteRange, FilmReturn, MalformedSlip, Movie, Peak, ProfileRecord, QUAY_RULES, QuayFault, Refusal, Refused,
     Sample, SampleAt, Stretch, Track, read_any_slip, read_slip,
 )
 
@@ -253,6 +253,19 @@ class FilmsMadeOfW(Case):
         self.assertRefused(14, Movie(W).check_profile, 0)
 
 
+class Returns(Case):
+    def test_two_films_and_none(self):
+        quarter = FilmReturn()
+        for film in (W, TWO_HOSES, b""):
+            quarter.add(film)
+        self.assertEqual((quarter.accepted, quarter.tracks, quarter.samples, quarter.bytes), (2, 3, 16, 412))
+        self.assertEqual({number: films for number, films in quarter.refused.items() if films}, {3: 1})
+        self.assertEqual(quarter.scales, {600: 408})
+        size = int.from_bytes(W[:4], "big")
+        quarter.add_moov(W[:size], len(W))
+        self.assertEqual((quarter.accepted, quarter.scales), (3, {600: 528}))
+
+
 class TwoHoses(Case):
     def setUp(self):
         self.movie = Movie(TWO_HOSES)
@@ -406,13 +419,13 @@ class Header(unittest.TestCase):
         del constants["ANSWERED"]
         self.assertEqual({name: int(number) for name, number in constants.items()},
                          {refusal.name: refusal.value for refusal in Refusal})
-        self.assertEqual(len({refusal.words for refusal in Refusal}), 19)
+        self.assertEqual(len({refusal.words for refusal in Refusal}), 21)
 
     def test_sizes(self):
         for name in ("TRACK_NUMBERS", "PAIR_NUMBERS", "RECORD_NUMBERS", "EDIT_NUMBERS", "MAX_TRACKS", "MAX_PAIRS",
                      "MAX_RECORDS", "MAX_EDITS", "SLIP_HEAD_BYTES", "SLIP_PAIR_BYTES", "SLIP_WIDE_PAIR_BYTES",
                      "HEADER_BYTES", "TOP_LEVEL_PLACES", "STEPPER_NUMBERS", "SAMPLE_NUMBERS",
-                     "OPENED_NUMBERS", "CHECKPOINT_SAMPLES", "CHECKPOINT_NUMBERS"):
+                     "OPENED_NUMBERS", "CHECKPOINT_SAMPLES", "CHECKPOINT_NUMBERS", "FILM_RETURN_NUMBERS", "MAX_SCALES"):
             self.assertIn(f"CHALDOREF_{name} = {getattr(chaldoref, '_' + name)}", HEADER)
 
     def test_functions(self):

@@ -65,6 +65,7 @@ mod feature;
 #[allow(unsafe_code)]
 mod ffi;
 mod film;
+mod film_return;
 mod moov;
 mod movie;
 mod opened;
@@ -82,6 +83,7 @@ pub use answers::{
 };
 pub use feature::{Feature, UnknownFeature};
 pub use film::Film;
+pub use film_return::{FilmReturn, MAX_SCALES};
 pub use moov::{Moov, ReadError};
 pub use movie::{strict_refusal, Movie, MAX_FILE_BYTES, MAX_LENGTH};
 pub use opened::{Indexed, Opened};

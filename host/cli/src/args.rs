@@ -38,6 +38,7 @@ pub enum Ask {
     Profile { track: Option<TrackId> },
     CheckProfile { track: TrackId },
     CheckQuay,
+    FilmReturn,
 }
 
 pub fn parse(words: impl IntoIterator<Item = OsString>) -> Result<Parsed, Failure> {

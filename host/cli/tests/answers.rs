@@ -452,3 +452,47 @@ fn the_quay_film_profile() {
         "{\"format\":1,\"file\":\"-\",\"keeps\":false,\"rule\":6,\"words\":\"no zero sizes\",\"track\":1}\n",
     );
 }
+
+/// The lines of the refusals, of which one film has that number.
+fn refused_once(number: u32) -> String {
+    let lines = (1..=13).chain([19]).map(|n| format!("refused {n} {}\n", u32::from(n == number)));
+    lines.collect()
+}
+
+#[test]
+fn film_returns() {
+    let out = format!("accepted 2\n{}tracks 3\nsamples 16\nbytes 412\nscale 600 408\n", refused_once(3));
+    answers("film-return films/w.mov films/two-hoses.mov README.md", &out);
+    let ran = run_on(&film_of(vec![w_track()]), &["film-return", "none.mov", "-"]);
+    let totals = format!("accepted 1\n{}tracks 1\nsamples 4\nbytes 220\nscale 600 120\n", refused_once(0));
+    assert_eq!(ran.out, format!("skipped none.mov\n{totals}"));
+    assert_eq!((ran.err.as_str(), ran.status), ("chaldoref: none.mov: No such file or directory (os error 2)\n", 2));
+    let json = run_on(&film_of(vec![w_track()]), &["film-return", "none.mov", "-", "--json"]);
+    assert!(json
+        .out
+        .starts_with("{\"format\":1,\"skipped\":[\"none.mov\"],\"accepted\":1,\"refused\":[{\"refusal\":1,"));
+    assert!(json.out.ends_with(
+        "\"tracks\":1,\"samples\":4,\"bytes\":220,\"scales\":[{\"scale\":600,\"total\":120,\"total_seconds\":0.2}]}\n"
+    ));
+}
+
+/// Sixteen tracks a film, each with a scale of its own.
+#[test]
+fn a_thirty_third_scale() {
+    let film =
+        |first: u32| film_of((0..16).map(|n| film::Track { id: n + 1, scale: first + n, ..w_track() }).collect());
+    let folder = common::Folder::new("scales");
+    for (name, first) in [("a.mov", 100), ("b.mov", 116), ("c.mov", 132)] {
+        folder.file(name, &film(first));
+    }
+    let names = ["a.mov", "b.mov", "c.mov", "a.mov"].map(|name| folder.path(name).to_str().unwrap().to_string());
+    let ran = run(&[&["film-return".to_string()][..], &names].concat());
+    let third = format!("skipped {}\naccepted 3\n", names[2]);
+    assert!(ran.out.starts_with(&third), "{}", ran.out);
+    assert_eq!(ran.out.matches("scale ").count(), 32);
+    assert!(ran.out.contains("\nscale 100 240\n") && ran.out.contains("\nscale 131 120\n"), "{}", ran.out);
+    assert_eq!(
+        (ran.err, ran.status),
+        (format!("chaldoref: {}: refused 20: a thirty-third time scale would be met\n", names[2]), 1)
+    );
+}

@@ -182,7 +182,8 @@ fn bad_usage(line: &str, wrong: &str, usage: &str) {
 fn usage() {
     let all = "COMMAND FILE ...\n       chaldoref --help\n\
                commands: tracks, sample, samples, at, map, edits, stretch, slip, read-slip,\n\
-               check, features, profile, check-profile, check-quay, completion, help";
+               check, features, profile, check-profile, check-quay, film-return, completion,\n\
+               help";
     bad_usage("", "no command is named", all);
     for line in ["track films/w.mov", "help track"] {
         bad_usage(line, "there is no command 'track'; did you mean tracks?", all);

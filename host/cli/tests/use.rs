@@ -9,7 +9,7 @@ use std::fs::File;
 use std::os::unix::ffi::OsStringExt;
 use std::process::{Command, Stdio};
 
-const COMMANDS: [&str; 14] = [
+const COMMANDS: [&str; 15] = [
     "tracks",
     "sample",
     "samples",
@@ -24,6 +24,7 @@ const COMMANDS: [&str; 14] = [
     "profile",
     "check-profile",
     "check-quay",
+    "film-return",
 ];
 
 #[test]

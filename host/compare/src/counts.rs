@@ -3,8 +3,8 @@ use crate::faults::FAULTS;
 use crate::question::{Way, KINDS};
 use std::fmt::Write;
 
-/// Refusals are numbered from 1 to 19; 0 is an answer.
-const NUMBERS: usize = 20;
+/// Refusals are numbered from 1 to 21; 0 is an answer.
+const NUMBERS: usize = 22;
 
 /// The two ways in, in the order of `way_of`.
 const WAYS: [&str; 2] = ["whole files", "moovs alone"];
@@ -70,6 +70,9 @@ fn can_meet(number: usize, kind: &str) -> bool {
     if ["step", "steps", "index"].contains(&kind) {
         return [0, 16].contains(&number);
     }
+    if kind == "film_return" {
+        return [0, 16, 20, 21].contains(&number);
+    }
     if kind.starts_with("opened_") || kind.starts_with("indexed_") {
         return [0, 15, 16].contains(&number);
     }
@@ -81,6 +84,7 @@ fn can_meet(number: usize, kind: &str) -> bool {
         14 => !["track_list", "movie", "check_quay"].contains(&kind),
         15 => !WITHOUT_15.contains(&kind),
         18 => ["feature", "peak"].contains(&kind),
+        20 | 21 => false,
         _ => true,
     }
 }

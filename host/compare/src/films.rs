@@ -166,6 +166,7 @@ impl Comparison {
         for question in peaks(&film.movie) {
             self.question(random, &asked, question)?;
         }
+        self.returns(random, bytes.lent(), way, film)?;
         self.steps(random, bytes.lent(), way, film)?;
         self.opened(random, bytes.lent(), way, film)?;
         if !bytes.are_unchanged() {

@@ -87,6 +87,19 @@ fn ask_moov(moov: &[u8], length: u64, question: Question, lending: &mut Lending)
     }
 }
 
+/// A film added to a return.
+pub fn film_return(lent: &[u8], way: Way, totals: &mut Lent<u64>) -> u32 {
+    let (f, len) = (lent.as_ptr(), lent.len());
+    let (totals, totals_len) = (totals.pointer(), totals.len());
+    // SAFETY: as for a whole file.
+    unsafe {
+        match way {
+            Way::Whole => chaldoref_film_return(f, len, totals, totals_len),
+            Way::Moov(length) => chaldoref_moov_film_return(f, len, length, totals, totals_len),
+        }
+    }
+}
+
 /// The position before a sample of a track.
 pub fn step_start(lent: &[u8], way: Way, id: u32, n: u32, stepper: &mut Lent<u64>) -> u32 {
     let (f, len) = (lent.as_ptr(), lent.len());

@@ -14,6 +14,7 @@ mod mapped;
 mod opened;
 mod options;
 mod question;
+mod returns;
 mod run;
 mod steps;
 

@@ -52,9 +52,9 @@ const FUNCTIONS: [(&str, usize); 16] = [
     ("check_quay", 2),
 ];
 
-/// Every function of include/chaldoref.h but the step at top level: those of a whole file and of slips, then those of a moov alone, then the steps,
-/// those of a track that is opened once and those of its index.
-pub const KINDS: [&str; 2 * FUNCTIONS.len() - 3 + 14] = [
+/// Every function of include/chaldoref.h but the step at top level: those of a whole file and of slips, then those of a moov alone, then the film
+/// return, the steps, those of a track that is opened once and those of its index.
+pub const KINDS: [&str; 2 * FUNCTIONS.len() - 3 + 16] = [
     "track_list",
     "sample",
     "sample_bytes",
@@ -84,6 +84,8 @@ pub const KINDS: [&str; 2 * FUNCTIONS.len() - 3 + 14] = [
     "moov_edits",
     "moov_check_profile",
     "moov_check_quay",
+    "film_return",
+    "moov_film_return",
     "step_start",
     "moov_step_start",
     "step",
