@@ -19,7 +19,7 @@ use std::ops::Range;
 /// let track = Movie::open(&file)?.opened(TrackId(1))?;
 /// let shown: Vec<u32> = [0, 24, 72].map(|t| track.sample_at(MediaTime(t)).unwrap().sample).to_vec();
 /// assert_eq!((shown, track.sample(4)?.offset), (vec![1, 2, 4], 900));
-/// assert_eq!(track.samples_from(3)?.map(|sample| sample.offset).collect::<Vec<_>>(), [750, 900]);
+/// assert_eq!(track.samples_from(3)?.map(|sample| sample.offset).collect::<Vec<_>>(), [1150, 900]);
 /// # Ok::<(), Box<dyn std::error::Error>>(())
 /// ```
 #[derive(Clone, Copy)]
