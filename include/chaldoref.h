@@ -99,7 +99,9 @@ enum {
     CHALDOREF_NO_ROOM = 16,           /* the lent room or places are shorter than the answer */
     CHALDOREF_MALFORMED_SLIP = 17,    /* a slip is malformed */
     CHALDOREF_NOT_COMPUTED = 18,      /* the feature cannot be computed */
-    CHALDOREF_DATA_ELSEWHERE = 19     /* a description names data elsewhere, or no such data reference */
+    CHALDOREF_DATA_ELSEWHERE = 19,    /* a description names data elsewhere, or no such data reference */
+    CHALDOREF_TOO_MANY_SCALES = 20,   /* of a film return: a thirty-third time scale would be met */
+    CHALDOREF_TOTAL_TOO_GREAT = 21    /* of a film return: a total would reach 2^64 */
 };
 
 /* How many places each function fills. */
@@ -111,6 +113,8 @@ enum {
     CHALDOREF_MEDIA_TIME_PLACES = 2,
     CHALDOREF_STRETCH_PLACES = 2,
     CHALDOREF_PROFILE_PLACES = 1,
+    CHALDOREF_CHECK_PROFILE_PLACES = 1,
+    CHALDOREF_CHECK_QUAY_PLACES = 2,
     CHALDOREF_FEATURE_PLACES = 1,
     CHALDOREF_PEAK_PLACES = 2,
     CHALDOREF_READ_SLIP_PLACES = 6,
@@ -150,6 +154,12 @@ enum {
 enum {
     CHALDOREF_CHECKPOINT_SAMPLES = 64,
     CHALDOREF_CHECKPOINT_NUMBERS = 6
+};
+
+/* As many numbers has a film return, which the caller keeps, and as many time scales it holds at most. */
+enum {
+    CHALDOREF_FILM_RETURN_NUMBERS = 83,
+    CHALDOREF_MAX_SCALES = 32
 };
 
 /* As many bytes of an atom's header are read at most. */
@@ -419,6 +429,56 @@ uint32_t chaldoref_profile(
     uint32_t *room, size_t room_len,
     uint64_t *places, size_t places_len);
 
+/* The part-ID of the records that chaldoref_check_profile judges. */
+enum {
+    CHALDOREF_UNIVERSAL_PART = 0x20202020
+};
+
+/*
+ * Whether the stored profile of a track is true. Of its records with the part-ID
+ * CHALDOREF_UNIVERSAL_PART each with the code of a feature is at least the computed feature, tvsz
+ * in each half, and where that is refused 18 the record is at fault; and if there is one with the
+ * code vfmt in a vide track, or afmt in a soun track, the values of all such are exactly the formats
+ * of the track's descriptions, in any order and as often as they like: a format that none has is
+ * charged to the first of them. All other records are passed over.
+ * Refusals: the file's but 11; 14, 16.
+ * places: 1: 0 where it is, also without a profile; or the place, from 1, of the first record at
+ *         fault among those of chaldoref_profile.
+ */
+uint32_t chaldoref_check_profile(
+    const uint8_t *file, size_t file_len,
+    uint32_t id,
+    uint64_t *places, size_t places_len);
+
+/*
+ * Whether a film keeps the quay film profile. Its rules, in order: 1, one or two vide tracks and no
+ * others; 2, at most one edit entry a track; 3, one description a track; 4, no ctts; 5, sample 1
+ * sync, and a sync sample and those after it before the next sync one, or to the end, at most 250
+ * samples (a track with no samples breaks it); 6, no zero sizes; 7, no zero durations; 8, chunks in
+ * rising order of offset with none overlapping the one before; 9, vfps at most 30.0 (one that is
+ * refused 18 breaks it). Refusals: the file's but 11; 16.
+ * places: 2: 0 and 0 where it does; or the lowest rule that any track breaks and the ID of the
+ *         first track in file order that breaks it, which is 0 for rule 1.
+ */
+uint32_t chaldoref_check_quay(
+    const uint8_t *file, size_t file_len,
+    uint64_t *places, size_t places_len);
+
+/*
+ * Adds a film to the quarter's film return: totals over many films. Two films with equal bytes are
+ * both counted. A film that is refused, by a number of the file but 11, is counted under it.
+ * Refusals: 20 for a thirty-third time scale, then 21 for a total that would reach 2^64, and 16 for
+ * fewer numbers; with them the return is left as it is.
+ * totals: CHALDOREF_FILM_RETURN_NUMBERS numbers that the caller keeps; zeros are the empty return:
+ *         films accepted; films refused 1 to 13, then 19; tracks; samples; film bytes, which are the
+ *         sizes of all samples; how many scales are held; CHALDOREF_MAX_SCALES scales in order of
+ *         first meeting; as many totals, of each scale its tracks' film time. What stands in the
+ *         last two past the scales held means nothing.
+ */
+uint32_t chaldoref_film_return(
+    const uint8_t *file, size_t file_len,
+    uint64_t *totals, size_t totals_len);
+
 /* The features' codes: average video and audio bit rate, greatest picture, highest frame rate,
    highest video and audio bit rate over one second. */
 #define CHALDOREF_AVVB UINT32_C(0x61767662)
@@ -563,6 +623,19 @@ uint32_t chaldoref_moov_profile(
     uint32_t *room, size_t room_len,
     uint64_t *places, size_t places_len);
 
+uint32_t chaldoref_moov_check_profile(
+    const uint8_t *moov, size_t moov_len, uint64_t length,
+    uint32_t id,
+    uint64_t *places, size_t places_len);
+
+uint32_t chaldoref_moov_check_quay(
+    const uint8_t *moov, size_t moov_len, uint64_t length,
+    uint64_t *places, size_t places_len);
+
+uint32_t chaldoref_moov_film_return(
+    const uint8_t *moov, size_t moov_len, uint64_t length,
+    uint64_t *totals, size_t totals_len);
+
 uint32_t chaldoref_moov_feature(
     const uint8_t *moov, size_t moov_len, uint64_t length,
     uint32_t id, uint32_t code,
@@ -627,7 +700,9 @@ static inline const char *chaldoref_refusal_text(uint32_t number)
         "the lent room is shorter than the answer",
         "a slip is malformed",
         "the feature cannot be computed",
-        "a description names data elsewhere, or no such data reference"
+        "a description names data elsewhere, or no such data reference",
+        "a thirty-third time scale would be met",
+        "a total would reach 2^64"
     };
     return number < sizeof texts / sizeof *texts ? texts[number] : "no refusal has this number";
 }
@@ -1067,6 +1142,63 @@ static inline uint32_t chaldoref_track_stretch(const uint8_t *lent, size_t lent_
                                                 room_len, places, CHALDOREF_STRETCH_PLACES);
     *stretch = chaldoref_stretch_of(places);
     return refusal;
+}
+
+/* A film return, to be kept by the caller; all zeros are the empty one. */
+struct chaldoref_totals {
+    uint64_t numbers[CHALDOREF_FILM_RETURN_NUMBERS];
+};
+
+/* Adds a film to a return. Refusals 20, 21. */
+static inline uint32_t chaldoref_add_film(const uint8_t *file, size_t file_len, struct chaldoref_totals *totals)
+{
+    return chaldoref_film_return(file, file_len, totals->numbers, CHALDOREF_FILM_RETURN_NUMBERS);
+}
+
+/* The same of a moov alone. */
+static inline uint32_t chaldoref_add_moov(
+    const uint8_t *moov, size_t moov_len, uint64_t length, struct chaldoref_totals *totals)
+{
+    return chaldoref_moov_film_return(moov, moov_len, length, totals->numbers, CHALDOREF_FILM_RETURN_NUMBERS);
+}
+
+/* A return in words: the numbers but for those of its scales. */
+struct chaldoref_totals_info {
+    uint64_t accepted;
+    uint64_t refused[CHALDOREF_DATA_ELSEWHERE + 1];  /* by the number of the refusal; zeros for others */
+    uint64_t tracks;
+    uint64_t samples;
+    uint64_t bytes;
+    size_t scales;
+};
+
+static inline struct chaldoref_totals_info chaldoref_totals_of(const struct chaldoref_totals *totals)
+{
+    struct chaldoref_totals_info all = {0, {0}, 0, 0, 0, 0};
+    size_t number;
+    all.accepted = totals->numbers[0];
+    for (number = 1; number <= CHALDOREF_EDIT_LIST; number++)
+        all.refused[number] = totals->numbers[number];
+    all.refused[CHALDOREF_DATA_ELSEWHERE] = totals->numbers[14];
+    all.tracks = totals->numbers[15];
+    all.samples = totals->numbers[16];
+    all.bytes = totals->numbers[17];
+    all.scales = (size_t)totals->numbers[18];
+    return all;
+}
+
+/* Scale i of a return, counted from 0 and below the number of its scales, and its total. */
+struct chaldoref_scale_total {
+    uint32_t scale;
+    uint64_t total;
+};
+
+static inline struct chaldoref_scale_total chaldoref_scale_total_of(const struct chaldoref_totals *totals, size_t i)
+{
+    struct chaldoref_scale_total scale;
+    scale.scale = (uint32_t)totals->numbers[19 + i];
+    scale.total = totals->numbers[19 + CHALDOREF_MAX_SCALES + i];
+    return scale;
 }
 
 /* The run of samples that has the highest bit rate. */

@@ -25,8 +25,9 @@ from dataclasses import dataclass
 from typing import Any, BinaryIO, Dict, Iterator, Optional, Tuple, Union
 
 __all__ = [
-    "FEATURES", "ByteRange", "Edit", "Header", "Indexed", "MalformedSlip", "Movie", "Opened", "Peak", "ProfileRecord", "Refusal",
-    "Refused", "Sample", "SampleAt", "Slip", "Stretch", "Track", "read_any_slip", "read_slip",
+    "FEATURES", "QUAY_RULES", "UNIVERSAL_PART", "ByteRange", "Edit", "FilmReturn", "Header", "Indexed", "MalformedSlip",
+    "Movie", "Opened", "Peak", "ProfileRecord", "QuayFault", "Refusal", "Refused", "Sample", "SampleAt", "Slip", "Stretch",
+    "Track", "read_any_slip", "read_slip",
 ]
 
 #: What the library and this module take as bytes. All but bytes are copied, since nothing may write to them in a call.
@@ -42,6 +43,22 @@ FEATURES = {
     "mabr": "highest audio bit rate over one second",
 }
 
+#: The part-ID of the records that Movie.check_profile judges.
+UNIVERSAL_PART = 0x20202020
+
+#: The rules of the quay film profile, by their numbers.
+QUAY_RULES = {
+    1: "one or two vide tracks and no others",
+    2: "at most one edit entry a track",
+    3: "one description a track",
+    4: "no ctts",
+    5: "sample 1 sync, and a sync sample and those after it before the next sync one, or to the end, at most 250 samples",
+    6: "no zero sizes",
+    7: "no zero durations",
+    8: "chunks in rising order of offset with none overlapping the one before",
+    9: "vfps at most 30.0",
+}
+
 # As include/chaldoref.h has them.
 _TRACK_NUMBERS, _PAIR_NUMBERS, _RECORD_NUMBERS, _EDIT_NUMBERS = 8, 2, 3, 3
 _MAX_TRACKS, _MAX_PAIRS, _MAX_RECORDS, _MAX_EDITS = 16, 1_048_576, 64, 256
@@ -49,6 +66,7 @@ _SLIP_HEAD_BYTES, _SLIP_PAIR_BYTES, _SLIP_WIDE_PAIR_BYTES = 24, 10, 18
 _HEADER_BYTES, _TOP_LEVEL_PLACES = 16, 6
 _STEPPER_NUMBERS, _SAMPLE_NUMBERS, _OPENED_NUMBERS = 29, 8, 19
 _CHECKPOINT_SAMPLES, _CHECKPOINT_NUMBERS = 64, 6
+_FILM_RETURN_NUMBERS, _MAX_SCALES = 83, 32
 
 #: As many samples are had from the library at once.
 _FETCHED = 64
@@ -79,6 +97,8 @@ class Refusal(enum.IntEnum):
     MALFORMED_SLIP = 17
     NOT_COMPUTED = 18
     DATA_ELSEWHERE = 19
+    TOO_MANY_SCALES = 20
+    TOTAL_TOO_GREAT = 21
 
     @property
     def words(self) -> str:
@@ -109,6 +129,8 @@ _WORDS = {
     Refusal.MALFORMED_SLIP: "a slip is malformed",
     Refusal.NOT_COMPUTED: "the feature cannot be computed",
     Refusal.DATA_ELSEWHERE: "a description names data elsewhere, or no such data reference",
+    Refusal.TOO_MANY_SCALES: "a thirty-third time scale would be met",
+    Refusal.TOTAL_TOO_GREAT: "a total would reach 2^64",
 }
 
 
@@ -251,8 +273,18 @@ class ProfileRecord:
     part: int
     #: The feature's code: four characters, one for each byte (Latin-1).
     code: str
-    #: The feature's value as the file has it; nothing checks it.
+    #: The feature's value as the file has it; Movie.check_profile judges it.
     value: int
+
+
+@dataclass(frozen=True)
+class QuayFault:
+    """What keeps a movie from the quay film profile."""
+
+    #: The lowest rule that any track breaks, from 1; its words are in QUAY_RULES.
+    rule: int
+    #: The ID of the first track in file order that breaks it; None for the first rule, which is the movie's.
+    track: Optional[int]
 
 
 @dataclass(frozen=True)
@@ -418,6 +450,20 @@ class Movie:
         rows = _rows(room, count, _RECORD_NUMBERS)
         return tuple(ProfileRecord(part, _characters(code), value) for part, code, value in rows)
 
+    def check_profile(self, track: int) -> Optional[int]:
+        """Whether the stored profile of a track is true: None if it is, also without one; or the place of the first record
+        at fault, from 1, in profile. Of its records with the part-ID UNIVERSAL_PART each with the code of a feature is at
+        least that feature, tvsz in each half; and the values of those with the code vfmt in a vide track, or afmt in a soun
+        track, if there are any, are exactly the formats of the track's descriptions. Refusal 14."""
+        place, = self._ask("check_profile", 1, track)
+        return place or None
+
+    def check_quay(self) -> Optional[QuayFault]:
+        """Whether the movie keeps the quay film profile: None if it does; or the lowest of its rules that any track breaks,
+        with the first track that breaks it."""
+        rule, track = self._ask("check_quay", 2)
+        return QuayFault(rule, track or None) if rule else None
+
     def feature(self, track: int, code: str) -> int:
         """A feature computed from a track's tables, by its code: bits a second for avvb, avab, mvbr and mabr; width *
         65536 + height for tvsz; frames a second * 65536 for vfps. avvb and avab are taken over the samples that the
@@ -512,6 +558,59 @@ class Opened:
         if answer != 0:
             raise Refused(answer)
         return list(places)
+
+
+class FilmReturn:
+    """The quarter's film return: totals over many films."""
+
+    def __init__(self) -> None:
+        self._numbers = (ctypes.c_uint64 * _FILM_RETURN_NUMBERS)()
+
+    def add(self, file: Bytes) -> None:
+        """Adds a film by the bytes of its file, be it accepted or refused under its number. Refusals 20, 21, with which the
+        return is left without any of the film."""
+        lent = _lent(file)
+        self._add("film_return", lent)
+
+    def add_moov(self, moov: Bytes, length: int) -> None:
+        """The same by its moov alone, with the length of its file."""
+        self._add("moov_film_return", _lent(moov), _number(length, 64))
+
+    def _add(self, name: str, lent: bytes, *numbers: int) -> None:
+        answer = _function(name)(lent, len(lent), *numbers, self._numbers, len(self._numbers))
+        if answer != 0:
+            raise Refused(answer)
+
+    @property
+    def accepted(self) -> int:
+        """How many films are accepted."""
+        return self._numbers[0]
+
+    @property
+    def refused(self) -> Dict[int, int]:
+        """How many films are refused, by the number of the refusal."""
+        return dict(zip((*range(1, 14), 19), self._numbers[1:15]))
+
+    @property
+    def tracks(self) -> int:
+        """The tracks of the accepted films."""
+        return self._numbers[15]
+
+    @property
+    def samples(self) -> int:
+        """Their samples."""
+        return self._numbers[16]
+
+    @property
+    def bytes(self) -> int:
+        """Their film bytes: the sizes of all samples."""
+        return self._numbers[17]
+
+    @property
+    def scales(self) -> Dict[int, int]:
+        """Each media time scale met, in order of first meeting, with the film time of its tracks in units of it."""
+        held, first, after = self._numbers[18], 19, 19 + _MAX_SCALES
+        return dict(zip(self._numbers[first:first + held], self._numbers[after:after + held]))
 
 
 class Indexed:
@@ -609,6 +708,8 @@ _PARAMETERS = {
     "media_time": "nn",
     "stretch": "nnnr",
     "profile": "nr",
+    "check_profile": "n",
+    "check_quay": "",
     "feature": "nn",
     "peak": "nn",
     "movie": "",
@@ -617,6 +718,7 @@ _PARAMETERS = {
     "read_any_slip": "r",
     "write_slip": "nnnr",
     "top_level_step": "",
+    "film_return": "",
     "step_start": "nn",
     "step": "r",
     "steps": "rr",
@@ -631,8 +733,8 @@ _PARAMETERS = {
     "indexed_sample_at": "rrn",
 }
 _MOOV = (
-    "track_list", "sample", "sample_at", "media_time", "stretch", "profile", "feature", "peak", "movie", "edits",
-    "write_slip", "step_start", "open",
+    "track_list", "sample", "sample_at", "media_time", "stretch", "profile", "check_profile", "check_quay", "feature",
+    "peak", "movie", "edits", "film_return", "write_slip", "step_start", "open",
 )
 _PARAMETERS.update({"moov_" + name: "l" + _PARAMETERS[name] for name in _MOOV})
 

@@ -15,8 +15,8 @@ from pathlib import Path
 
 import chaldoref
 from chaldoref import (
-    FEATURES, ByteRange, MalformedSlip, Movie, Peak, ProfileRecord, Refusal, Refused, Sample, SampleAt, Stretch, Track,
-    read_any_slip, read_slip,
+    FEATURES, UNIVERSAL_PART, ByteRange, FilmReturn, MalformedSlip, Movie, Peak, ProfileRecord, QUAY_RULES, QuayFault, Refusal, Refused,
+    Sample, SampleAt, Stretch, Track, read_any_slip, read_slip,
 )
 
 W = Path("films/w.mov").read_bytes()
@@ -239,6 +239,32 @@ class FilmsMadeOfW(Case):
                          (ProfileRecord(7, "avvb", 8800),))
         self.assertEqual(Movie(with_atom(W, prfl, b"mvhd", (b"moov",))).profile(0), (ProfileRecord(7, "avvb", 8800),))
 
+    def test_check_quay(self):
+        self.assertEqual(Movie(W).check_quay(), QuayFault(6, 1))
+        self.assertIs(Movie(TWO_HOSES).check_quay(), None)
+        self.assertEqual(QUAY_RULES[6], "no zero sizes")
+
+    def test_check_profile(self):
+        avvb = int.from_bytes(b"avvb", "big")
+        for value, fault in ((8800, None), (8799, 2)):
+            prfl = atom(b"prfl", numbers(0, 2, 0, 7, avvb, 1, 0, UNIVERSAL_PART, avvb, value))
+            self.assertEqual(Movie(with_atom(W, prfl, b"tkhd", (b"moov", b"trak"))).check_profile(1), fault)
+        self.assertIs(Movie(W).check_profile(1), None)
+        self.assertRefused(14, Movie(W).check_profile, 0)
+
+
+class Returns(Case):
+    def test_two_films_and_none(self):
+        quarter = FilmReturn()
+        for film in (W, TWO_HOSES, b""):
+            quarter.add(film)
+        self.assertEqual((quarter.accepted, quarter.tracks, quarter.samples, quarter.bytes), (2, 3, 16, 412))
+        self.assertEqual({number: films for number, films in quarter.refused.items() if films}, {3: 1})
+        self.assertEqual(quarter.scales, {600: 408})
+        size = int.from_bytes(W[:4], "big")
+        quarter.add_moov(W[:size], len(W))
+        self.assertEqual((quarter.accepted, quarter.scales), (3, {600: 528}))
+
 
 class TwoHoses(Case):
     def setUp(self):
@@ -393,13 +419,13 @@ class Header(unittest.TestCase):
         del constants["ANSWERED"]
         self.assertEqual({name: int(number) for name, number in constants.items()},
                          {refusal.name: refusal.value for refusal in Refusal})
-        self.assertEqual(len({refusal.words for refusal in Refusal}), 19)
+        self.assertEqual(len({refusal.words for refusal in Refusal}), 21)
 
     def test_sizes(self):
         for name in ("TRACK_NUMBERS", "PAIR_NUMBERS", "RECORD_NUMBERS", "EDIT_NUMBERS", "MAX_TRACKS", "MAX_PAIRS",
                      "MAX_RECORDS", "MAX_EDITS", "SLIP_HEAD_BYTES", "SLIP_PAIR_BYTES", "SLIP_WIDE_PAIR_BYTES",
                      "HEADER_BYTES", "TOP_LEVEL_PLACES", "STEPPER_NUMBERS", "SAMPLE_NUMBERS",
-                     "OPENED_NUMBERS", "CHECKPOINT_SAMPLES", "CHECKPOINT_NUMBERS"):
+                     "OPENED_NUMBERS", "CHECKPOINT_SAMPLES", "CHECKPOINT_NUMBERS", "FILM_RETURN_NUMBERS", "MAX_SCALES"):
             self.assertIn(f"CHALDOREF_{name} = {getattr(chaldoref, '_' + name)}", HEADER)
 
     def test_functions(self):

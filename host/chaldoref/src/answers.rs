@@ -190,6 +190,9 @@ pub struct StretchSize {
     pub bytes: u64,
 }
 
+/// The part-ID of the records of a profile that [`Movie::check_profile`](crate::Movie::check_profile) judges.
+pub const UNIVERSAL_PART: u32 = 0x2020_2020;
+
 /// A record of a stored profile.
 #[repr(C)]
 #[derive(Clone, Copy, Debug, Default, PartialEq, Eq, Hash)]
@@ -198,7 +201,7 @@ pub struct ProfileRecord {
     pub part: u32,
     /// The feature's code.
     pub code: FourCC,
-    /// The feature's value as the file has it; nothing checks it.
+    /// The feature's value as the file has it; [`Movie::check_profile`](crate::Movie::check_profile) judges it.
     pub value: u32,
 }
 

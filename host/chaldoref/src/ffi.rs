@@ -125,6 +125,24 @@ pub fn profile(film: Film, id: u32, room: &mut [ProfileRecord]) -> Result<[u64; 
     })
 }
 
+pub fn check_profile(film: Film, id: u32) -> Result<[u64; 1], Refusal> {
+    ask(|places, len| of_film!(film, chaldoref_check_profile, chaldoref_moov_check_profile, id, places, len))
+}
+
+pub fn check_quay(film: Film) -> Result<[u64; 2], Refusal> {
+    ask(|places, len| of_film!(film, chaldoref_check_quay, chaldoref_moov_check_quay, places, len))
+}
+
+/// As many numbers has a film return.
+pub const FILM_RETURN_NUMBERS: usize = 83;
+pub type FilmTotals = [u64; FILM_RETURN_NUMBERS];
+
+/// Adds a film to a return.
+pub fn film_return(film: Film, totals: &mut FilmTotals) -> Result<(), Refusal> {
+    let (totals, len) = (totals.as_mut_ptr(), totals.len());
+    answered(of_film!(film, chaldoref_film_return, chaldoref_moov_film_return, totals, len))
+}
+
 pub fn feature(film: Film, id: u32, code: u32) -> Result<[u64; 1], Refusal> {
     ask(|places, len| of_film!(film, chaldoref_feature, chaldoref_moov_feature, id, code, places, len))
 }

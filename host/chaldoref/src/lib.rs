@@ -40,7 +40,7 @@
 //! some hundredths of a second. A [`Movie`] keeps where a track's tables are: the first question about the samples, times
 //! or stretches of a track judges the film, and those after it do not. A lookup then grows with the entries of the tables
 //! before the sample, which [`Opened::indexed`] takes from it, and a stretch with those up to its end. The
-//! other questions, [`Movie::header`], [`Movie::edits`], [`Movie::profile`], [`Movie::feature`], [`Movie::peak`],
+//! other questions, [`Movie::header`], [`Movie::edits`], [`Movie::profile`], [`Movie::check_profile`], [`Movie::check_quay`], [`Movie::feature`], [`Movie::peak`],
 //! [`Movie::write_slip`] and the start of [`Movie::samples`], judge the film each time; the samples themselves take some
 //! nanoseconds each.
 //!
@@ -65,9 +65,11 @@ mod feature;
 #[allow(unsafe_code)]
 mod ffi;
 mod film;
+mod film_return;
 mod moov;
 mod movie;
 mod opened;
+mod quay;
 #[allow(missing_docs)]
 pub mod raw;
 mod refusal;
@@ -76,12 +78,16 @@ mod samples;
 mod slip;
 mod units;
 
-pub use answers::{Edit, Header, Peak, ProfileRecord, Sample, SampleAt, Shown, Stretch, StretchSize, Track};
+pub use answers::{
+    Edit, Header, Peak, ProfileRecord, Sample, SampleAt, Shown, Stretch, StretchSize, Track, UNIVERSAL_PART,
+};
 pub use feature::{Feature, UnknownFeature};
 pub use film::Film;
+pub use film_return::{FilmReturn, MAX_SCALES};
 pub use moov::{Moov, ReadError};
 pub use movie::{strict_refusal, Movie, MAX_FILE_BYTES, MAX_LENGTH};
 pub use opened::{Indexed, Opened};
+pub use quay::{QuayFault, QuayRule};
 pub use refusal::{Refusal, UnknownRefusal};
 pub use samples::Samples;
 pub use slip::{AnySlip, MalformedSlip, Slip};

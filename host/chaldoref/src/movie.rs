@@ -3,6 +3,7 @@ use crate::answers::{Edit, Header, Peak, ProfileRecord, Sample, SampleAt, Shown,
 use crate::ffi::{self, broken, promised, Handle};
 use crate::film::Film;
 use crate::opened::Opened;
+use crate::quay::{QuayFault, QuayRule};
 use crate::refusal::Refusal;
 use crate::room::room;
 use crate::samples::Samples;
@@ -332,6 +333,55 @@ impl<'a> Movie<'a> {
     pub fn movie_profile(&self) -> Vec<ProfileRecord> {
         // No refusal is left for ID 0: the file is accepted and the room enough.
         self.profile(TrackId(0)).unwrap_or_else(|_| broken())
+    }
+
+    /// Whether the stored profile of a track is true: `None` if it is, also without one; or the place of the first record
+    /// at fault, from 1, in [`Movie::profile`].
+    ///
+    /// Of the records with the part-ID [`UNIVERSAL_PART`](crate::UNIVERSAL_PART) each with the code of a
+    /// [`Feature`](crate::Feature) is at least that feature, `tvsz` in each half; one whose feature cannot be computed is at
+    /// fault. If there is one with the code `vfmt` in a `vide` track, or `afmt` in a `soun` track, their values are exactly the
+    /// formats of the track's descriptions; a format that none has is charged to the first of them. All others are passed
+    /// over.
+    ///
+    /// ```
+    /// use chaldoref::{Movie, Refusal, TrackId};
+    ///
+    /// # std::env::set_current_dir("../..")?;
+    /// let file = std::fs::read("films/w.mov")?;
+    /// let movie = Movie::open(&file)?;
+    /// assert_eq!(movie.check_profile(TrackId(1))?, None);
+    /// assert_eq!(movie.check_profile(TrackId(2)), Err(Refusal::NoTrack));
+    /// # Ok::<(), Box<dyn std::error::Error>>(())
+    /// ```
+    ///
+    /// # Errors
+    ///
+    /// [`Refusal::NoTrack`], also for `TrackId(0)`.
+    pub fn check_profile(&self, id: TrackId) -> Result<Option<u32>, Refusal> {
+        let [place] = ffi::check_profile(self.film, id.0)?;
+        Ok((place != 0).then(|| promised(place)))
+    }
+
+    /// Whether the movie keeps the quay film profile, the subset of films that camera contracts name: `None` if it does; or the
+    /// lowest of its rules that any track breaks, with the first track that breaks it.
+    ///
+    /// ```
+    /// use chaldoref::{Movie, QuayRule, TrackId};
+    ///
+    /// # std::env::set_current_dir("../..")?;
+    /// assert_eq!(Movie::open(&std::fs::read("films/two-hoses.mov")?)?.check_quay(), None);
+    /// let fault = Movie::open(&std::fs::read("films/w.mov")?)?.check_quay().unwrap();
+    /// assert_eq!((fault.rule, fault.track), (QuayRule::Sizes, Some(TrackId(1))));
+    /// # Ok::<(), Box<dyn std::error::Error>>(())
+    /// ```
+    #[must_use]
+    pub fn check_quay(&self) -> Option<QuayFault> {
+        // The film is accepted, so that no refusal is left.
+        let [rule, id] = ffi::check_quay(self.film).unwrap_or_else(|_| broken());
+        let rule =
+            if rule == 0 { None } else { Some(QuayRule::from_number(promised(rule)).unwrap_or_else(|| broken())) };
+        rule.map(|rule| QuayFault { rule, track: (id != 0).then(|| TrackId(promised(id))) })
     }
 
     /// A feature computed from a track's tables, by its [`Feature`](crate::Feature) or any four-character code.

@@ -73,6 +73,18 @@ extern "C" {
         places_len: usize,
     ) -> u32;
 
+    pub fn chaldoref_check_profile(
+        file: *const u8,
+        file_len: usize,
+        id: u32,
+        places: *mut u64,
+        places_len: usize,
+    ) -> u32;
+
+    pub fn chaldoref_check_quay(file: *const u8, file_len: usize, places: *mut u64, places_len: usize) -> u32;
+
+    pub fn chaldoref_film_return(file: *const u8, file_len: usize, totals: *mut u64, totals_len: usize) -> u32;
+
     pub fn chaldoref_feature(
         file: *const u8,
         file_len: usize,
@@ -174,6 +186,31 @@ extern "C" {
         room_len: usize,
         places: *mut u64,
         places_len: usize,
+    ) -> u32;
+
+    pub fn chaldoref_moov_check_profile(
+        moov: *const u8,
+        moov_len: usize,
+        length: u64,
+        id: u32,
+        places: *mut u64,
+        places_len: usize,
+    ) -> u32;
+
+    pub fn chaldoref_moov_check_quay(
+        moov: *const u8,
+        moov_len: usize,
+        length: u64,
+        places: *mut u64,
+        places_len: usize,
+    ) -> u32;
+
+    pub fn chaldoref_moov_film_return(
+        moov: *const u8,
+        moov_len: usize,
+        length: u64,
+        totals: *mut u64,
+        totals_len: usize,
     ) -> u32;
 
     pub fn chaldoref_moov_feature(

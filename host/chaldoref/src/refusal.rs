@@ -13,7 +13,7 @@ use std::fmt;
 /// use chaldoref::Refusal;
 ///
 /// assert_eq!((Refusal::try_from(15), u32::from(Refusal::Outside)), (Ok(Refusal::Outside), 15));
-/// assert_eq!(Refusal::try_from(20).unwrap_err().to_string(), "no refusal has the number 20");
+/// assert_eq!(Refusal::try_from(22).unwrap_err().to_string(), "no refusal has the number 22");
 /// ```
 #[non_exhaustive]
 #[derive(Clone, Copy, Debug, PartialEq, Eq, PartialOrd, Ord, Hash)]
@@ -58,6 +58,10 @@ pub enum Refusal {
     NotComputed = 18,
     /// 19: a sample description names data in another file, or no such data reference.
     DataElsewhere = 19,
+    /// 20: a film return would meet a thirty-third time scale.
+    TooManyScales = 20,
+    /// 21: a total of a film return would reach 2^64.
+    TotalTooGreat = 21,
 }
 
 impl Refusal {
@@ -82,6 +86,8 @@ impl Refusal {
         Refusal::MalformedSlip,
         Refusal::NotComputed,
         Refusal::DataElsewhere,
+        Refusal::TooManyScales,
+        Refusal::TotalTooGreat,
     ];
 
     /// The refusal's number in documents 01 and 02, from 1.
@@ -147,6 +153,8 @@ impl Refusal {
             Refusal::MalformedSlip => "a slip is malformed",
             Refusal::NotComputed => "the feature cannot be computed",
             Refusal::DataElsewhere => "a description names data elsewhere, or no such data reference",
+            Refusal::TooManyScales => "a thirty-third time scale would be met",
+            Refusal::TotalTooGreat => "a total would reach 2^64",
         }
     }
 }

@@ -20,10 +20,10 @@ struct film {
 static void print_words(void)
 {
     uint32_t number;
-    for (number = 0; number <= CHALDOREF_DATA_ELSEWHERE + 1; number++)
+    for (number = 0; number <= CHALDOREF_TOTAL_TOO_GREAT + 1; number++)
         printf("refusal %" PRIu32 ": %s\n", number, chaldoref_refusal_text(number));
     printf("refusal %" PRIu32 ": %s\n", UINT32_MAX, chaldoref_refusal_text(UINT32_MAX));
-    for (number = 0; number <= CHALDOREF_DATA_ELSEWHERE + 1; number++)
+    for (number = 0; number <= CHALDOREF_TOTAL_TOO_GREAT + 1; number++)
         printf("of a moov %" PRIu32 ": %s\n", number, chaldoref_moov_refusal_text(number, 8, 7));
     printf("of a moov 1: %s\n", chaldoref_moov_refusal_text(1, 8, UINT64_C(1) << 63));
     if (SIZE_MAX > 2147483647u)

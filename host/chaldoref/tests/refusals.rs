@@ -3,8 +3,8 @@ use chaldoref::{Feature, FourCC, MediaTime, Movie, MovieTime, Refusal, Slip, Tra
 use reference::film::{self, w, w_movie, w_track};
 use reference::made::spoiled;
 
-/// The two tables of document 01, with document 02's additions to 6 and its 19.
-const PAPER: [&str; 19] = [
+/// The two tables of document 01, with document 02's additions to 6 and its 19 to 21.
+const PAPER: [&str; 21] = [
     "the file is longer than 2,147,483,647 bytes",
     "an atom's size is wrong, passes its parent's end, or 1 to 7 bytes (under 16 for a 64-bit size) remain",
     "an atom is absent or occurs too often",
@@ -24,6 +24,8 @@ const PAPER: [&str; 19] = [
     "a slip is malformed",
     "the feature cannot be computed",
     "a description names data elsewhere, or no such data reference",
+    "a thirty-third time scale would be met",
+    "a total would reach 2^64",
 ];
 
 #[test]
@@ -35,7 +37,7 @@ fn numbers_and_words() {
         assert_eq!((Refusal::try_from(number), u32::from(refusal)), (Ok(refusal), number));
     }
     assert_eq!(Refusal::ALL.len(), PAPER.len());
-    for number in [0, 20, u32::MAX] {
+    for number in [0, 22, u32::MAX] {
         assert_eq!(Refusal::from_number(number), None);
         let error = Refusal::try_from(number).unwrap_err();
         assert_eq!((error.number, error.to_string()), (number, format!("no refusal has the number {number}")));

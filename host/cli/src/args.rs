@@ -36,6 +36,9 @@ pub enum Ask {
     Check { slips: Vec<OsString> },
     Features { track: TrackId, code: Option<FourCC> },
     Profile { track: Option<TrackId> },
+    CheckProfile { track: TrackId },
+    CheckQuay,
+    FilmReturn,
 }
 
 pub fn parse(words: impl IntoIterator<Item = OsString>) -> Result<Parsed, Failure> {
@@ -181,6 +184,7 @@ impl Words {
         let given = self.operands.len();
         match self.command.operands {
             [_] => 0,
+            [_, _] => 1,
             _ if given > 2 && number(&self.operands[given - 2]).is_some() => 2,
             _ => 1,
         }

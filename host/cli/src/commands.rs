@@ -1,11 +1,16 @@
 //! What each command prints, for people and for machines.
 mod check;
+mod check_profile;
+mod check_quay;
 mod edits;
 mod features;
+mod film_return;
 mod questions;
 mod ranges;
 mod samples;
 mod slips;
+
+pub use film_return::film_return;
 
 use crate::args::{Ask, Request};
 use crate::failure::Failure;
@@ -94,6 +99,8 @@ fn answer(request: &Request, name: &OsStr, out: &mut dyn Write) -> Result<(), Fa
         Ask::Features { track, code: None } => features::features(&movie()?, *track, to),
         Ask::Features { track, code: Some(code) } => features::feature(&movie()?, *track, *code, to),
         Ask::Profile { track } => questions::profile(&movie()?, *track, to),
+        Ask::CheckQuay => check_quay::check_quay(&movie()?, to),
+        Ask::CheckProfile { track } => check_profile::check_profile(&movie()?, *track, to),
         Ask::Stretch { track, time, bytes: false } => ranges::stretch(&movie()?, *track, time, to),
         Ask::Stretch { track, time, bytes: true } => ranges::stretch_bytes(&film, &movie()?, *track, time, to),
         Ask::Slip { track, time, out: None } => ranges::slip(&film, &filed()?, *track, time, to),
@@ -103,6 +110,7 @@ fn answer(request: &Request, name: &OsStr, out: &mut dyn Write) -> Result<(), Fa
         }
         Ask::Check { slips } => check::check(&movie()?, slips, to),
         Ask::ReadSlip { .. } => unreachable!("a slip is no film"),
+        Ask::FilmReturn => unreachable!("it is of all films together"),
     }
 }
 
@@ -116,7 +124,7 @@ pub fn failed(failure: &Failure, file: Option<&OsStr>, out: &mut dyn Write) -> i
         Failure::Malformed(fault) => document(out, file, |o| slips::fault_fields(o, fault)),
         Failure::Usage(wrong, _) => document(out, file, |o| o.put("error", wrong.clone()).map(drop)),
         Failure::Input(error) => document(out, file, |o| o.put("error", error.to_string()).map(drop)),
-        Failure::NotWritten(..) | Failure::Output(_) | Failure::NotAllGood { .. } => Ok(()),
+        Failure::NotWritten(..) | Failure::Output(_) | Failure::NotAllGood { .. } | Failure::Skipped { .. } => Ok(()),
     }
 }
 

@@ -25,8 +25,10 @@ pub enum Failure {
     NotWritten(OsString, io::Error),
     /// Standard output could not be written.
     Output(io::Error),
-    /// Slips were checked, and not all is good: the report says why. Whether some could not be read.
+    /// Slips, a profile or a film's rules were checked, and not all is good: the report says why. Whether some could not be read.
     NotAllGood { unread: bool },
+    /// Films were left out of a return, for reasons that were told. Whether some could not be read.
+    Skipped { unread: bool },
 }
 
 impl From<Refusal> for Failure {
@@ -61,7 +63,8 @@ impl Failure {
             Failure::Film(..)
             | Failure::Refused(..)
             | Failure::Malformed(_)
-            | Failure::NotAllGood { unread: false } => REFUSED,
+            | Failure::NotAllGood { unread: false }
+            | Failure::Skipped { unread: false } => REFUSED,
             _ if self.is_broken_pipe() => SUCCESS,
             _ => BAD_USAGE,
         }
@@ -78,7 +81,7 @@ impl Failure {
             Failure::NotWritten(name, error) => format!("chaldoref: {}: {error}\n", input::named(name)),
             Failure::Output(_) if self.is_broken_pipe() => String::new(),
             Failure::Output(error) => format!("chaldoref: standard output: {error}\n"),
-            Failure::NotAllGood { .. } => String::new(),
+            Failure::NotAllGood { .. } | Failure::Skipped { .. } => String::new(),
         }
     }
 }

@@ -7,7 +7,9 @@ use crate::input::{self, MOST_BYTES, STANDARD};
 use crate::progress::Progress;
 use crate::warnings::disagreements;
 use crate::zeros::zeros;
-use chaldoref::{strict_refusal, ByteRange, FourCC, Moov, Movie, ReadError, Refusal, MAX_FILE_BYTES};
+use chaldoref::{
+    self as lent, strict_refusal, ByteRange, FilmReturn, FourCC, Moov, Movie, ReadError, Refusal, MAX_FILE_BYTES,
+};
 use std::borrow::Cow;
 use std::ffi::OsStr;
 use std::fs::File;
@@ -79,6 +81,18 @@ impl Film {
         }
     }
 
+    /// Adds the film to a return. One whose top level is refused is counted by its whole, or, where it is too long to be lent so, by bytes that
+    /// are refused with the same number.
+    pub fn file(&self, totals: &mut FilmReturn) -> Result<(), Refusal> {
+        match &self.moov {
+            Ok(moov) => totals.add(moov),
+            Err(error) => match self.whole() {
+                Some(whole) => totals.add(&whole[..]),
+                None => totals.add(refused_as(error.refusal().unwrap_or(Refusal::FileTooLong))),
+            },
+        }
+    }
+
     /// A slip that is not written, for the film's sake where it stores another duration than its samples total.
     pub fn slip_refused(&self, movie: &Movie, failure: Failure) -> Failure {
         match failure {
@@ -137,6 +151,15 @@ impl Film {
             Kept::File(file) => tables(file).map(Cow::Owned),
             Kept::Bytes(bytes) => Some(Cow::Borrowed(bytes)),
         }
+    }
+}
+
+/// Bytes that are refused with that number, one of those that a film's top level can be refused with.
+fn refused_as(refusal: Refusal) -> lent::Film<'static> {
+    match refusal {
+        Refusal::AtomSize => lent::Film::Whole(&[0]),
+        Refusal::AtomCount => lent::Film::Whole(&[]),
+        _ => lent::Film::Moov { moov: &[], length: u64::MAX },
     }
 }
 

@@ -16,12 +16,13 @@ samples, from 1; without FROM a track is listed from 1, without TO to its end.
 ";
 
 const REST: &str = "\
---json prints one JSON document for each FILE, and samples one for each sample.
+--json prints one JSON document for each FILE, samples one for each sample, and
+film-return one for all films.
 chaldoref COMMAND --help tells the options of a command; the page chaldoref(1)
 tells all. chaldoref completion bash prints the completion for bash. Exit
 status: 0 answered; 1 refused, for the reason on standard error, or something
-that check found is not good; 2 bad usage, unreadable file or no memory. Of
-several files the greatest counts.
+that check, check-profile or check-quay found is not good; 2 bad usage,
+unreadable file or no memory. Of several files the greatest counts.
 ";
 
 impl Command {

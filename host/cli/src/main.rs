@@ -26,7 +26,7 @@ mod warnings;
 #[allow(unsafe_code)]
 mod zeros;
 
-use args::{Parsed, Request};
+use args::{Ask, Parsed, Request};
 use failure::{worse, Failure, SUCCESS};
 use std::ffi::{OsStr, OsString};
 use std::io::{self, BufWriter, Write};
@@ -40,6 +40,9 @@ fn main() -> ExitCode {
     let json = args::has_json(&words);
     let status = match args::parse(words) {
         Ok(Parsed::Text(text)) => end("", print(|out| Ok(out.write_all(text.as_bytes())?))),
+        Ok(Parsed::Run(request)) if matches!(request.ask, Ask::FilmReturn) => {
+            end("", print(|out| commands::film_return(&request, out)))
+        }
         Ok(Parsed::Run(request)) => {
             request.files.iter().map(|file| end(&input::called(file), answer(&request, file))).max().unwrap_or(SUCCESS)
         }

@@ -22,6 +22,7 @@ pub struct Command {
 pub const JSON: Opt = Opt { flag: "--json", value: None, about: "print one JSON document" };
 pub const JSON_LINES: Opt =
     Opt { flag: "--json", value: None, about: "print a JSON document for each sample, a line each" };
+pub const JSON_ALL: Opt = Opt { flag: "--json", value: None, about: "print one JSON document of all films" };
 pub const CSV: Opt = Opt { flag: "--csv", value: None, about: "print lines of comma-separated numbers" };
 pub const BYTES: Opt = Opt { flag: "--bytes", value: None, about: "write the film's own bytes instead" };
 pub const HEX: Opt = Opt { flag: "--hex", value: None, about: "read hex text, whatever it begins with" };
@@ -30,7 +31,7 @@ pub const OUT: Opt = Opt { flag: "-o", value: Some("OUT"), about: "write raw byt
 /// What stands in the place of a command and asks no film.
 pub const HELPERS: [&str; 2] = ["completion", "help"];
 
-pub static COMMANDS: [Command; 12] = [
+pub static COMMANDS: [Command; 15] = [
     Command {
         name: "tracks",
         operands: &["FILE..."],
@@ -117,6 +118,27 @@ pub static COMMANDS: [Command; 12] = [
         options: &[&JSON],
         about: "the stored profile of a movie, or of a track",
         ask: |words| Ok(Ask::Profile { track: words.if_given(1, Words::track)? }),
+    },
+    Command {
+        name: "check-profile",
+        operands: &["FILE...", "TRACK"],
+        options: &[&JSON],
+        about: "whether the stored profile of a track is true, or its first record at fault",
+        ask: |words| Ok(Ask::CheckProfile { track: words.track(1)? }),
+    },
+    Command {
+        name: "check-quay",
+        operands: &["FILE..."],
+        options: &[&JSON],
+        about: "whether each film keeps the quay film profile, or the rule that it breaks",
+        ask: |_| Ok(Ask::CheckQuay),
+    },
+    Command {
+        name: "film-return",
+        operands: &["FILE..."],
+        options: &[&JSON_ALL],
+        about: "the totals of all films: how many, their tracks, samples, bytes and film time",
+        ask: |_| Ok(Ask::FilmReturn),
     },
 ];
 

@@ -375,3 +375,124 @@ fn profiles() {
     answers("profile films/w.mov", "part  code  value  hex\n");
     answers("profile films/w.mov 1 --json", "{\"format\":1,\"file\":\"films/w.mov\",\"track\":1,\"records\":[]}\n");
 }
+
+/// A track of W's kind whose profile has these records, each with the universal part-ID.
+fn claiming(records: &[(&[u8; 4], u32)]) -> Vec<u8> {
+    let profile = records.iter().map(|(code, value)| [0, 0x2020_2020, u32::from_be_bytes(**code), *value]).collect();
+    film_of(vec![film::Track { profile: Some(profile), ..w_track() }])
+}
+
+#[test]
+fn true_profiles() {
+    let film = claiming(&[(b"avvb", 8800), (b"vfmt", u32::from_be_bytes(*b"jpeg")), (b"abcd", 7)]);
+    answers_on(
+        &film,
+        &["check-profile", "-", "1"],
+        "record       part  code       value  computed\n     \
+              1  538976288  avvb        8800      8800\n     \
+              2  538976288  vfmt  1785750887         -\n     \
+              3  538976288  abcd           7         -\n\
+         the profile of track 1 is true\n",
+    );
+    answers(
+        "check-profile films/w.mov 1",
+        "record  part  code  value  computed\ntrack 1 has no profile, and none is untrue\n",
+    );
+    answers(
+        "check-profile films/w.mov 1 --json",
+        "{\"format\":1,\"file\":\"films/w.mov\",\"track\":1,\"true\":true,\"fault\":null,\"records\":[]}\n",
+    );
+}
+
+#[test]
+fn records_at_fault() {
+    let told = |film: &[u8], line: &str| {
+        let ran = run_on(film, &["check-profile", "-", "1"]);
+        assert_eq!((ran.out.lines().last(), ran.err.as_str(), ran.status), (Some(line), "", 1));
+    };
+    told(
+        &claiming(&[(b"vfps", u32::MAX), (b"avvb", 8799)]),
+        "record 2 is at fault: avvb is 8799, and 8800 is computed",
+    );
+    told(&claiming(&[(b"avab", 9)]), "record 1 is at fault: avab is 9, and none can be computed of this track");
+    told(
+        &claiming(&[(b"tvsz", 0xffff_0000)]),
+        "record 1 is at fault: tvsz is 65535 x 0 pixels, and 320 x 240 pixels is computed",
+    );
+    told(
+        &claiming(&[(b"vfmt", u32::from_be_bytes(*b"jpeg")), (b"vfmt", u32::from_be_bytes(*b"avc1"))]),
+        "record 2 is at fault: vfmt names avc1; such records name all formats of the track's descriptions, and no others",
+    );
+    let json = run_on(&claiming(&[(b"avvb", 8799)]), &["check-profile", "-", "1", "--json"]);
+    let records = "[{\"part\":538976288,\"code\":\"avvb\",\"value\":8799,\"computed\":8800}]";
+    let out = format!("{{\"format\":1,\"file\":\"-\",\"track\":1,\"true\":false,\"fault\":1,\"records\":{records}}}\n");
+    assert_eq!((json.out, json.status), (out, 1));
+}
+
+#[test]
+fn the_quay_film_profile() {
+    answers("check-quay films/two-hoses.mov", "the film keeps the quay film profile\n");
+    answers(
+        "check-quay films/two-hoses.mov --json",
+        "{\"format\":1,\"file\":\"films/two-hoses.mov\",\"keeps\":true,\"rule\":null,\"words\":null,\"track\":null}\n",
+    );
+    let told = |film: &[u8], args: &[&str], out: &str| {
+        let ran = run_on(film, args);
+        assert_eq!((ran.out.as_str(), ran.err.as_str(), ran.status), (out, "", 1));
+    };
+    told(&film_of(vec![w_track()]), &["check-quay", "-"], "rule 6 is broken by track 1: no zero sizes\n");
+    told(
+        &film_of(vec![]),
+        &["check-quay", "-"],
+        "rule 1 is broken by the movie: one or two vide tracks and no others\n",
+    );
+    told(
+        &film_of(vec![w_track()]),
+        &["check-quay", "-", "--json"],
+        "{\"format\":1,\"file\":\"-\",\"keeps\":false,\"rule\":6,\"words\":\"no zero sizes\",\"track\":1}\n",
+    );
+}
+
+/// The lines of the refusals, of which one film has that number.
+fn refused_once(number: u32) -> String {
+    let lines = (1..=13).chain([19]).map(|n| format!("refused {n} {}\n", u32::from(n == number)));
+    lines.collect()
+}
+
+#[test]
+fn film_returns() {
+    let out = format!("accepted 2\n{}tracks 3\nsamples 16\nbytes 412\nscale 600 408\n", refused_once(3));
+    answers("film-return films/w.mov films/two-hoses.mov README.md", &out);
+    let ran = run_on(&film_of(vec![w_track()]), &["film-return", "none.mov", "-"]);
+    let totals = format!("accepted 1\n{}tracks 1\nsamples 4\nbytes 220\nscale 600 120\n", refused_once(0));
+    assert_eq!(ran.out, format!("skipped none.mov\n{totals}"));
+    assert_eq!((ran.err.as_str(), ran.status), ("chaldoref: none.mov: No such file or directory (os error 2)\n", 2));
+    let json = run_on(&film_of(vec![w_track()]), &["film-return", "none.mov", "-", "--json"]);
+    assert!(json
+        .out
+        .starts_with("{\"format\":1,\"skipped\":[\"none.mov\"],\"accepted\":1,\"refused\":[{\"refusal\":1,"));
+    assert!(json.out.ends_with(
+        "\"tracks\":1,\"samples\":4,\"bytes\":220,\"scales\":[{\"scale\":600,\"total\":120,\"total_seconds\":0.2}]}\n"
+    ));
+}
+
+/// Sixteen tracks a film, each with a scale of its own.
+#[test]
+fn a_thirty_third_scale() {
+    let film =
+        |first: u32| film_of((0..16).map(|n| film::Track { id: n + 1, scale: first + n, ..w_track() }).collect());
+    let folder = common::Folder::new("scales");
+    for (name, first) in [("a.mov", 100), ("b.mov", 116), ("c.mov", 132)] {
+        folder.file(name, &film(first));
+    }
+    let names = ["a.mov", "b.mov", "c.mov", "a.mov"].map(|name| folder.path(name).to_str().unwrap().to_string());
+    let ran = run(&[&["film-return".to_string()][..], &names].concat());
+    let third = format!("skipped {}\naccepted 3\n", names[2]);
+    assert!(ran.out.starts_with(&third), "{}", ran.out);
+    assert_eq!(ran.out.matches("scale ").count(), 32);
+    assert!(ran.out.contains("\nscale 100 240\n") && ran.out.contains("\nscale 131 120\n"), "{}", ran.out);
+    assert_eq!(
+        (ran.err, ran.status),
+        (format!("chaldoref: {}: refused 20: a thirty-third time scale would be met\n", names[2]), 1)
+    );
+}

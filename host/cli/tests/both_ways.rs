@@ -8,7 +8,7 @@ use std::fs::{self, File};
 use std::os::unix::fs::FileExt;
 
 /// Every command and option that asks about a film.
-const LINES: [&str; 22] = [
+const LINES: [&str; 26] = [
     "tracks FILM",
     "tracks FILM --json",
     "sample FILM 1 2",
@@ -29,6 +29,10 @@ const LINES: [&str; 22] = [
     "features FILM 2 avvb --json",
     "profile FILM",
     "profile FILM 1 --json",
+    "check-profile FILM 1",
+    "check-profile FILM 2 --json",
+    "check-quay FILM",
+    "check-quay FILM --json",
     "check FILM w.slip",
     "check FILM w.slip --json",
 ];

@@ -19,6 +19,7 @@ fn questions_refused() {
     refuses("sample films/w.mov 2 1", "chaldoref: films/w.mov: refused 14: no track has that ID\n");
     refuses("features films/w.mov 2", "chaldoref: films/w.mov: refused 14: no track has that ID\n");
     refuses("profile films/w.mov 2", "chaldoref: films/w.mov: refused 14: no track has that ID\n");
+    refuses("check-profile films/w.mov 0", "chaldoref: films/w.mov: refused 14: no track has that ID\n");
     let features = |code, hint| {
         let said = format!("chaldoref: films/w.mov: refused 18: the feature cannot be computed\n{hint}");
         refuses(&format!("features films/w.mov 1 {code}"), &said);
@@ -181,7 +182,8 @@ fn bad_usage(line: &str, wrong: &str, usage: &str) {
 fn usage() {
     let all = "COMMAND FILE ...\n       chaldoref --help\n\
                commands: tracks, sample, samples, at, map, edits, stretch, slip, read-slip,\n\
-               check, features, profile, completion, help";
+               check, features, profile, check-profile, check-quay, film-return, completion,\n\
+               help";
     bad_usage("", "no command is named", all);
     for line in ["track films/w.mov", "help track"] {
         bad_usage(line, "there is no command 'track'; did you mean tracks?", all);
@@ -197,6 +199,7 @@ fn usage() {
     bad_usage("completion zsh", "there is no completion for 'zsh'", "completion bash");
     bad_usage("tracks", "FILE is missing", "tracks FILE... [--json]");
     bad_usage("profile a 1 b", "'b' is one argument too many", "profile FILE [TRACK] [--json]");
+    bad_usage("check-profile a", "TRACK is missing", "check-profile FILE... TRACK [--json]");
     bad_usage("tracks a --bytes", "tracks has no option '--bytes'", "tracks FILE... [--json]");
     bad_usage("sample a 1", "N is missing", "sample FILE TRACK N [--bytes] [--json]");
     let samples = "samples FILE TRACK [FROM [TO]] [--json] [--csv]";

@@ -34,7 +34,13 @@ fn each_film_is_named() {
                     movie scale 600, stored duration 144 (00:00:00.240)\n\n";
     assert_eq!(run(&["tracks", W, HOSES]), Ran { out: expected.into(), err: String::new(), status: 0 });
     for films in [&[W, HOSES][..], &[HOSES, W, W]] {
-        for line in ["tracks FILE", "features FILE 1", "features FILE 1 avvb", "features FILE 0x1 0x61767662"] {
+        for line in [
+            "tracks FILE",
+            "features FILE 1",
+            "features FILE 1 avvb",
+            "features FILE 0x1 0x61767662",
+            "check-profile FILE 1",
+        ] {
             answers_each(line, films);
             documents_each(&format!("{line} --json"), films);
         }

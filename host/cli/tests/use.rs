@@ -9,7 +9,7 @@ use std::fs::File;
 use std::os::unix::ffi::OsStringExt;
 use std::process::{Command, Stdio};
 
-const COMMANDS: [&str; 12] = [
+const COMMANDS: [&str; 15] = [
     "tracks",
     "sample",
     "samples",
@@ -22,6 +22,9 @@ const COMMANDS: [&str; 12] = [
     "check",
     "features",
     "profile",
+    "check-profile",
+    "check-quay",
+    "film-return",
 ];
 
 #[test]

@@ -185,6 +185,8 @@ pub fn questions(random: &mut Random, film: &Result<Movie, u32>) -> Vec<Question
         Question::Movie,
         Question::Edits { id: id(random, track) },
         Question::Profile { id: random.one(&[0, profile_id, profile_id]) },
+        Question::CheckProfile { id: id(random, track) },
+        Question::CheckQuay,
         Question::Feature { id: id(random, track), code: code(random, track) },
         Question::Peak { id: id(random, track), code: code(random, track) },
         Question::WriteSlip { id: id(random, track), a: y.0, b: y.1 },

@@ -3,8 +3,8 @@ use crate::faults::FAULTS;
 use crate::question::{Way, KINDS};
 use std::fmt::Write;
 
-/// Refusals are numbered from 1 to 19; 0 is an answer.
-const NUMBERS: usize = 20;
+/// Refusals are numbered from 1 to 21; 0 is an answer.
+const NUMBERS: usize = 22;
 
 /// The two ways in, in the order of `way_of`.
 const WAYS: [&str; 2] = ["whole files", "moovs alone"];
@@ -25,7 +25,14 @@ pub struct Counts {
     slips: [u64; 2],
     /// Malformed slips of the two kinds by what is at fault.
     faults: [[u64; FAULTS.len()]; 2],
+    /// Profiles that were found true, and those with a record at fault.
+    profiles: [u64; 2],
+    /// Films by the rule of the quay film profile that they break, 0 for none.
+    quay: [u64; QUAY_RULES + 1],
 }
+
+/// The rules of the quay film profile.
+const QUAY_RULES: usize = 9;
 
 impl Default for Counts {
     fn default() -> Counts {
@@ -36,6 +43,8 @@ impl Default for Counts {
             accepted: [0; KINDS.len()],
             slips: [0; 2],
             faults: [[0; FAULTS.len()]; 2],
+            profiles: [0; 2],
+            quay: [0; QUAY_RULES + 1],
         }
     }
 }
@@ -50,12 +59,19 @@ fn is_of_slip(kind: &str) -> bool {
     kind.ends_with("slip")
 }
 
+/// The questions that ask for no number in a track.
+const WITHOUT_15: [&str; 9] =
+    ["track_list", "movie", "edits", "profile", "check_profile", "check_quay", "feature", "peak", "open"];
+
 /// Whether include/chaldoref.h names that number for that question.
 fn can_meet(number: usize, kind: &str) -> bool {
     let kind = kind.strip_prefix("moov_").unwrap_or(kind);
     let reads = ["read_slip", "read_any_slip"].contains(&kind);
     if ["step", "steps", "index"].contains(&kind) {
         return [0, 16].contains(&number);
+    }
+    if kind == "film_return" {
+        return [0, 16, 20, 21].contains(&number);
     }
     if kind.starts_with("opened_") || kind.starts_with("indexed_") {
         return [0, 15, 16].contains(&number);
@@ -65,9 +81,10 @@ fn can_meet(number: usize, kind: &str) -> bool {
         17 => reads,
         _ if reads => false,
         11 => kind == "write_slip",
-        14 => !["track_list", "movie"].contains(&kind),
-        15 => !["track_list", "movie", "edits", "profile", "feature", "peak", "open"].contains(&kind),
+        14 => !["track_list", "movie", "check_quay"].contains(&kind),
+        15 => !WITHOUT_15.contains(&kind),
         18 => ["feature", "peak"].contains(&kind),
+        20 | 21 => false,
         _ => true,
     }
 }
@@ -95,6 +112,16 @@ impl Counts {
         if let Some(kind) = fault {
             self.faults[form][kind] += 1;
         }
+    }
+
+    /// The verdict on a profile.
+    pub fn profile(&mut self, is_true: bool) {
+        self.profiles[usize::from(!is_true)] += 1;
+    }
+
+    /// The rule of the quay film profile that a film breaks, 0 for none.
+    pub fn quay(&mut self, rule: u64) {
+        self.quay[usize::try_from(rule).unwrap()] += 1;
     }
 
     pub fn question(&mut self, kind: usize, number: u32) {
@@ -146,6 +173,17 @@ impl Counts {
         WAYS.iter().zip(&self.strict).map(line).collect::<Vec<_>>().join("\n")
     }
 
+    /// The verdicts on profiles, and on films by the quay film profile.
+    pub fn verdict_lines(&self) -> String {
+        let [good, bad] = self.profiles;
+        let quay: Vec<String> = self.quay.iter().map(u64::to_string).collect();
+        format!(
+            "profiles that are true: {good}, with a record at fault: {bad}\n\
+             films that keep the quay film profile, and that break rule 1 to 9 of it: {}",
+            quay.join(", ")
+        )
+    }
+
     /// How many slips were read, and how many of them were malformed where.
     pub fn slip_lines(&self) -> String {
         let line = |form: usize| {
@@ -177,6 +215,10 @@ impl Counts {
         }
         let unasked = KINDS.iter().zip(self.accepted).filter(|(kind, count)| *count == 0 && !is_of_slip(kind));
         all.extend(unasked.map(|(kind, _)| format!("{kind} was never answered of a film that is refused 11 strictly")));
+        let never = ["true", "at fault"].into_iter().zip(self.profiles).filter(|(_, count)| *count == 0);
+        all.extend(never.map(|(verdict, _)| format!("no profile was {verdict}")));
+        let never = self.quay.iter().enumerate().filter(|(_, count)| **count == 0);
+        all.extend(never.map(|(rule, _)| format!("no film met rule {rule} of the quay film profile")));
         for (form, faults) in self.faults.iter().enumerate() {
             let of = ["slip of form 1", "slip of form 2"][form];
             let never = FAULTS.iter().zip(faults).filter(|(_, count)| **count == 0);
@@ -208,6 +250,8 @@ mod tests {
             AFTER_11.into_iter().for_each(|number| counts.film(way, number.try_into().unwrap(), 11));
         }
         (0..KINDS.len()).for_each(|kind| counts.strict(kind, 0));
+        [true, false].into_iter().for_each(|verdict| counts.profile(verdict));
+        (0..=9).for_each(|rule| counts.quay(rule));
         for slip in [[1], [2]] {
             (0..FAULTS.len()).for_each(|kind| counts.slip(&slip, Some(kind)));
         }
@@ -228,12 +272,16 @@ mod tests {
         counts.strict[0][12] = 0;
         counts.accepted[5] = 0;
         counts.faults[1][4] = 0;
+        counts.profiles[0] = 0;
+        counts.quay[8] = 0;
         let expected = [
             "sample never met 15",
             "of whole files none was refused 7",
             "of whole files none was refused 11 strictly and 12 by default",
             "of moovs alone none was refused 1",
             "stretch was never answered of a film that is refused 11 strictly",
+            "no profile was true",
+            "no film met rule 8 of the quay film profile",
             "no slip of form 2 was malformed at: b",
         ];
         assert_eq!(counts.complaints(), expected);

@@ -111,6 +111,14 @@ impl Comparison {
         }
         let fault = |words| other(question, *way, lengths, words);
         match question {
+            Question::CheckProfile { .. } => {
+                self.counts.profile(places[0] == 0);
+                Ok(())
+            }
+            Question::CheckQuay => {
+                self.counts.quay(places[0]);
+                Ok(())
+            }
             Question::SampleBytes { .. } if places[0] + places[1] > u64::try_from(bytes.lent().len()).unwrap() => {
                 Err(fault("the sample's bytes pass the file's end"))
             }
@@ -158,6 +166,7 @@ impl Comparison {
         for question in peaks(&film.movie) {
             self.question(random, &asked, question)?;
         }
+        self.returns(random, bytes.lent(), way, film)?;
         self.steps(random, bytes.lent(), way, film)?;
         self.opened(random, bytes.lent(), way, film)?;
         if !bytes.are_unchanged() {

@@ -39,6 +39,8 @@ fn ask_whole(file: &[u8], question: Question, lending: &mut Lending) -> u32 {
             Question::Movie => chaldoref_movie(f, len, places, places_len),
             Question::Edits { id } => chaldoref_edits(f, len, id, wide.cast(), wide_len, places, places_len),
             Question::Profile { id } => chaldoref_profile(f, len, id, room, room_len, places, places_len),
+            Question::CheckProfile { id } => chaldoref_check_profile(f, len, id, places, places_len),
+            Question::CheckQuay => chaldoref_check_quay(f, len, places, places_len),
             Question::Feature { id, code } => chaldoref_feature(f, len, id, code, places, places_len),
             Question::Peak { id, code } => chaldoref_peak(f, len, id, code, places, places_len),
             Question::ReadSlip => chaldoref_read_slip(f, len, room, room_len, places, places_len),
@@ -71,6 +73,8 @@ fn ask_moov(moov: &[u8], length: u64, question: Question, lending: &mut Lending)
                 chaldoref_moov_edits(m, len, length, id, wide.cast(), wide_len, places, places_len)
             }
             Question::Profile { id } => chaldoref_moov_profile(m, len, length, id, room, room_len, places, places_len),
+            Question::CheckProfile { id } => chaldoref_moov_check_profile(m, len, length, id, places, places_len),
+            Question::CheckQuay => chaldoref_moov_check_quay(m, len, length, places, places_len),
             Question::Feature { id, code } => chaldoref_moov_feature(m, len, length, id, code, places, places_len),
             Question::Peak { id, code } => chaldoref_moov_peak(m, len, length, id, code, places, places_len),
             Question::WriteSlip { id, a, b } => {
@@ -79,6 +83,19 @@ fn ask_moov(moov: &[u8], length: u64, question: Question, lending: &mut Lending)
             Question::SampleBytes { .. } | Question::ReadSlip | Question::ReadAnySlip => {
                 unreachable!("not offered of a moov alone")
             }
+        }
+    }
+}
+
+/// A film added to a return.
+pub fn film_return(lent: &[u8], way: Way, totals: &mut Lent<u64>) -> u32 {
+    let (f, len) = (lent.as_ptr(), lent.len());
+    let (totals, totals_len) = (totals.pointer(), totals.len());
+    // SAFETY: as for a whole file.
+    unsafe {
+        match way {
+            Way::Whole => chaldoref_film_return(f, len, totals, totals_len),
+            Way::Moov(length) => chaldoref_moov_film_return(f, len, length, totals, totals_len),
         }
     }
 }

@@ -14,6 +14,7 @@ mod mapped;
 mod opened;
 mod options;
 mod question;
+mod returns;
 mod run;
 mod steps;
 
@@ -30,7 +31,7 @@ fn main() -> ExitCode {
     let mut run = run::Run::new(options.seed);
     let compared = run.all(&options);
     let counts = run.counts();
-    println!("{}{}\n{}", counts.table(), counts.strict_line(), counts.slip_lines());
+    println!("{}{}\n{}\n{}", counts.table(), counts.strict_line(), counts.verdict_lines(), counts.slip_lines());
     if let Err(words) = compared {
         println!("{words}");
         return ExitCode::FAILURE;

@@ -16,6 +16,8 @@ pub enum Question {
     Movie,
     Edits { id: u32 },
     Profile { id: u32 },
+    CheckProfile { id: u32 },
+    CheckQuay,
     Feature { id: u32, code: u32 },
     Peak { id: u32, code: u32 },
     ReadSlip,
@@ -31,7 +33,7 @@ pub enum Way {
 }
 
 /// How the functions are called, in the order of `Question::place`, and how many places each fills.
-const FUNCTIONS: [(&str, usize); 14] = [
+const FUNCTIONS: [(&str, usize); 16] = [
     ("track_list", 1),
     ("sample", 8),
     ("sample_bytes", 2),
@@ -46,11 +48,13 @@ const FUNCTIONS: [(&str, usize); 14] = [
     ("read_any_slip", 6),
     ("movie", 2),
     ("edits", 1),
+    ("check_profile", 1),
+    ("check_quay", 2),
 ];
 
-/// Every function of include/chaldoref.h but the step at top level: those of a whole file and of slips, then those of a moov alone, then the steps,
-/// those of a track that is opened once and those of its index.
-pub const KINDS: [&str; 2 * FUNCTIONS.len() - 3 + 14] = [
+/// Every function of include/chaldoref.h but the step at top level: those of a whole file and of slips, then those of a moov alone, then the film
+/// return, the steps, those of a track that is opened once and those of its index.
+pub const KINDS: [&str; 2 * FUNCTIONS.len() - 3 + 16] = [
     "track_list",
     "sample",
     "sample_bytes",
@@ -65,6 +69,8 @@ pub const KINDS: [&str; 2 * FUNCTIONS.len() - 3 + 14] = [
     "read_any_slip",
     "movie",
     "edits",
+    "check_profile",
+    "check_quay",
     "moov_track_list",
     "moov_sample",
     "moov_sample_at",
@@ -76,6 +82,10 @@ pub const KINDS: [&str; 2 * FUNCTIONS.len() - 3 + 14] = [
     "moov_write_slip",
     "moov_movie",
     "moov_edits",
+    "moov_check_profile",
+    "moov_check_quay",
+    "film_return",
+    "moov_film_return",
     "step_start",
     "moov_step_start",
     "step",
@@ -162,6 +172,8 @@ impl Question {
             Question::ReadAnySlip => 11,
             Question::Movie => 12,
             Question::Edits { .. } => 13,
+            Question::CheckProfile { .. } => 14,
+            Question::CheckQuay => 15,
         }
     }
 
@@ -224,6 +236,11 @@ impl Question {
             Question::Profile { id } => {
                 let records = movie.stored_profile(id)?;
                 listed(records.into_iter().map(|record| [record.part_id, record.code, record.value]))
+            }
+            Question::CheckProfile { id } => only(&[movie.profile_fault(id)?.unwrap_or(0)]),
+            Question::CheckQuay => {
+                let (rule, id) = movie.quay_fault().unwrap_or((0, 0));
+                only(&[rule, id])
             }
             Question::Feature { id, code } => only(&[u64::from(movie.feature(id, code)?)]),
             Question::Peak { id, code } => {

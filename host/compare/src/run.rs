@@ -6,7 +6,7 @@ use crate::films::{Bytes, Comparison};
 use crate::options::Options;
 use crate::question::Way;
 use chaldoref::{Moov, MAX_FILE_BYTES};
-use reference::maker::{self, alone, limits, slips, Random};
+use reference::maker::{self, alone, claims, limits, quay, slips, Random};
 use reference::movie::MoovAlone;
 use reference::slip::MOST_PAIRS;
 use std::panic::{catch_unwind, AssertUnwindSafe};
@@ -16,6 +16,9 @@ const ROUNDS: usize = 5;
 const LIMIT_ROUNDS: usize = 4;
 const BIG_ROUNDS: usize = 50;
 const FILE_ROUNDS: usize = 200;
+
+/// After as many films come one whose tracks have profiles that are true, or nearly, and one that keeps the quay film profile, or nearly.
+const JUDGED_EVERY: u64 = 8;
 
 /// A film of more bytes is not written down where there is a difference.
 const MOST_KEPT: usize = 1 << 28;
@@ -63,11 +66,16 @@ impl Run {
         self.on(name, film.moov, |all| all.film(random, &bytes, way, rounds))
     }
 
-    /// The film of an index, a moov of a film that is too long to be made, a slip of each form, and the same slips damaged.
+    /// The film of an index, at times one with profiles and one near the quay film profile, a moov of a film that is too long to be made, a slip of each form, and the same slips damaged.
     fn made(&mut self, index: u64) -> Result<(), String> {
         let mut random = Random::of(self.seed, index);
         let film = maker::film(&mut random);
         self.both_ways(&mut random, &format!("film {index}"), &film, ROUNDS)?;
+        if index % JUDGED_EVERY == 0 {
+            let (claiming, near) = (claims::claiming(&mut random), quay::quay(&mut random));
+            self.both_ways(&mut random, &format!("film {index} with profiles"), &claiming, ROUNDS)?;
+            self.both_ways(&mut random, &format!("film {index} by the quay's rules"), &near, ROUNDS)?;
+        }
         let MoovAlone { moov, length } = alone::film(&mut random);
         let film = MoovAlone { moov: &moov[..], length };
         self.moov(&mut random, &format!("moov {index} of {length} bytes"), film, ROUNDS)?;

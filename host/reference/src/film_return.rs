@@ -1,6 +1,6 @@
 //! Document 02, "The quarter's film return": totals over many movies, and the text that the program prints for the files it is told.
 use crate::movie::refusals::read;
-use crate::movie::tables::Track;
+use crate::movie::tables::{Movie, Track};
 
 pub const TOO_MANY_SCALES: u32 = 20;
 pub const TOO_GREAT: u32 = 21;
@@ -45,15 +45,15 @@ impl FilmReturn {
         self.refused[place] += 1;
     }
 
-    /// The return with the whole of a file in it, which may be too much.
-    fn with(&self, file: &[u8]) -> FilmReturn {
+    /// The return with the whole of a file in it, as it is read, which may be too much.
+    fn with(&self, file: &Result<Movie, u32>) -> FilmReturn {
         let mut all = self.clone();
-        match read(file) {
+        match file {
             Ok(movie) => {
                 all.accepted += 1;
                 movie.tracks.iter().for_each(|track| all.add_track(track));
             }
-            Err(number) => all.add_refused(number),
+            Err(number) => all.add_refused(*number),
         }
         all
     }
@@ -69,6 +69,11 @@ impl FilmReturn {
     /// Files a movie. "20 for a thirty-third scale, then 21 for a total that would reach 2^64; either leaves the return without any of that file": 0 for
     /// a file that is counted, be it accepted or refused.
     pub fn file(&mut self, file: &[u8]) -> u32 {
+        self.file_read(&read(file))
+    }
+
+    /// The same of a file that is read already, be it by its moov alone.
+    pub fn file_read(&mut self, file: &Result<Movie, u32>) -> u32 {
         let all = self.with(file);
         if all.scales.len() > MOST_SCALES {
             return TOO_MANY_SCALES;
