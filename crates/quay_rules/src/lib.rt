@@ -2,8 +2,8 @@
 use bigendian::after;
 use bigendian::u32_at;
 use rates::Feature;
+use words::number_in;
 use words::span;
-use words::word_at;
 ghost use mathlib.Core.Path.{_≡_};
 ghost use mathlib.Core.Bool.{true};
 ghost use lib.ListN.{replicate};
@@ -44,7 +44,7 @@ pub fn lacks_syncs(stss: &[u8], samples: u32) -> bool
         return false;
     }
     let numbers = after(stss, 16);
-    if word_at(numbers, 0) != 1 {
+    if number_in(numbers, false, 0) != 1 {
         return true;
     }
     has_long_group(numbers, samples)

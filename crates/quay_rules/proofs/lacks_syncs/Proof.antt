@@ -17,17 +17,17 @@ returns-2 c = let a = c .before .before .before .args in sym (all-sync (now (a .
 after-requires : tie.Need-after-requires
 after-requires c κs = search needs
 
-word-at-requires : tie.Need-word-at-requires
-word-at-requires c κs = search needs
+number-in-requires : tie.Need-number-in-requires
+number-in-requires c κs = search needs
 
 returns-3 : tie.Need-returns-3
-returns-3 c = sym (starts-late _ _ (omega (arith, c .before .before .before .before .if1 .left)) (c .before .before .before .if2 .left) (c .before .before .before .before .before .before .pre) (c .before .before .after .ensures) (c .before .word-at .ensures) (c .if3 .taken))
+returns-3 c = sym (starts-late _ _ (omega (arith, c .before .before .before .before .if1 .left)) (c .before .before .before .if2 .left) (c .before .before .before .before .before .before .pre) (c .before .before .after .ensures) (c .before .number-in .ensures) (c .if3 .taken))
 
 has-long-group-requires : tie.Need-has-long-group-requires
 has-long-group-requires c κs = search needs
 
 returns-4 : tie.Need-returns-4
-returns-4 c = c .has-long-group .ensures ∙ sym (by-numbers _ _ (omega (arith, c .before .before .before .before .before .if1 .left)) (c .before .before .before .before .if2 .left) (c .before .before .before .before .before .before .before .pre) (c .before .before .before .after .ensures) (c .before .before .word-at .ensures) (c .before .if3 .left))
+returns-4 c = c .has-long-group .ensures ∙ sym (by-numbers _ _ (omega (arith, c .before .before .before .before .before .if1 .left)) (c .before .before .before .before .if2 .left) (c .before .before .before .before .before .before .before .pre) (c .before .before .before .after .ensures) (c .before .before .number-in .ensures) (c .before .if3 .left))
 
 pub lacks-syncs-spec : {M : Type 1} → statement M
 lacks-syncs-spec =
@@ -36,7 +36,7 @@ lacks-syncs-spec =
     returns
     returns-2
     after-requires
-    word-at-requires
+    number-in-requires
     returns-3
     has-long-group-requires
     returns-4)
