@@ -92,6 +92,78 @@ fn edited() -> Vec<Case> {
     ]
 }
 
+/// Two seconds of sound, the second of them louder: the average is not the highest rate.
+fn two_seconds() -> Track {
+    Track {
+        subtype: *b"soun",
+        scale: 4,
+        duration: 8,
+        descriptions: vec![description(b"twos", 16)],
+        stts: vec![(8, 1)],
+        stsc: vec![(1, 4, 1)],
+        stsz: Sizes::Each(vec![10, 10, 10, 10, 30, 30, 30, 30]),
+        ..w_track()
+    }
+}
+
+/// Averages and highest rates that differ, and movie scales that are not the media's.
+fn rates() -> Vec<Case> {
+    let shown = |list| Track { edits: edits(list), ..two_seconds() };
+    let finer = || Track { scale: 1200, duration: 240, stts: vec![(3, 48), (1, 96)], ..w_track() };
+    let finer = || Track { edits: edits(&[(60, 48)]), ..finer() };
+    vec![
+        case(two_seconds(), &[says(b"avab", 640), says(b"mabr", 960)], 0),
+        case(two_seconds(), &[says(b"avab", 639), says(b"mabr", 960)], 1),
+        case(two_seconds(), &[says(b"avab", 640), says(b"mabr", 959)], 2),
+        case(shown(&[(600, 0)]), &[says(b"avab", 320), says(b"mabr", 960)], 0),
+        case(shown(&[(600, 0)]), &[says(b"avab", 319), says(b"mabr", 960)], 1),
+        case(shown(&[(600, 0)]), &[says(b"avab", 320), says(b"mabr", 959)], 2),
+        case(finer(), &[says(b"avvb", 6000)], 0),
+        case(finer(), &[says(b"avvb", 5999)], 1),
+    ]
+}
+
+/// "a numerator of 2^64 or more": 999 of the samples, all at one place, are covered by each entry.
+fn numerators() -> Vec<Case> {
+    let of = |entries| Track {
+        scale: u32::MAX,
+        duration: 4_294_967_000,
+        stts: vec![(1000, 4_294_967)],
+        stsc: vec![(1, 1, 1)],
+        stsz: Sizes::Common(16000, 1000),
+        stco: vec![100; 1000],
+        edits: edits(&vec![(600, 0); entries]),
+        ..w_track()
+    };
+    vec![
+        case(of(33), &[says(b"avvb", 128_000_009)], 0),
+        case(of(33), &[says(b"avvb", 128_000_008)], 1),
+        case(of(34), &[says(b"avvb", u32::MAX)], 1),
+    ]
+}
+
+/// Descriptions of several sizes, and the greatest width and the greatest height in two of them.
+fn sized() -> Vec<Case> {
+    let of = |subtype, sizes: [usize; 3]| {
+        let descriptions = [b"jpeg", b"png ", b"rle "].into_iter().zip(sizes);
+        let descriptions = descriptions.map(|(format, size)| description(format, size)).collect();
+        Track { descriptions, ..of_subtype(subtype) }
+    };
+    let named = |code, formats: &[&[u8; 4]]| formats.iter().map(|format| names(code, format)).collect::<Records>();
+    let tall = || Track { descriptions: vec![picture(320, 100), picture(10, 240)], ..w_track() };
+    let size = |width: u32, height: u32| says(b"tvsz", width * 65536 + height);
+    vec![
+        case(of(b"soun", [16, 20, 35]), &named(b"afmt", &[b"jpeg", b"png ", b"rle "]), 0),
+        case(of(b"soun", [35, 17, 16]), &named(b"afmt", &[b"jpeg", b"png "]), 1),
+        case(of(b"soun", [35, 17, 16]), &named(b"afmt", &[b"rle ", b"png ", b"jpeg", b"twos"]), 4),
+        case(of(b"vide", [86, 36, 40]), &named(b"vfmt", &[b"rle ", b"png ", b"jpeg"]), 0),
+        case(of(b"vide", [36, 86, 37]), &named(b"vfmt", &[b"jpeg", b"png "]), 1),
+        case(tall(), &[size(320, 240)], 0),
+        case(tall(), &[size(319, 240)], 1),
+        case(tall(), &[size(320, 239)], 1),
+    ]
+}
+
 /// "Other records ... are passed over."
 fn passed_over() -> Vec<Case> {
     let all = [b"avvb", b"avab", b"mvbr", b"mabr", b"vfps", b"tvsz", b"vfmt", b"afmt"];
@@ -201,6 +273,15 @@ fn stored() -> Vec<(&'static str, Node, u64)> {
             }),
             0,
         ),
+        (
+            "version-1-before-version-0",
+            with(&|film| {
+                film.insert_before("moov trak tkhd", good());
+                film.at("moov trak prfl").body[0] = 1;
+                film.insert_before("moov trak tkhd", bad());
+            }),
+            0,
+        ),
         ("profile-after-tkhd", with(&|film| film.insert_after("moov trak tkhd", bad())), 0),
         ("profile-of-the-movie", of_movie.file_of(4096), 0),
         ("mdhd-121", film_of(&[case(Track { duration: 121, ..w_track() }, &[says(b"avvb", 8799)], 1)]), 1),
@@ -266,6 +347,9 @@ fn main() {
         ("tvsz-in-each-half", halves()),
         ("not-computed", not_computed()),
         ("averages-by-edits", edited()),
+        ("averages-and-highest-rates", rates()),
+        ("numerators", numerators()),
+        ("descriptions-of-several-sizes", sized()),
         ("passed-over", passed_over()),
         ("first-at-fault", places()),
         ("same-formats", formats(SAME)),
