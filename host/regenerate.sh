@@ -25,3 +25,8 @@ mkdir -p "$made/files/hoses_example/data"
 host/target/debug/hoses_example "$made/files/hoses_example"
 rm -rf crates/hoses_example/data
 cp -r "$made/files/hoses_example/." crates/hoses_example
+# The film return has names on its standard input.
+mkdir -p "$made/files/film_totals/data"
+host/target/debug/film_totals "$made/files/film_totals"
+rm -rf crates/film_totals/data
+cp -r "$made/files/film_totals/." crates/film_totals
