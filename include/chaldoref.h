@@ -473,7 +473,8 @@ uint32_t chaldoref_check_quay(
  *         films accepted; films refused 1 to 13, then 19; tracks; samples; film bytes, which are the
  *         sizes of all samples; how many scales are held; CHALDOREF_MAX_SCALES scales in order of
  *         first meeting; as many totals, of each scale its tracks' film time. What stands in the
- *         last two past the scales held means nothing.
+ *         last two past the scales held means nothing. Of any other numbers a scale is the lowest 32
+ *         bits, and a number of scales above CHALDOREF_MAX_SCALES counts as that.
  */
 uint32_t chaldoref_film_return(
     const uint8_t *file, size_t file_len,
@@ -1183,7 +1184,7 @@ static inline struct chaldoref_totals_info chaldoref_totals_of(const struct chal
     all.tracks = totals->numbers[15];
     all.samples = totals->numbers[16];
     all.bytes = totals->numbers[17];
-    all.scales = (size_t)totals->numbers[18];
+    all.scales = totals->numbers[18] < CHALDOREF_MAX_SCALES ? (size_t)totals->numbers[18] : CHALDOREF_MAX_SCALES;
     return all;
 }
 

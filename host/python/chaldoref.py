@@ -609,7 +609,7 @@ class FilmReturn:
     @property
     def scales(self) -> Dict[int, int]:
         """Each media time scale met, in order of first meeting, with the film time of its tracks in units of it."""
-        held, first, after = self._numbers[18], 19, 19 + _MAX_SCALES
+        held, first, after = min(self._numbers[18], _MAX_SCALES), 19, 19 + _MAX_SCALES
         return dict(zip(self._numbers[first:first + held], self._numbers[after:after + held]))
 
 

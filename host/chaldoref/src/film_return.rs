@@ -112,7 +112,7 @@ impl FilmReturn {
     pub fn scales(&self) -> impl Iterator<Item = (u32, u64)> + '_ {
         let count: usize = promised(self.numbers[COUNT]);
         let units = &self.numbers[UNITS..];
-        self.numbers[SCALES..].iter().zip(units).take(count).map(|(scale, units)| (promised(*scale), *units))
+        self.numbers[SCALES..UNITS].iter().zip(units).take(count).map(|(scale, units)| (promised(*scale), *units))
     }
 }
 

@@ -26,7 +26,7 @@ fn words() -> String {
     for refusal in Refusal::ALL {
         writeln!(lines, "refusal {}: {refusal}", refusal.number()).unwrap();
     }
-    for number in [20, u32::MAX] {
+    for number in [22, u32::MAX] {
         writeln!(lines, "refusal {number}: no refusal has this number").unwrap();
     }
     let short = Film::Moov { moov: &[0; 8], length: 7 };
@@ -34,7 +34,7 @@ fn words() -> String {
     for refusal in Refusal::ALL {
         writeln!(lines, "of a moov {}: {}", refusal.number(), refusal.words_for(short)).unwrap();
     }
-    lines += "of a moov 20: no refusal has this number\n";
+    lines += "of a moov 22: no refusal has this number\n";
     lines += "of a moov 1: the length of the file is above 2^63 - 1\n";
     lines += "of a moov 1: the moov is longer than 2,147,483,647 bytes\n";
     let version = env!("CARGO_PKG_VERSION");

@@ -40,24 +40,25 @@ fn numbers(random: &mut Random, film: &Film) -> Vec<u64> {
     let own: Vec<u64> = film.movie.iter().flat_map(|movie| &movie.tracks).map(|track| track.tables.scale).collect();
     let held = random.one(&[0, 1, 5, MOST_SCALES - 1, MOST_SCALES, MOST_SCALES]);
     let mut all: Vec<u64> = (0..NUMBERS).map(|_| total(random)).collect();
-    all[COUNT] = u64::try_from(held).unwrap();
+    all[COUNT] = if random.once_in(8) { random.one(&[33, 1 << 32, u64::MAX]) } else { u64::try_from(held).unwrap() };
     for place in 0..MOST_SCALES {
         let other = 1_000_000 + u64::try_from(place).unwrap();
-        all[SCALES + place] = if own.is_empty() || random.once_in(2) { other } else { random.one(&own) };
+        let scale = if own.is_empty() || random.once_in(2) { other } else { random.one(&own) };
+        all[SCALES + place] = if random.once_in(16) { scale + (1 << 32) } else { scale };
     }
     all
 }
 
-/// The same as the reference has it.
+/// The same as the reference has it: a scale is the lowest 32 bits, and a number of scales above the most counts as that.
 fn of_numbers(all: &[u64]) -> FilmReturn {
-    let held = usize::try_from(all[COUNT]).unwrap();
+    let held = usize::try_from(all[COUNT]).map_or(MOST_SCALES, |count| count.min(MOST_SCALES));
     FilmReturn {
         accepted: all[0].into(),
         refused: std::array::from_fn(|place| all[1 + place].into()),
         tracks: all[15].into(),
         samples: all[16].into(),
         bytes: all[17].into(),
-        scales: (0..held).map(|place| (all[SCALES + place], all[UNITS + place].into())).collect(),
+        scales: (0..held).map(|place| (all[SCALES + place] & 0xffff_ffff, all[UNITS + place].into())).collect(),
     }
 }
 
