@@ -37,8 +37,8 @@ pub fn feature_by_code(lent: &[u8], source: Source, id: u32, code: u32) -> Featu
     to_value(feature_of(body, trak.parts, ask.movie, code))
 }
 
-// The answer of `peak_by_code`: the number of the first sample of the run with the highest rate, from 1, and how many samples that run has; or the number
-// of a refusal.
+// The answer of `peak_by_code`: the number of the first sample of the run with the highest rate, from 1, and how many samples that
+// run has; or the number of a refusal.
 pub enum PeakAnswer {
     Run(u32, u32),
     Refused(u32),

@@ -29,7 +29,8 @@ Answers numbers places r after = Hands (refusalIn numbers) (valuesIn numbers) pl
 abbrev pub SignedAnswers : List ℤ → List ℤ → ℕ → List ℤ → Type 0
 SignedAnswers numbers places r after = Hands (mag (getD numbers 0 (pos 0))) (drop 1 numbers) places r after
 
--- the promise of one that also fills lent room with a list, whatever its elements are: a refusal, that of the places among them, leaves the room as it is
+-- the promise of one that also fills lent room with a list, whatever its elements are: a refusal, that of the places among them,
+-- leaves the room as it is
 pub record Fills {A : Type 0} (numbers places : List ℕ) (list room : List A) (r : ℕ) (after : List ℕ) (filled : List A) : Type 0 where
   pub handed : Answers numbers places r after
   pub listed : filled ≡ roomAfter r list room
