@@ -30,7 +30,7 @@ loop-holds : tie.Need-loop-holds Inv-loop μ-loop
 loop-holds c = (omega arith, c .before .pre .1, λ s w. ahead-all _ _ s w)
 
 trak-at-requires : tie.Need-trak-at-requires Inv-loop μ-loop
-trak-at-requires c κs = in-room _ _ _ (c .before .before .before .pre .0) (c .before .loop .i) (c .loop-test .taken)
+trak-at-requires c κs = omega (arith, in-room _ _ _ (c .before .before .before .pre .0) (c .before .loop .i) (c .loop-test .taken))
 
 part-of-requires : tie.Need-part-of-requires Inv-loop μ-loop
 part-of-requires c κs = tt
