@@ -5,7 +5,8 @@ ghost use Rattle.structure.specs.Source.{wholeFile, moovAlone};
 ghost use Rattle.hand.specs.Places.{Answers};
 ghost use Rattle.host_quay.specs.Numbers.{ofQuay};
 
-// The lowest rule that the film breaks and the ID of the first track that breaks it, in two places; both 0 where it keeps the profile.
+// The lowest rule that the film breaks and the ID of the first track that breaks it, in two places; the ID is 0 for the first rule.
+// Both are 0 where the film keeps the profile, and with a refusal.
 #[no_mangle]
 pub extern "C" fn chaldoref_check_quay(file: &[u8], places: &mut [u64]) -> u32
     ensures { λ r. ⌜ Answers (ofQuay (now (file .entry)) wholeFile) (now (places .entry)) r (now (places .exit)) ⌝ }

@@ -18,8 +18,8 @@ ghost use Rattle.chunks.specs.Chunks.{perChunk};
 ghost use Rattle.chunk_order.specs.Order.{follows, disordered};
 ghost use Rattle.chunk_order.specs.Walk.{extent};
 
-// Whether a chunk is the first, or begins past the offset of the one before it and no earlier than where that ends. A sum of offset and bytes
-// could wrap.
+// Whether a chunk is the first, or begins past the offset of the one before it and no earlier than where that ends.
+// A sum of offset and bytes could wrap.
 fn may_follow(first: bool, offset: u64, bytes: u64, next: u64) -> bool
     ensures { λ r. ⌜ r ≡ (first || follows (extent offset bytes) (extent next 0)) ⌝ }
 {
@@ -35,7 +35,8 @@ fn may_follow(first: bool, offset: u64, bytes: u64, next: u64) -> bool
 // Whether the chunks do not rise, or one overlaps the one before it; `offsets` is stco or co64.
 pub fn is_disordered(stsc: &[u8], stsz: &[u8], offsets: &[u8]) -> bool
     requires { ⌜ sum (perChunk (now stsc) (u32At (now offsets) 12)) < 2 ^ 32 ⌝ }
-    ensures { λ r. ⌜ r ≡ disordered (perChunk (now (stsc .entry)) (u32At (now (offsets .entry)) 12)) (chunkOffsets (now (offsets .entry))) (sizes (now (stsz .entry))) ⌝ }
+    ensures { λ r. ⌜ r ≡ disordered (perChunk (now (stsc .entry)) (u32At (now (offsets .entry)) 12)) (chunkOffsets (now (offsets .entry)))
+        (sizes (now (stsz .entry))) ⌝ }
 {
     let chunks = u32_at(offsets, 12);
     let long = is_long(offsets);

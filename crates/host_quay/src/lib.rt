@@ -6,7 +6,8 @@ use structure::source::Source;
 ghost use Rattle.hand.specs.Places.{Answers};
 ghost use Rattle.host_quay.specs.Numbers.{ofQuay};
 
-// The lowest rule that the film breaks and the ID of the first track that breaks it, in two places; both 0 where it keeps the profile.
+// The lowest rule that the film breaks and the ID of the first track that breaks it, in two places; the ID is 0 for the first rule.
+// Both are 0 where the film keeps the profile, and with a refusal.
 pub fn hand_quay(lent: &[u8], source: Source, places: &mut [u64]) -> u32
     ensures { λ r. ⌜ Answers (ofQuay (now (lent .entry)) source) (now (places .entry)) r (now (places .exit)) ⌝ }
 {

@@ -1,5 +1,5 @@
--- "The quay film profile": whether a film keeps its rules. "The answer is a yes, or the lowest rule that any track breaks with the ID of the first
--- track in file order that breaks it (0 for the first rule)." "Refusals: those of the file."
+-- "The quay film profile": whether a film keeps its rules. "The answer is a yes, or the lowest rule that any track breaks with the
+-- ID of the first track in file order that breaks it (0 for the first rule)." "Refusals: those of the file."
 use Prim.Native.Nat.{ℕ}
 use mathlib.Core.Bool.{Bool, false, cond}
 use mathlib.Core.List.{List, [], _∷_}

@@ -86,8 +86,8 @@ fn lowest_rule(lent: &[u8], traks: Traks, movie: u32) -> Broken
     Broken { rule, id }
 }
 
-// The answer of `check_quay`: yes; or the lowest rule that is broken, from 1, and the ID of the first track that breaks it, 0 for the first rule; or
-// the number of a refusal.
+// The answer of `check_quay`: yes; or the lowest rule that is broken, from 1, and the ID of the first track that breaks it, 0 for the
+// first rule; or the number of a refusal.
 pub enum QuayAnswer {
     Yes,
     Breaks(u32, u32),

@@ -1,5 +1,5 @@
 -- Rules of the quay film profile (document 02), of the lists of a track: those on its samples. The eighth, on its chunks, is in chunk_order.
-use Prim.Native.Nat.{ℕ, suc}
+use Prim.Native.Nat.{ℕ, suc, _*_}
 use mathlib.Core.Bool.{Bool, true, false, cond, not, _||_}
 use mathlib.Core.List.{List, [], _∷_, map}
 use lib.Dec.{ltb}
@@ -34,8 +34,8 @@ abbrev pub startsSync : List Bool → Bool
 startsSync [] = false
 startsSync (b ∷ bs) = b
 
--- broken, if not "sample 1 sync, and a sync sample and those after it before the next sync one, or to the end, at most 250 samples". "A track with no
--- samples breaks the fifth."
+-- broken, if not "sample 1 sync, and a sync sample and those after it before the next sync one, or to the end, at most 250 samples".
+-- "A track with no samples breaks the fifth."
 unfoldable pub lacksSyncs : List Bool → Bool
 lacksSyncs bs = not (startsSync bs) || anyAbove 250 (groups bs)
 
@@ -47,7 +47,7 @@ hasZero xs = listed 0 xs
 
 -- ---- the ninth
 
--- broken, if not "vfps at most 30.0", which is 30 × 65536. "A vfps refused 18 breaks the last rule."
+-- broken, if not "vfps at most 30.0", in 65536ths. "A vfps refused 18 breaks the last rule."
 unfoldable pub tooFast : Feature → Bool
-tooFast (Value v) = ltb 1966080 v
+tooFast (Value v) = ltb (30 * 65536) v
 tooFast NotComputed = true

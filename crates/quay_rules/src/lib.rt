@@ -15,7 +15,7 @@ ghost use Rattle.quay_rules.specs.Computed.{longGroup};
 // How many samples there may be from a sync sample up to the next one, or to the end.
 const MOST_OF_A_GROUP: u32 = 250;
 
-// Whether a group has more samples, from the numbers of the sync samples, of which the first is 1.
+// Whether a group has more than 250 samples, from the numbers of the sync samples, of which the first is 1.
 fn has_long_group(numbers: &[u8], samples: u32) -> bool
     ensures { λ r. ⌜ r ≡ longGroup 250 samples 1 (wordsIn (now (numbers .entry))) ⌝ }
 {
@@ -33,6 +33,7 @@ fn has_long_group(numbers: &[u8], samples: u32) -> bool
 }
 
 // Whether the first sample is not sync, or a group of samples is too long, in a track of so many samples. Without stss each sample is sync.
+// "A track with no samples breaks the fifth."
 pub fn lacks_syncs(stss: &[u8], samples: u32) -> bool
     requires { ⌜ syncsAgree (now stss) samples ≡ true ⌝ }
     ensures { λ r. ⌜ r ≡ lacksSyncs (syncFlags (now (stss .entry)) samples) ⌝ }

@@ -1,5 +1,5 @@
--- What is asked of a track before its rules are judged, and the last rules by themselves. These need not be believed: they are between the crates'
--- own functions.
+-- What is asked of a track before its rules are judged, and the last rules by themselves. These need not be believed: they are
+-- between the crates' own functions.
 use Prim.Native.Nat.{ℕ, _<_, _^_}
 use mathlib.Core.Path.{_≡_}
 use mathlib.Core.Bool.{true, cond}

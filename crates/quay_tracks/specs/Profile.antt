@@ -1,5 +1,6 @@
--- The quay film profile (document 02): its rules as a table, each a condition on the body m of a movie's moov or on the body t of a trak, which
--- holds where the rule is broken. This table is to be believed, and `quay/specs/Quay.antt`, which judges by it.
+-- The quay film profile (document 02): its rules as a table, each a condition on the body m of a movie's moov or on the body t of
+-- a trak, which holds where the rule is broken. This table is to be believed, with what it cites of `quay_rules/specs/Rules.antt` and
+-- `chunk_order/specs/Order.antt`, and `quay/specs/Quay.antt`, which judges by it.
 use Prim.Native.Nat.{ℕ}
 use mathlib.Core.Bool.{Bool, true, not, _&&_, _||_}
 use mathlib.Core.List.{List, [], _∷_}
@@ -35,7 +36,8 @@ otherDescriptions t = not (eqb (descriptionsOf t) 1)
 unfoldable pub hasCtts : List ℕ → Bool
 hasCtts t = not (eqb (length (tableOf ctts t)) 0)
 
--- 5: "sample 1 sync, and a sync sample and those after it before the next sync one, or to the end, at most 250 samples"
+-- 5: "sample 1 sync, and a sync sample and those after it before the next sync one, or to the end, at most 250 samples".
+-- "A track with no samples breaks the fifth."
 unfoldable pub fewSyncs : List ℕ → Bool
 fewSyncs t = lacksSyncs (trackOf t .syncs)
 
@@ -51,7 +53,7 @@ zeroDuration t = hasZero (trackOf t .durations)
 unfoldable pub chunksDisordered : List ℕ → Bool
 chunksDisordered t = disordered (trackOf t .perChunk) (trackOf t .chunkOffsets) (trackOf t .sizes)
 
--- 9: "vfps at most 30.0", in a movie of that time scale
+-- 9: "vfps at most 30.0", in a movie of that time scale. "A vfps refused 18 breaks the last rule."
 unfoldable pub tooManyFrames : ℕ → List ℕ → Bool
 tooManyFrames movie t = tooFast (featureOf movie (trackOf t) vfps)
 

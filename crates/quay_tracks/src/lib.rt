@@ -39,7 +39,7 @@ fn has_ctts(trak: &[u8], p: Parts) -> bool
     part_of(trak, p.ctts).len() != 0
 }
 
-// 5: the first sample not sync, or too many samples from a sync one up to the next.
+// 5: no samples, the first sample not sync, or too many samples from a sync one up to the next.
 fn has_few_syncs(trak: &[u8], p: Parts, movie: u32) -> bool
     requires { ⌜ (AreParts (now trak) p) × Judgeable movie (now trak) ⌝ }
     ensures { λ r. ⌜ r ≡ fewSyncs (now (trak .entry)) ⌝ }

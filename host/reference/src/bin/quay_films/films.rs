@@ -1,5 +1,6 @@
 //! Films that keep the quay film profile, that just break a rule of it, and that are refused.
 use reference::film::*;
+use reference::hoses::two_hoses;
 use reference::made::*;
 use reference::movie::MoovAlone;
 
@@ -95,6 +96,7 @@ impl Films {
 
     pub fn all(&mut self) {
         self.kept();
+        self.of_the_repository();
         self.first_rule();
         self.each_rule();
         self.limits();
@@ -114,6 +116,14 @@ impl Films {
         self.lent(Answer::Yes, "moov-alone", Lent::Alone(MoovAlone { moov: lent.bytes(), length }));
         lent.double("moov trak");
         self.lent(Answer::Refused(7), "moov-alone-id-twice", Lent::Alone(MoovAlone { moov: lent.bytes(), length }));
+    }
+
+    /// The films in films/. W has a size of 0, and its second chunk lies before the first.
+    fn of_the_repository(&mut self) {
+        self.node(of_rule(6), "w", &w());
+        let edited = Track { edits: edits(&[(60, -1), (60, 24)]), ..w_track() };
+        self.node(of_rule(2), "w-edits", &movie(&[edited]).file_of(4096));
+        self.node(Answer::Yes, "two-hoses", &two_hoses());
     }
 
     /// "one or two vide tracks and no others"; "(0 for the first rule)"
@@ -154,6 +164,8 @@ impl Films {
         self.one(3, "64-descriptions", Track { descriptions: vec![picture(1, 1); 64], ..quay_track(1) });
         let none = || Track { descriptions: vec![picture(1, 1)], ..empty_track(1) };
         self.one(5, "no-samples", none());
+        let second = [quay_track(7), Track { id: 3, ..none() }];
+        self.tracks(Answer::Breaks(5, 3), "no-samples-in-the-second-track", &second);
         self.one(5, "no-samples-and-an-empty-stss", Track { stss: Some(vec![]), ..none() });
         self.one(3, "no-samples-and-no-description", empty_track(1));
         self.one(4, "empty-ctts", Track { ctts: Some(vec![]), ..none() });
@@ -181,6 +193,8 @@ impl Films {
             (500, vec![1, 252], 5),
             (501, vec![1, 251], 5),
             (501, vec![1, 251, 501], 0),
+            (260, vec![1, 2, 252], 0),
+            (260, vec![1, 2, 253], 5),
             (4, vec![], 5),
             (4, vec![2, 3, 4], 5),
             (1, vec![1], 0),
@@ -246,9 +260,10 @@ impl Films {
         self.wide(Answer::Refused(1), "file-of-2-63", LONGEST + 1, [1000, 2000]);
     }
 
-    /// "Refusals: those of the file."
+    /// "Refusals: those of the file." The edits are those that spoil W, here of a track whose durations add up to 96.
     fn refused(&mut self) {
         for (number, name, film) in spoiled(&quay_track(1), |track| movie(&[track]).file_of(LARGE)) {
+            let name = if number == 13 { "edits-60-empty-and-60-from-61-of-96" } else { name };
             self.node(Answer::Refused(number), name, &film);
         }
     }
