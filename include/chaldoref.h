@@ -75,7 +75,7 @@ extern "C" {
 #define CHALDOREF_VERSION_MAJOR 0
 #define CHALDOREF_VERSION_MINOR 5
 #define CHALDOREF_VERSION_PATCH 0
-#define CHALDOREF_VERSION "0.5.0"
+#define CHALDOREF_VERSION "0.6.0"
 
 /* The refusals, by their numbers in documents 01 and 02. Of a file the lowest number that
    applies is given, but that 19 is judged after 11 and before 12. */
