@@ -17,23 +17,11 @@ const UNITS: usize = SCALES + MAX_SCALES;
 /// The most time scales that a return holds.
 pub const MAX_SCALES: usize = 32;
 
-/// The refusals that a film is counted under, in the order of their numbers.
-const COUNTED: [Refusal; 14] = [
-    Refusal::FileTooLong,
-    Refusal::AtomSize,
-    Refusal::AtomCount,
-    Refusal::LeafVersion,
-    Refusal::LeafSize,
-    Refusal::OverLimit,
-    Refusal::TrackIds,
-    Refusal::TimeScale,
-    Refusal::Tables,
-    Refusal::TotalDuration,
-    Refusal::StoredDuration,
-    Refusal::PastEnd,
-    Refusal::EditList,
-    Refusal::DataElsewhere,
-];
+/// The refusals that a film is counted under, in the order of their numbers: 1 to 13, and 19.
+fn counted() -> impl Iterator<Item = Refusal> {
+    let (of_film, _) = Refusal::ALL.split_at(TRACKS - REFUSED - 1);
+    of_film.iter().copied().chain([Refusal::DataElsewhere])
+}
 
 /// Totals over many films: those accepted, those refused under each number, their tracks, samples and film bytes, and for each media
 /// time scale met the film time of its tracks.
@@ -87,7 +75,7 @@ impl FilmReturn {
 
     /// How many films are refused under each number that a film can be.
     pub fn refused(&self) -> impl Iterator<Item = (Refusal, u64)> + '_ {
-        COUNTED.into_iter().zip(self.numbers[REFUSED..TRACKS].iter().copied())
+        counted().zip(self.numbers[REFUSED..TRACKS].iter().copied())
     }
 
     /// The tracks of the accepted films.
