@@ -1,5 +1,5 @@
-// The film return of document 02: reads file names, one to a line, from standard input, up to 65,536 bytes in all, and prints `skipped` and the name for
-// each file that is not counted, and then the totals; for more bytes it prints only `too long`.
+// The film return of document 02: reads file names, one to a line, from standard input, up to 65,536 bytes in all, and prints `skipped` and the name
+// for each file that is not counted, and then the totals; for more bytes it prints only `too long`.
 mod reading;
 mod show;
 
