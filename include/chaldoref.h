@@ -1184,7 +1184,9 @@ static inline struct chaldoref_totals_info chaldoref_totals_of(const struct chal
     all.tracks = totals->numbers[15];
     all.samples = totals->numbers[16];
     all.bytes = totals->numbers[17];
-    all.scales = totals->numbers[18] < CHALDOREF_MAX_SCALES ? (size_t)totals->numbers[18] : CHALDOREF_MAX_SCALES;
+    all.scales = CHALDOREF_MAX_SCALES;
+    if (totals->numbers[18] < CHALDOREF_MAX_SCALES)
+        all.scales = (size_t)totals->numbers[18];
     return all;
 }
 

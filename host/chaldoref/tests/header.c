@@ -219,6 +219,28 @@ static void print_peak(const struct film *film)
     printf("peak %" PRIu32 " %" PRIu32 "\n", peak.first, peak.samples);
 }
 
+/* The verdicts on the profile and on the film, and a return with the film by both ways and a file of no bytes. */
+static void print_verdicts(const struct film *film)
+{
+    uint64_t place[CHALDOREF_CHECK_PROFILE_PLACES], rule[CHALDOREF_CHECK_QUAY_PLACES];
+    struct chaldoref_totals totals = {{0}};
+    struct chaldoref_totals_info all;
+    size_t moov = (size_t)film->bytes[2] << 8 | film->bytes[3], i;
+    uint32_t refusal = chaldoref_check_profile(film->bytes, film->len, ONE, place, CHALDOREF_CHECK_PROFILE_PLACES)
+        + chaldoref_check_quay(film->bytes, film->len, rule, CHALDOREF_CHECK_QUAY_PLACES)
+        + chaldoref_add_film(film->bytes, film->len, &totals)
+        + chaldoref_add_moov(film->bytes, moov, film->len, &totals)
+        + chaldoref_add_film(film->bytes, 0, &totals);
+    printf("verdicts %" PRIu32 ": %" PRIu64 ", %" PRIu64 " %" PRIu64 "\n", refusal, place[0], rule[0], rule[1]);
+    all = chaldoref_totals_of(&totals);
+    printf("totals %" PRIu64 ", refused %" PRIu64 ": %" PRIu64 " %" PRIu64 " %" PRIu64 "\n", all.accepted,
+           all.refused[CHALDOREF_ATOM_COUNT], all.tracks, all.samples, all.bytes);
+    for (i = 0; i < all.scales; i++) {
+        struct chaldoref_scale_total scale = chaldoref_scale_total_of(&totals, i);
+        printf("scale %" PRIu32 " %" PRIu64 "\n", scale.scale, scale.total);
+    }
+}
+
 static void print_slip(const uint8_t *slip, size_t len)
 {
     uint32_t room[MOST];
@@ -284,6 +306,7 @@ static void print_all(struct film *film)
     print_stretch(film, 24, 73);
     print_records(film);
     print_peak(film);
+    print_verdicts(film);
     print_slips(film, 24, 73);
     print_nothing_lent(film);
     print_lent(film);

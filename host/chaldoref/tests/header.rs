@@ -1,7 +1,7 @@
 //! What the header has besides the proved functions: `header.c`, in C and in C++, prints what the crate has.
 mod compiled;
 
-use chaldoref::{Feature, Film, MediaTime, Movie, MovieTime, Refusal, Sample, Shown, Slip, TrackId};
+use chaldoref::{Feature, Film, FilmReturn, MediaTime, Movie, MovieTime, Refusal, Sample, Shown, Slip, TrackId};
 use reference::film::{self, w_movie, w_track};
 use std::fmt::Write as _;
 use std::path::Path;
@@ -138,6 +138,23 @@ fn records_and_peak(movie: &Movie) -> String {
     records.iter().map(line).collect::<String>() + &format!("peak {} {}\n", peak.start(), peak.clone().count())
 }
 
+/// The verdicts on the profile and on the film, and a return with the film by both ways and a file of no bytes.
+fn verdicts(movie: &Movie, film: &[u8]) -> String {
+    let place = movie.check_profile(ONE).unwrap().unwrap_or(0);
+    let fault = movie.check_quay().unwrap();
+    let size = u32::from_be_bytes(*film.first_chunk().unwrap()) as usize;
+    let mut totals = FilmReturn::new();
+    let alone = Film::Moov { moov: &film[..size], length: 4096 };
+    for film in [Film::Whole(film), alone, Film::Whole(&[])] {
+        totals.add(film).unwrap();
+    }
+    let refused: u64 = totals.refused().map(|(_, films)| films).sum();
+    let lines = format!("verdicts 0: {place}, {} {}\n", fault.rule.number(), fault.track.unwrap())
+        + &format!("totals {}, refused {refused}: ", totals.accepted())
+        + &format!("{} {} {}\n", totals.tracks(), totals.samples(), totals.bytes());
+    totals.scales().fold(lines, |lines, (scale, units)| lines + &format!("scale {scale} {units}\n"))
+}
+
 /// What the program has to print about the film.
 fn expected(film: &[u8]) -> String {
     let movie = Movie::open(film).unwrap();
@@ -149,7 +166,8 @@ fn expected(film: &[u8]) -> String {
     let [stretch, slips] = stretch_and_slips(&movie);
     // A file and a slip of no bytes are refused as such; then come room, bytes and places that are too few.
     let lent = "nothing lent 3 17 16 16 16 16 16\nlent 1 1 1 1 1\n";
-    [words(), tracks(&movie), samples, times, stretch, records_and_peak(&movie), slips, lent.to_string()].concat()
+    let judged = records_and_peak(&movie) + &verdicts(&movie, film);
+    [words(), tracks(&movie), samples, times, stretch, judged, slips, lent.to_string()].concat()
 }
 
 #[track_caller]
