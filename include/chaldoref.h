@@ -73,7 +73,7 @@ extern "C" {
 
 /* The version of this header, and of the library that it belongs to. */
 #define CHALDOREF_VERSION_MAJOR 0
-#define CHALDOREF_VERSION_MINOR 5
+#define CHALDOREF_VERSION_MINOR 6
 #define CHALDOREF_VERSION_PATCH 0
 #define CHALDOREF_VERSION "0.6.0"
 

@@ -461,7 +461,7 @@ fn refused_once(number: u32) -> String {
 
 #[test]
 fn film_returns() {
-    let out = format!("accepted 2\n{}tracks 3\nsamples 16\nbytes 412\nscale 600 408\n", refused_once(3));
+    let out = format!("accepted 2\n{}tracks 3\nsamples 16\nbytes 412\nscale 600 408\n", refused_once(2));
     answers("film-return films/w.mov films/two-hoses.mov README.md", &out);
     let ran = run_on(&film_of(vec![w_track()]), &["film-return", "none.mov", "-"]);
     let totals = format!("accepted 1\n{}tracks 1\nsamples 4\nbytes 220\nscale 600 120\n", refused_once(0));
