@@ -13,7 +13,7 @@
 #include <stdlib.h>
 #include <string.h>
 
-enum { ROUNDS = 150, AV_EVERY = 15, MOST = 32, ROOM = 2 * FILM_SAMPLES, OUT = 24 + 18 * FILM_SAMPLES, AT_ONCE = 1024, LOOKUPS = 1000 };
+enum { ROUNDS = 150, AV_EVERY = 15, MOST = 40, ROOM = 2 * FILM_SAMPLES, OUT = 24 + 18 * FILM_SAMPLES, AT_ONCE = 1024, LOOKUPS = 1000 };
 
 /* What is lent to every question; it isn't cleared between them. */
 static uint32_t room[ROOM];
@@ -275,6 +275,33 @@ static bool ask_opened_stepper(const struct film *f, const struct track_facts *t
         && s.offset == t->last_begin && s.size == t->last_size && !chaldoref_stepper_next(f->bytes, f->len, &stepper, &none);
 }
 
+/* The same verdict by both ways; of the first the time. */
+static bool ask_check_quay(const struct film *f, const struct track_facts *t, double *ms)
+{
+    (void)t;
+    uint64_t places[CHALDOREF_CHECK_QUAY_PLACES], again[CHALDOREF_CHECK_QUAY_PLACES];
+    double begin = now_ms();
+    uint32_t refused = chaldoref_check_quay(f->bytes, f->len, places, CHALDOREF_CHECK_QUAY_PLACES);
+    *ms = now_ms() - begin;
+    refused |= chaldoref_moov_check_quay(f->moov, f->moov_len, f->len, again, CHALDOREF_CHECK_QUAY_PLACES);
+    return refused == 0 && places[0] <= 9 && places[0] == again[0] && places[1] == again[1];
+}
+
+static bool ask_film_return(const struct film *f, const struct track_facts *t, double *ms)
+{
+    (void)t;
+    struct chaldoref_totals totals = { { 0 } };
+    struct chaldoref_totals_info all;
+    uint64_t samples = 0;
+    double begin = now_ms();
+    uint32_t refused = chaldoref_add_film(f->bytes, f->len, &totals);
+    *ms = now_ms() - begin;
+    all = chaldoref_totals_of(&totals);
+    for (int i = 0; i < f->tracks; i++)
+        samples += f->track[i].samples;
+    return refused == 0 && all.accepted == 1 && all.tracks == (uint64_t)f->tracks && all.samples == samples;
+}
+
 static bool ask_moov_write_slip(const struct film *f, const struct track_facts *t, double *ms)
 {
     uint64_t len, places[CHALDOREF_READ_SLIP_PLACES];
@@ -398,6 +425,8 @@ static int gather(struct candidate *c, const struct film *f)
     c[n++] = (struct candidate){ .name = "feature avvb", .run = ask_feature, .track = f->track, .slow = f->track->edits != 0 };
     c[n++] = (struct candidate){ .name = "feature mvbr", .run = ask_highest, .track = f->track };
     c[n++] = (struct candidate){ .name = "peak of mvbr", .run = ask_peak, .track = f->track };
+    c[n++] = (struct candidate){ .name = "quay film profile", .run = ask_check_quay };
+    c[n++] = (struct candidate){ .name = "film return", .run = ask_film_return };
     c[n++] = (struct candidate){ .name = "64 at a time", .run = ask_steps_64, .track = f->track, .per_sample = true };
     c[n++] = (struct candidate){ .name = "1024 at a time", .run = ask_steps_1024, .track = f->track, .per_sample = true };
     c[n++] = (struct candidate){ .name = "one by one", .run = ask_step, .track = f->track, .per_sample = true };
