@@ -76,6 +76,38 @@ pub fn edits(list: &[(u32, i32)]) -> Option<Vec<(u32, i32, u32)>> {
     Some(list.iter().map(|(duration, media)| (*duration, *media, 65536)).collect())
 }
 
+/// Numbers of samples, each with its sync samples, and the rule of the quay film profile that they break: the fifth, or 0 for none.
+pub fn sync_groups() -> Vec<(u32, Vec<u32>, u64)> {
+    vec![
+        (250, vec![1], 0),
+        (251, vec![1], 5),
+        (251, vec![1, 2], 0),
+        (252, vec![1, 2], 5),
+        (500, vec![1, 251], 0),
+        (500, vec![1, 252], 5),
+        (501, vec![1, 251], 5),
+        (501, vec![1, 251, 501], 0),
+        (260, vec![1, 2, 252], 0),
+        (260, vec![1, 2, 253], 5),
+        (4, vec![], 5),
+        (4, vec![2, 3, 4], 5),
+        (1, vec![1], 0),
+    ]
+}
+
+/// Widths and heights that a record of tvsz says of W, whose picture is 320 x 240, and the place at fault of that one record, 0 for yes.
+pub const PICTURE_CLAIMS: [(u32, u32, u64); 9] = [
+    (320, 240, 0),
+    (321, 240, 0),
+    (320, 241, 0),
+    (65535, 65535, 0),
+    (319, 240, 1),
+    (320, 239, 1),
+    (321, 239, 1),
+    (65535, 0, 1),
+    (319, 65535, 1),
+];
+
 /// A movie of those tracks with W's time scale.
 pub fn movie(tracks: &[Track]) -> Movie {
     Movie { tracks: tracks.to_vec(), ..w_movie() }

@@ -1,6 +1,6 @@
 //! Document 02, "Is the camera's own profile true?", clause by clause.
 use reference::film::*;
-use reference::made::{edits, empty_track};
+use reference::made::{edits, empty_track, PICTURE_CLAIMS};
 use reference::maker::claims::{claiming, FEATURES, UNIVERSAL};
 use reference::maker::Random;
 use reference::movie::refusals::read;
@@ -95,19 +95,7 @@ fn averages_are_those_of_the_edits() {
 
 #[test]
 fn tvsz_at_least_in_each_half() {
-    let sizes = [
-        (320, 240, 0),
-        (321, 240, 0),
-        (320, 241, 0),
-        (65535, 65535, 0),
-        (319, 240, 1),
-        (320, 239, 1),
-        (321, 239, 1),
-        (65535, 0, 1),
-        (319, 65535, 1),
-        (0, 65535, 1),
-    ];
-    for (width, height, place) in sizes {
+    for (width, height, place) in PICTURE_CLAIMS.into_iter().chain([(0, 65535, 1)]) {
         assert_eq!(fault(w_track(), &[says(b"tvsz", width * 65536 + height)]), place, "{width} {height}");
     }
 }

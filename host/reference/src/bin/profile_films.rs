@@ -3,7 +3,7 @@
 //! Writes each film to the folder that is its first argument, and the names, one to a line, to the file that is its second. The lines go to standard
 //! output. A case is a track with a profile and the place at fault that its maker says by hand, 0 for yes: the reference must agree with it.
 use reference::film::*;
-use reference::made::{edits, empty_track, spoiled};
+use reference::made::{edits, empty_track, spoiled, PICTURE_CLAIMS};
 use reference::maker::claims::{FEATURES, UNIVERSAL};
 use reference::movie::{profile_fault, refusal};
 
@@ -54,18 +54,7 @@ fn enough(subtype: &[u8; 4], code: &[u8; 4], value: u32) -> Vec<Case> {
 
 /// "tvsz at least in each half"
 fn halves() -> Vec<Case> {
-    let sizes = [
-        (320, 240, 0),
-        (321, 240, 0),
-        (320, 241, 0),
-        (65535, 65535, 0),
-        (319, 240, 1),
-        (320, 239, 1),
-        (321, 239, 1),
-        (65535, 0, 1),
-        (319, 65535, 1),
-    ];
-    sizes.map(|(width, height, place)| case(w_track(), &[says(b"tvsz", width * 65536 + height)], place)).into()
+    PICTURE_CLAIMS.map(|(width, height, place)| case(w_track(), &[says(b"tvsz", width * 65536 + height)], place)).into()
 }
 
 /// "A record of the first six codes whose feature is refused 18 is at fault."

@@ -184,21 +184,7 @@ impl Films {
     /// "a sync sample and those after it before the next sync one, or to the end, at most 250 samples"
     fn syncs(&mut self) {
         self.one(0, "every-sample-sync", quay_syncs(1000, None));
-        for (samples, stss, rule) in [
-            (250, vec![1], 0),
-            (251, vec![1], 5),
-            (251, vec![1, 2], 0),
-            (252, vec![1, 2], 5),
-            (500, vec![1, 251], 0),
-            (500, vec![1, 252], 5),
-            (501, vec![1, 251], 5),
-            (501, vec![1, 251, 501], 0),
-            (260, vec![1, 2, 252], 0),
-            (260, vec![1, 2, 253], 5),
-            (4, vec![], 5),
-            (4, vec![2, 3, 4], 5),
-            (1, vec![1], 0),
-        ] {
+        for (samples, stss, rule) in sync_groups() {
             let numbers: Vec<String> = stss.iter().map(u32::to_string).collect();
             let name = format!("{samples}-samples-sync-{}", numbers.join("-"));
             self.one(rule, &name, quay_syncs(samples, Some(stss)));
