@@ -13,7 +13,7 @@
 #include <stdlib.h>
 #include <string.h>
 
-enum { ROUNDS = 150, AV_EVERY = 15, MOST = 40, ROOM = 2 * FILM_SAMPLES, OUT = 24 + 18 * FILM_SAMPLES, AT_ONCE = 1024, LOOKUPS = 1000 };
+enum { ROUNDS = 150, AV_EVERY = 15, MOST = 40, ROOM = 2 * FILM_SAMPLES, OUT = 40 * FILM_SAMPLES, AT_ONCE = 1024, LOOKUPS = 1000 };
 
 /* What is lent to every question; it isn't cleared between them. */
 static uint32_t room[ROOM];
@@ -302,6 +302,22 @@ static bool ask_film_return(const struct film *f, const struct track_facts *t, d
     return refused == 0 && all.accepted == 1 && all.tracks == (uint64_t)f->tracks && all.samples == samples;
 }
 
+/* The moov with compact tables lists the same tracks. */
+static bool ask_compact(const struct film *f, const struct track_facts *t, double *ms)
+{
+    (void)t;
+    size_t length;
+    uint64_t tracks;
+    double begin = now_ms();
+    uint32_t refused = chaldoref_compact_into(f->bytes, f->len, out, OUT, &length);
+    *ms = now_ms() - begin;
+    bool right = refused == 0 && length == f->moov_len
+        && chaldoref_moov_track_list(out, length, f->len, room, ROOM, &tracks, 1) == 0 && tracks == (uint64_t)f->tracks;
+    for (int i = 0; i < f->tracks; i++)
+        right = right && is_line(room + CHALDOREF_TRACK_NUMBERS * i, &f->track[i]);
+    return right;
+}
+
 static bool ask_moov_write_slip(const struct film *f, const struct track_facts *t, double *ms)
 {
     uint64_t len, places[CHALDOREF_READ_SLIP_PLACES];
@@ -427,6 +443,7 @@ static int gather(struct candidate *c, const struct film *f)
     c[n++] = (struct candidate){ .name = "peak of mvbr", .run = ask_peak, .track = f->track };
     c[n++] = (struct candidate){ .name = "quay film profile", .run = ask_check_quay };
     c[n++] = (struct candidate){ .name = "film return", .run = ask_film_return };
+    c[n++] = (struct candidate){ .name = "compact", .run = ask_compact };
     c[n++] = (struct candidate){ .name = "64 at a time", .run = ask_steps_64, .track = f->track, .per_sample = true };
     c[n++] = (struct candidate){ .name = "1024 at a time", .run = ask_steps_1024, .track = f->track, .per_sample = true };
     c[n++] = (struct candidate){ .name = "one by one", .run = ask_step, .track = f->track, .per_sample = true };

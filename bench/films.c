@@ -17,6 +17,7 @@ struct plan {
     uint32_t (*deal)(uint32_t chunk, uint32_t begin);
     uint32_t edits;        /* entries of an edit list that each show the whole track; 0: no list */
     uint32_t samples;
+    bool wasteful;         /* an stts entry for each sample and an stsc entry for each chunk, whatever they say */
 };
 
 /* Where free atoms of 8 bytes stand, and how many in each such place. */
@@ -119,7 +120,7 @@ static uint32_t dealt(const struct plan *p, uint32_t chunk, uint32_t begin)
 static void put_stts(struct writer *w, const struct plan *p, struct track_facts *f)
 {
     size_t at = open_table(w, "stts");
-    uint32_t entries = p->durations_differ || p->samples == 0 ? p->samples : 1;
+    uint32_t entries = p->durations_differ || p->wasteful || p->samples == 0 ? p->samples : 1;
     for (uint32_t i = 0; i < entries; i++) {
         put32(w, p->samples / entries);
         put32(w, duration_of(p, i));
@@ -168,7 +169,7 @@ static void put_stsc(struct writer *w, const struct plan *p, struct track_facts 
     uint32_t entries = 0, before = 0, begin = 0, chunk = 0;
     for (; begin < p->samples; chunk++) {
         uint32_t per = dealt(p, chunk, begin);
-        if (per != before) {
+        if (per != before || p->wasteful) {
             put32(w, chunk + 1);
             put32(w, per);
             put32(w, 1);
@@ -354,15 +355,16 @@ static uint32_t one(uint32_t chunk, uint32_t begin)
     return 1;
 }
 
-static const struct plan typical = { VIDE, 30000, false, false, false, 0, in_thirds, 0, FILM_SAMPLES };
-static const struct plan sound = { SOUN, 48000, false, false, false, 0, in_thirds, 0, FILM_SAMPLES };
-static const struct plan full = { VIDE, 30000, true, true, true, 0, ten_or_twenty, 0, FILM_SAMPLES };
-static const struct plan short_chunks = { VIDE, 30000, true, true, true, 0, one_or_two, 0, FILM_SAMPLES };
-static const struct plan lone = { VIDE, 30000, false, false, false, 2, one, 0, FILM_SAMPLES };
-static const struct plan edited = { VIDE, 30000, false, false, false, 0, in_thirds, 256, FILM_SAMPLES };
-static const struct plan small = { VIDE, 30000, false, false, false, 2, in_thirds, 0, FILM_SAMPLES };
-static const struct plan empty = { VIDE, 30000, false, false, false, 2, in_thirds, 0, 0 };
-static const struct plan full_edited = { VIDE, 30000, true, true, true, 0, ten_or_twenty, 256, FILM_SAMPLES };
+static const struct plan typical = { VIDE, 30000, false, false, false, 0, in_thirds, 0, FILM_SAMPLES, false };
+static const struct plan sound = { SOUN, 48000, false, false, false, 0, in_thirds, 0, FILM_SAMPLES, false };
+static const struct plan full = { VIDE, 30000, true, true, true, 0, ten_or_twenty, 0, FILM_SAMPLES, false };
+static const struct plan short_chunks = { VIDE, 30000, true, true, true, 0, one_or_two, 0, FILM_SAMPLES, false };
+static const struct plan lone = { VIDE, 30000, false, false, false, 2, one, 0, FILM_SAMPLES, false };
+static const struct plan edited = { VIDE, 30000, false, false, false, 0, in_thirds, 256, FILM_SAMPLES, false };
+static const struct plan small = { VIDE, 30000, false, false, false, 2, in_thirds, 0, FILM_SAMPLES, false };
+static const struct plan empty = { VIDE, 30000, false, false, false, 2, in_thirds, 0, 0, false };
+static const struct plan wasteful = { VIDE, 30000, false, false, false, 0, in_thirds, 0, FILM_SAMPLES, true };
+static const struct plan full_edited = { VIDE, 30000, true, true, true, 0, ten_or_twenty, 256, FILM_SAMPLES, false };
 
 /* With `others` the film has as many tracks as a film may have, all but the first without samples. */
 static const struct {
@@ -382,6 +384,7 @@ static const struct {
     { "a million atoms in a trak", "such tables in the first of 16 traks, 15 without samples, and the free atoms first in the last of them", { &small, NULL }, true, { IN_LAST_TRAK, ATOMS } },
     { "a million atoms in 16 mdia", "the same with the free atoms first in each mdia", { &small, NULL }, true, { IN_EACH_MDIA, ATOMS / FILM_TRACKS } },
     { "a million atoms in moov", "such tables in the one trak, and the free atoms last in moov", { &small, NULL }, false, { LAST_IN_MOOV, ATOMS } },
+    { "a run for each sample", "as one track, with an stts entry for each sample and an stsc entry for each chunk", { &wasteful, NULL }, false, { NOWHERE, 0 } },
 };
 
 static void add_trak(struct writer *w, struct film *film, const struct plan *p, uint32_t offset, const struct filling *free)

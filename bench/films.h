@@ -6,7 +6,7 @@
 #include <stddef.h>
 #include <stdint.h>
 
-enum { FILM_KINDS = 11, FILM_TRACKS = 16, FILM_SAMPLES = 1000000 };
+enum { FILM_KINDS = 12, FILM_TRACKS = 16, FILM_SAMPLES = 1000000 };
 
 /* What the tables of a track say, counted while they are made: the answers are checked against it. */
 struct track_facts {

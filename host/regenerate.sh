@@ -7,7 +7,7 @@ trap 'rm -r "$made"' EXIT
 cargo build --quiet --offline --manifest-path host/Cargo.toml --package reference
 host/target/debug/slip_example > "$made/slip_example"
 cp "$made/slip_example" crates/slip_example/stdout
-for pair in slip_cases:slip_vectors films:structure_vectors tables:tables_vectors movie_films:movie_vectors question_films:question_vectors stretch_films:stretch_vectors step_films:step_vectors moov_films:moov_vectors profile_films:profile_vectors quay_films:quay_vectors return_films:return_vectors; do
+for pair in slip_cases:slip_vectors films:structure_vectors tables:tables_vectors movie_films:movie_vectors question_films:question_vectors stretch_films:stretch_vectors step_films:step_vectors moov_films:moov_vectors profile_films:profile_vectors quay_films:quay_vectors compaction_films:compaction_vectors return_films:return_vectors; do
     name=${pair#*:}
     mkdir -p "$made/files/$name/data"
     "host/target/debug/${pair%:*}" "$made/files/$name/data" "$made/files/$name/args" > "$made/files/$name/stdout"

@@ -31,8 +31,9 @@
  *                writes it, as room, and lookups read it
  *
  * Places fewer than a function names are refused 16 as room is, and then nothing
- * at all is written; so is a stepper or a handle of too few numbers, before anything
- * else is looked at. The order of refusals is: the file's (1 to 13 and 19, which is
+ * at all is written, whatever the refusal; so is a stepper or a handle of too few numbers
+ * that is to be written. One that is read is refused 16 before anything else is looked at.
+ * The order of refusals is: the file's (1 to 13 and 19, which is
  * judged after 11 and before 12), 14, 15 or 18, then 16; in reading a slip 17, then
  * 16. Of the file's, 11 is the slip writer's alone: every other function accepts a
  * film whose stored duration is not the total of its samples' durations.
@@ -71,11 +72,12 @@
 extern "C" {
 #endif
 
-/* The version of this header, and of the library that it belongs to. */
+/* The version of this header, and of the library that it belongs to: what a caller was compiled with. */
 #define CHALDOREF_VERSION_MAJOR 0
-#define CHALDOREF_VERSION_MINOR 6
+#define CHALDOREF_VERSION_MINOR 7
 #define CHALDOREF_VERSION_PATCH 0
-#define CHALDOREF_VERSION "0.6.0"
+#define CHALDOREF_VERSION "0.7.0"
+#define CHALDOREF_VERSION_NUMBER UINT32_C(7000)
 
 /* The refusals, by their numbers in documents 01 and 02. Of a file the lowest number that
    applies is given, but that 19 is judged after 11 and before 12. */
@@ -119,6 +121,8 @@ enum {
     CHALDOREF_PEAK_PLACES = 2,
     CHALDOREF_READ_SLIP_PLACES = 6,
     CHALDOREF_WRITE_SLIP_PLACES = 1,
+    CHALDOREF_COMPACT_PLACES = 1,
+    CHALDOREF_FRAGMENTS_PLACES = 2,
     CHALDOREF_MOVIE_PLACES = 2,
     CHALDOREF_EDITS_PLACES = 1,
     CHALDOREF_TOP_LEVEL_PLACES = 6,
@@ -289,9 +293,10 @@ uint32_t chaldoref_media_time(
 /*
  * A track opened once: the film is judged here, and not again by the questions that take the
  * handle. Refusals: the file's but 11; 14, 16.
- * handle: CHALDOREF_OPENED_NUMBERS numbers that the caller keeps; zeros with a refusal; with 16,
- *         for fewer numbers, nothing is written. They hold no pointer: they say where in the lent
- *         bytes the tables are, and what each of them is may change with the version.
+ * handle: CHALDOREF_OPENED_NUMBERS numbers that the caller keeps; zeros with a refusal. Where they
+ *         are fewer nothing is written, and the result is the refusal of the film or of the ID, or
+ *         else 16. They hold no pointer: they say where in the lent bytes the tables are, and what
+ *         each of them is may change with the version.
  */
 uint32_t chaldoref_open(
     const uint8_t *file, size_t file_len,
@@ -473,8 +478,9 @@ uint32_t chaldoref_check_quay(
  *         films accepted; films refused 1 to 13, then 19; tracks; samples; film bytes, which are the
  *         sizes of all samples; how many scales are held; CHALDOREF_MAX_SCALES scales in order of
  *         first meeting; as many totals, of each scale its tracks' film time. What stands in the
- *         last two past the scales held means nothing. Of any other numbers a scale is the lowest 32
- *         bits, and a number of scales above CHALDOREF_MAX_SCALES counts as that.
+ *         last two past the scales held means nothing, and stays as it is. Of any other numbers a
+ *         scale is the lowest 32 bits, which are written back; a number of scales above
+ *         CHALDOREF_MAX_SCALES counts as that, and stays as it is.
  */
 uint32_t chaldoref_film_return(
     const uint8_t *file, size_t file_len,
@@ -542,6 +548,41 @@ uint32_t chaldoref_write_slip(
     uint64_t *places, size_t places_len);
 
 /*
+ * Writes the film's moov atom with compact tables: each stts and stsc has the fewest entries that
+ * give every sample the same duration, chunk and description; everything else is copied in order.
+ * The bytes freed in a track become one 'free' atom, last in its stbl. The atom keeps its length, so
+ * no offset changes: written over the moov in the file (chaldoref_top_level_step finds it), it gets
+ * the same answers. What differs are positions in tables (a stepper, a handle or an index of the old
+ * moov does not fit the new one), the entry that chaldoref_sample_at tells, which is one of the
+ * shorter stts, and the bytes of a sample that lie inside the moov.
+ * Refusals: the file's but 11; 16.
+ * room: the moov atom with its header. As many bytes as the moov has are needed; the file's length
+ *       is always enough. It must not overlap the file.
+ * places: 1: the length of the moov atom in bytes.
+ */
+uint32_t chaldoref_compact(
+    const uint8_t *file, size_t file_len,
+    uint8_t *room, size_t room_len,
+    uint64_t *places, size_t places_len);
+
+/*
+ * Whether the film has fragments. Samples in fragments are not read: a film that has some is read
+ * in part. Refusals: the file's but 11; 16.
+ * places: 2: 1 where the moov has an mvex, which announces fragments, else 0; 1 where the file has
+ *         a moof at top level, else 0.
+ */
+uint32_t chaldoref_fragments(
+    const uint8_t *file, size_t file_len,
+    uint64_t *places, size_t places_len);
+
+/*
+ * 1 where the atom with that header is a fragment, a moof, else 0. For who steps over the top level:
+ * asked of each header that chaldoref_top_level_step is given, it is 1 for one of them exactly if
+ * the file has a fragment.
+ */
+uint32_t chaldoref_is_fragment(const uint8_t *header, size_t header_len);
+
+/*
  * One step over the atoms at a file's top level, to find its moov. Before the first one the
  * places are the file's length and five zeros. Each step is lent up to CHALDOREF_HEADER_BYTES
  * of the file at the place that is read next, fewer only at the file's end and none at its
@@ -559,6 +600,8 @@ uint32_t chaldoref_write_slip(
  *         one); the place and the size of the last of them; 1 where it is found, else 0.
  *         Where it is found the first two are 0, and after a refusal all are: keep the length.
  *         Fewer bytes than a header has, where more of the file remain, are refused 2.
+ *         Of fewer places those that are missing count as 0, as in a file of length 0 where
+ *         there is none; nothing is written, and the result is 1, 2 or 3 by them, or else 16.
  */
 uint32_t chaldoref_top_level_step(
     const uint8_t *header, size_t header_len,
@@ -647,6 +690,17 @@ uint32_t chaldoref_moov_peak(
     uint32_t id, uint32_t code,
     uint64_t *places, size_t places_len);
 
+/* The second place is 0: the top level is not known here. See chaldoref_is_fragment. */
+uint32_t chaldoref_moov_fragments(
+    const uint8_t *moov, size_t moov_len, uint64_t length,
+    uint64_t *places, size_t places_len);
+
+/* room: moov_len bytes are what it needs. */
+uint32_t chaldoref_moov_compact(
+    const uint8_t *moov, size_t moov_len, uint64_t length,
+    uint8_t *room, size_t room_len,
+    uint64_t *places, size_t places_len);
+
 /*
  * The slip has form 2 where one of its numbers is 2^32 or more, and else form 1.
  * out: CHALDOREF_SLIP_HEAD_BYTES + CHALDOREF_SLIP_WIDE_PAIR_BYTES * (the track's number of
@@ -669,11 +723,11 @@ uint32_t chaldoref_read_any_slip(
     uint64_t *room, size_t room_len,
     uint64_t *places, size_t places_len);
 
-/* The version that the caller was compiled with, as text: CHALDOREF_VERSION. */
-static inline const char *chaldoref_version(void)
-{
-    return CHALDOREF_VERSION;
-}
+/*
+ * The version of the library that is linked: major * 1,000,000 + minor * 1,000 + patch. It is
+ * CHALDOREF_VERSION_NUMBER where header and library belong together.
+ */
+uint32_t chaldoref_version(void);
 
 /*
  * Words for a refusal of a whole file, by its number; "answered" for 0. For a number
@@ -1142,6 +1196,59 @@ static inline uint32_t chaldoref_track_stretch(const uint8_t *lent, size_t lent_
     uint32_t refusal = chaldoref_opened_stretch(lent, lent_len, track->numbers, CHALDOREF_OPENED_NUMBERS, a, b, room,
                                                 room_len, places, CHALDOREF_STRETCH_PLACES);
     *stretch = chaldoref_stretch_of(places);
+    return refusal;
+}
+
+/* Writes the moov atom with compact tables into the room, and its length, 0 with a refusal, to *length. */
+static inline uint32_t chaldoref_compact_into(const uint8_t *file, size_t file_len, uint8_t *room, size_t room_len,
+                                              size_t *length)
+{
+    uint64_t places[CHALDOREF_COMPACT_PLACES];
+    uint32_t refusal = chaldoref_compact(chaldoref_lend_bytes(file), file_len, chaldoref_lend_out(room), room_len, places,
+                                         CHALDOREF_COMPACT_PLACES);
+    *length = (size_t)places[0];
+    return refusal;
+}
+
+/* The same of a moov alone, with the length of its file. */
+static inline uint32_t chaldoref_moov_compact_into(const uint8_t *moov, size_t moov_len, uint64_t file_length,
+                                                   uint8_t *room, size_t room_len, size_t *length)
+{
+    uint64_t places[CHALDOREF_COMPACT_PLACES];
+    uint32_t refusal = chaldoref_moov_compact(chaldoref_lend_bytes(moov), moov_len, file_length,
+                                              chaldoref_lend_out(room), room_len, places, CHALDOREF_COMPACT_PLACES);
+    *length = (size_t)places[0];
+    return refusal;
+}
+
+/* Whether a film has fragments, which are not read. */
+struct chaldoref_fragments_info {
+    /* The moov has an mvex. */
+    int announced;
+    /* The file has a moof at top level; false of a moov alone. */
+    int present;
+};
+
+/* Whether the film has fragments; both are false with a refusal. */
+static inline uint32_t chaldoref_find_fragments(const uint8_t *file, size_t file_len,
+                                                struct chaldoref_fragments_info *fragments)
+{
+    uint64_t places[CHALDOREF_FRAGMENTS_PLACES];
+    uint32_t refusal = chaldoref_fragments(chaldoref_lend_bytes(file), file_len, places, CHALDOREF_FRAGMENTS_PLACES);
+    fragments->announced = places[0] == 1;
+    fragments->present = places[1] == 1;
+    return refusal;
+}
+
+/* The same of a moov alone, with the length of its file. */
+static inline uint32_t chaldoref_moov_find_fragments(const uint8_t *moov, size_t moov_len, uint64_t file_length,
+                                                     struct chaldoref_fragments_info *fragments)
+{
+    uint64_t places[CHALDOREF_FRAGMENTS_PLACES];
+    uint32_t refusal = chaldoref_moov_fragments(chaldoref_lend_bytes(moov), moov_len, file_length, places,
+                                                CHALDOREF_FRAGMENTS_PLACES);
+    fragments->announced = places[0] == 1;
+    fragments->present = places[1] == 1;
     return refusal;
 }
 

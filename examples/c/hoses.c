@@ -1,10 +1,16 @@
 /*
  * The regulator's three questions about a film of hoses: which tracks the movie holds, which bytes show the second
- * hose, and whether the film time filed adds up. A refusal is printed by its number.
+ * hose, and whether the film time filed adds up. Of the film, which may have any size, only the headers at top level and
+ * the moov are read. A refusal is printed by its number, and then the exit status is 1; it is 2 where the film cannot be
+ * read.
  *
  *     cc -std=c99 -Iinclude examples/c/hoses.c -Lhost/target/library -lchaldoref -o hoses
  *     ./hoses films/two-hoses.mov
  */
+/* For files of any size. */
+#define _FILE_OFFSET_BITS 64
+#define _POSIX_C_SOURCE 200809L
+
 #include <chaldoref.h>
 
 #include <inttypes.h>
@@ -14,10 +20,11 @@
 /* The track that films the second hose. */
 #define SECOND_HOSE 2
 
-/* A whole film in memory. */
+/* The moov of a film, which has its tables, and the length of its file. */
 struct film {
-    uint8_t *bytes;
+    uint8_t *moov;
     size_t len;
+    uint64_t length;
 };
 
 struct track_list {
@@ -29,12 +36,16 @@ struct track_list {
 static void fail(const char *what)
 {
     fprintf(stderr, "hoses: %s\n", what);
-    exit(EXIT_FAILURE);
+    exit(2);
 }
+
+/* The exit status: 1 once something was refused. */
+static int status = EXIT_SUCCESS;
 
 static void print_refusal(uint32_t refusal)
 {
     printf("refused %" PRIu32 "\n", refusal);
+    status = 1;
 }
 
 /* Memory for so many elements. The library asks for a pointer that is not NULL also where there are none. */
@@ -46,28 +57,64 @@ static void *lend(size_t count, size_t size)
     return memory;
 }
 
-static struct film read_film(const char *name)
+/* Reads so many bytes of a file from a place on. */
+static void read_at(FILE *file, uint64_t place, uint8_t *bytes, size_t len)
 {
-    FILE *file = fopen(name, "rb");
-    if (file == NULL || fseek(file, 0, SEEK_END) != 0)
+    if (fseeko(file, (off_t)place, SEEK_SET) != 0 || fread(bytes, 1, len, file) != len)
         fail("the film cannot be read");
-    long len = ftell(file);
-    if (len < 0 || fseek(file, 0, SEEK_SET) != 0)
-        fail("the film cannot be read");
-    struct film film = {lend((size_t)len, 1), (size_t)len};
-    if (fread(film.bytes, 1, film.len, file) != film.len)
-        fail("the film cannot be read");
-    fclose(file);
-    return film;
 }
 
-/* Fills the list. The result here and below is the number of the refusal, 0 for none. */
+static uint64_t length_of(FILE *file)
+{
+    if (fseeko(file, 0, SEEK_END) != 0)
+        fail("the film cannot be read");
+    off_t length = ftello(file);
+    if (length < 0)
+        fail("the film cannot be read");
+    return (uint64_t)length;
+}
+
+/* Finds the moov by the headers at top level. The library says where to read; the last places are where the moov is. */
+static uint32_t find_moov(FILE *file, uint64_t length, uint64_t places[CHALDOREF_TOP_LEVEL_PLACES])
+{
+    uint32_t refusal;
+    do {
+        uint8_t header[CHALDOREF_HEADER_BYTES];
+        uint64_t rest = length - places[1];
+        size_t len = rest < CHALDOREF_HEADER_BYTES ? (size_t)rest : CHALDOREF_HEADER_BYTES;
+        read_at(file, places[1], header, len);
+        refusal = chaldoref_top_level_step(header, len, places, CHALDOREF_TOP_LEVEL_PLACES);
+    } while (refusal == CHALDOREF_ANSWERED && places[5] == 0);
+    return refusal;
+}
+
+/* Reads the moov of a film. The result here and below is the number of the refusal, 0 for none. */
+static uint32_t read_film(const char *name, struct film *film)
+{
+    FILE *file = fopen(name, "rb");
+    if (file == NULL)
+        fail("the film cannot be read");
+    film->length = length_of(file);
+    uint64_t places[CHALDOREF_TOP_LEVEL_PLACES] = {film->length};
+    uint32_t refusal = find_moov(file, film->length, places);
+    if (refusal == CHALDOREF_ANSWERED && places[4] > INT32_MAX)
+        refusal = CHALDOREF_FILE_TOO_LONG;
+    if (refusal == CHALDOREF_ANSWERED) {
+        film->len = (size_t)places[4];
+        film->moov = lend(film->len, 1);
+        read_at(file, places[3], film->moov, film->len);
+    }
+    fclose(file);
+    return refusal;
+}
+
+/* Fills the list. */
 static uint32_t list_tracks(struct film film, struct track_list *list)
 {
     uint32_t room[CHALDOREF_TRACK_NUMBERS * CHALDOREF_MAX_TRACKS];
     uint64_t count[CHALDOREF_TRACK_LIST_PLACES];
-    uint32_t refusal = chaldoref_track_list(film.bytes, film.len, room, sizeof room / sizeof *room,
-                                            count, CHALDOREF_TRACK_LIST_PLACES);
+    uint32_t refusal = chaldoref_moov_track_list(film.moov, film.len, film.length, room, sizeof room / sizeof *room,
+                                                 count, CHALDOREF_TRACK_LIST_PLACES);
     list->count = (size_t)count[0];
     for (size_t i = 0; i < list->count; i++)
         list->tracks[i] = chaldoref_track_of(room, i);
@@ -97,14 +144,14 @@ static struct chaldoref_track track_with(const struct track_list *list, uint32_t
 static void print_bytes(struct film film, struct chaldoref_track track)
 {
     size_t room_len = (size_t)CHALDOREF_PAIR_NUMBERS * track.chunks;
-    uint32_t *room = lend(room_len, sizeof *room);
+    uint64_t *room = lend(room_len, sizeof *room);
     uint64_t places[CHALDOREF_STRETCH_PLACES];
-    uint32_t refusal = chaldoref_stretch(film.bytes, film.len, track.id, 0, track.total, room, room_len,
-                                         places, CHALDOREF_STRETCH_PLACES);
+    uint32_t refusal = chaldoref_moov_stretch(film.moov, film.len, film.length, track.id, 0, track.total,
+                                              room, room_len, places, CHALDOREF_STRETCH_PLACES);
     struct chaldoref_stretch_info stretch = chaldoref_stretch_of(places);
     for (size_t i = 0; i < stretch.pairs; i++) {
-        struct chaldoref_pair pair = chaldoref_pair_of(room, i);
-        printf("%" PRIu32 " bytes of film from byte %" PRIu32 " of the file\n", pair.length, pair.offset);
+        struct chaldoref_wide_pair pair = chaldoref_wide_pair_of(room, i);
+        printf("%" PRIu64 " bytes of film from byte %" PRIu64 " of the file\n", pair.length, pair.offset);
     }
     if (refusal == CHALDOREF_ANSWERED)
         printf("%" PRIu64 " bytes of film in all\n", stretch.bytes);
@@ -116,10 +163,10 @@ static void print_bytes(struct film film, struct chaldoref_track track)
 /* The film time that a slip files, which is read from its bytes alone. */
 static uint32_t filed_by(const uint8_t *slip, size_t slip_len, uint64_t *units)
 {
-    uint32_t *room = lend(slip_len, sizeof *room);
+    uint64_t *room = lend(slip_len, sizeof *room);
     uint64_t places[CHALDOREF_READ_SLIP_PLACES];
-    uint32_t refusal = chaldoref_read_slip(slip, slip_len, room, slip_len, places, CHALDOREF_READ_SLIP_PLACES);
-    struct chaldoref_slip_head head = chaldoref_slip_head_of(places);
+    uint32_t refusal = chaldoref_read_any_slip(slip, slip_len, room, slip_len, places, CHALDOREF_READ_SLIP_PLACES);
+    struct chaldoref_any_slip_head head = chaldoref_any_slip_head_of(places);
     *units = head.b - head.a;
     free(room);
     return refusal;
@@ -128,11 +175,11 @@ static uint32_t filed_by(const uint8_t *slip, size_t slip_len, uint64_t *units)
 /* Writes the slip of a track from a to b, and reads it back. */
 static uint32_t filed(struct film film, const struct chaldoref_track *track, uint32_t a, uint32_t b, uint64_t *units)
 {
-    size_t out_len = CHALDOREF_SLIP_HEAD_BYTES + CHALDOREF_SLIP_PAIR_BYTES * (size_t)track->chunks;
+    size_t out_len = CHALDOREF_SLIP_HEAD_BYTES + CHALDOREF_SLIP_WIDE_PAIR_BYTES * (size_t)track->chunks;
     uint8_t *out = lend(out_len, 1);
     uint64_t length[CHALDOREF_WRITE_SLIP_PLACES];
-    uint32_t refusal = chaldoref_write_slip(film.bytes, film.len, track->id, a, b, out, out_len,
-                                            length, CHALDOREF_WRITE_SLIP_PLACES);
+    uint32_t refusal = chaldoref_moov_write_slip(film.moov, film.len, film.length, track->id, a, b, out, out_len,
+                                                 length, CHALDOREF_WRITE_SLIP_PLACES);
     if (refusal == CHALDOREF_ANSWERED)
         refusal = filed_by(out, (size_t)length[0], units);
     free(out);
@@ -143,8 +190,8 @@ static uint32_t filed(struct film film, const struct chaldoref_track *track, uin
 static uint32_t second_start(struct film film, const struct chaldoref_track *track)
 {
     int64_t places[CHALDOREF_SAMPLE_PLACES];
-    chaldoref_sample(film.bytes, film.len, track->id, 2, places, CHALDOREF_SAMPLE_PLACES);
-    return chaldoref_sample_of(places).decode;
+    chaldoref_moov_sample(film.moov, film.len, film.length, track->id, 2, places, CHALDOREF_SAMPLE_PLACES);
+    return chaldoref_moov_sample_of(places).decode;
 }
 
 static void print_verdict(uint64_t units, const struct chaldoref_track *track)
@@ -207,13 +254,15 @@ int main(int argc, char **argv)
 {
     if (argc != 2)
         fail("usage: hoses FILM");
-    struct film film = read_film(argv[1]);
+    struct film film = {0};
     struct track_list list;
-    uint32_t refusal = list_tracks(film, &list);
+    uint32_t refusal = read_film(argv[1], &film);
+    if (refusal == CHALDOREF_ANSWERED)
+        refusal = list_tracks(film, &list);
     if (refusal == CHALDOREF_ANSWERED)
         answer(film, &list);
     else
         print_refusal(refusal);
-    free(film.bytes);
-    return EXIT_SUCCESS;
+    free(film.moov);
+    return status;
 }

@@ -12,26 +12,37 @@ lends the library its bytes and rooms, and names the numbers that come back. Wha
 Refused, with the refusal's number and words. The numbers asked are whole numbers of 32 bits without a sign; any other
 is a ValueError, since the library cannot be asked it.
 
-The loader finds the library: where the package puts it, or in a folder of LD_LIBRARY_PATH. Any number of threads may
-ask the same Movie at once.
+The library is the one beside this file, where `pip install ./host/python` puts it; else the loader finds it, where the
+Debian package puts it or in a folder of LD_LIBRARY_PATH. Any number of threads may ask the same Movie at once.
 """
 from __future__ import annotations
 
 import ctypes
 import enum
+import functools
+import io
+import itertools
+import mmap
 import operator
 import os
+import struct
 from dataclasses import dataclass
-from typing import Any, BinaryIO, Dict, Iterator, Optional, Tuple, Union
+from typing import Any, BinaryIO, Dict, Iterable, Iterator, NamedTuple, Optional, Tuple, Union
+
+#: The version of this module and of the library that it is made for.
+__version__ = "0.7.0"
 
 __all__ = [
-    "FEATURES", "QUAY_RULES", "UNIVERSAL_PART", "ByteRange", "Edit", "FilmReturn", "Header", "Indexed", "MalformedSlip",
-    "Movie", "Opened", "Peak", "ProfileRecord", "QuayFault", "Refusal", "Refused", "Sample", "SampleAt", "Slip", "Stretch",
-    "Track", "read_any_slip", "read_slip",
+    "FEATURES", "QUAY_RULES", "UNIVERSAL_PART", "ByteRange", "Columns", "Edit", "FilmReturn", "Fragments", "Header", "Indexed", "MalformedSlip",
+    "Moov", "Movie", "Opened", "Peak", "ProfileRecord", "QuayFault", "Refusal", "Refused", "Sample", "SampleAt", "Slip", "Stretch",
+    "Track", "library_version", "read_any_slip", "read_slip",
 ]
 
 #: What the library and this module take as bytes. All but bytes are copied, since nothing may write to them in a call.
 Bytes = Union[bytes, bytearray, memoryview]
+
+#: The name of a file.
+Name = Union[str, "os.PathLike[str]"]
 
 #: The features that can be computed, by their codes, and the name of each.
 FEATURES = {
@@ -69,7 +80,13 @@ _CHECKPOINT_SAMPLES, _CHECKPOINT_NUMBERS = 64, 6
 _FILM_RETURN_NUMBERS, _MAX_SCALES = 83, 32
 
 #: As many samples are had from the library at once.
-_FETCHED = 64
+_FETCHED = 1024
+
+#: The eight numbers of a sample, as the library fills them in: all of 64 bits, of which the fourth is 0 or 1.
+_SAMPLE = struct.Struct("<3q?7x4q")
+
+#: The size of a large page of memory.
+_LARGE_PAGE = 2**21
 
 #: The most bytes that are lent of a film.
 _MAX_LENT = 2_147_483_647
@@ -137,7 +154,7 @@ _WORDS = {
 class Refused(Exception):
     """A question that the library refuses, or a file."""
 
-    #: The refusal's number in documents 01 and 02, 1 to 19.
+    #: The refusal's number in documents 01 and 02, 1 to 21.
     number: Refusal
 
     def __init__(self, number: int) -> None:
@@ -191,8 +208,7 @@ class Track:
     stored: int
 
 
-@dataclass(frozen=True)
-class Sample:
+class Sample(NamedTuple):
     """A sample of a track."""
 
     #: Where it starts: the total of the durations before it.
@@ -213,8 +229,22 @@ class Sample:
     size: int
 
 
-@dataclass(frozen=True)
-class SampleAt:
+class Columns(NamedTuple):
+    """The samples of a track as columns: views of one table of 64-bit numbers, an entry for each sample. A view has the
+    buffer protocol, so that numpy.asarray(columns.size) copies nothing; sum, list and indexes work on it too."""
+
+    decode: memoryview
+    duration: memoryview
+    composition: memoryview
+    #: 1 for a sync sample, else 0.
+    sync: memoryview
+    description: memoryview
+    chunk: memoryview
+    offset: memoryview
+    size: memoryview
+
+
+class SampleAt(NamedTuple):
     """The sample at a media time."""
 
     #: Its number, from 1.
@@ -223,8 +253,7 @@ class SampleAt:
     entry: int
 
 
-@dataclass(frozen=True)
-class ByteRange:
+class ByteRange(NamedTuple):
     """Some bytes of a film: as many as length from offset on, counted from the file's first byte."""
 
     #: The first byte's place in the file.
@@ -325,6 +354,68 @@ class Slip:
         return sum(pair.length for pair in self.pairs)
 
 
+class Fragments(NamedTuple):
+    """Whether a film has fragments. Samples in fragments are not read, so that a film that has them is read in part."""
+
+    #: The moov has an mvex: the film may have fragments, in this file or in others.
+    announced: bool
+    #: The file has a moof at top level. It is not known of a movie that is made by of_moov.
+    present: bool
+
+
+@dataclass(frozen=True)
+class Moov:
+    """The moov atom of a film, with its header and nothing else: what Movie.of_moov takes."""
+
+    #: The whole atom.
+    bytes: bytes
+    #: The length of the file that it is of.
+    length: int
+    #: How many fragments the file has at top level. Their samples are not read.
+    fragments: int = 0
+
+    @classmethod
+    def read(cls, film: Union[str, "os.PathLike[str]", BinaryIO]) -> "Moov":
+        """Reads the moov of a film, by the name of its file or from a binary file that can be read and sought. Refusals 1,
+        2, 3, where the film's top level is refused."""
+        if not hasattr(film, "read"):
+            with open(film, "rb") as file:
+                return cls.read(file)
+        length = film.seek(0, os.SEEK_END)
+        place, size, fragments = _moov_in(film, length)
+        if size > _MAX_LENT:
+            raise Refused(Refusal.FILE_TOO_LONG)
+        return cls(_read_at(film, place, size), length, fragments)
+
+    def leaving_out(self, *, edits: bool = False, tracks: Iterable[int] = ()) -> "Moov":
+        """A copy in which the edit lists of all tracks, or the tracks with those IDs, are named free, so that every reader
+        skips them. No byte moves and no table changes: every other answer is the film's own. Refusal 14 where no track has
+        such an ID."""
+        copy = bytearray(self.bytes)
+        places = [place for trak in self._tracks() for place, _, kind in _children(self.bytes, *trak) if kind == b"edts"]
+        found = places if edits else []
+        for track in tracks:
+            own = [begin for begin, end in self._tracks() if self._id_in(begin, end) == track]
+            if not own:
+                raise Refused(Refusal.NO_TRACK)
+            found = found + own
+        for place in found:
+            copy[place + 4:place + 8] = b"free"
+        return Moov(bytes(copy), self.length, self.fragments)
+
+    def _tracks(self) -> Iterator[Tuple[int, int]]:
+        """Where the traks begin and end."""
+        return ((begin, end) for begin, end, kind in _children(self.bytes, 0, len(self.bytes)) if kind == b"trak")
+
+    def _id_in(self, begin: int, end: int) -> Optional[int]:
+        """The ID that the header of a track has, of version 1 too."""
+        for place, _, kind in _children(self.bytes, begin, end):
+            if kind == b"tkhd":
+                at = place + (28 if self.bytes[place + 8:place + 9] == b"\x01" else 20)
+                return int.from_bytes(self.bytes[at:at + 4], "big")
+        return None
+
+
 class Movie:
     """A movie that the library has accepted. Times and totals of a track are in its own time scale.
 
@@ -334,7 +425,9 @@ class Movie:
     """
 
     def __init__(self, file: Bytes) -> None:
-        """Judges a whole movie file and reads its track list. Refusals 1 to 13 but 11, and 19."""
+        """Judges a whole movie file, given as its bytes, and reads its track list. Refusals 1 to 13 but 11, and 19."""
+        if isinstance(file, (str, os.PathLike)):
+            raise TypeError(f"Movie takes the bytes of a film; Movie.read({os.fspath(file)!r}) takes the name of its file")
         self._open(_lent(file), None)
 
     @classmethod
@@ -346,20 +439,20 @@ class Movie:
         return movie
 
     @classmethod
-    def read(cls, film: Union[str, "os.PathLike[str]", BinaryIO]) -> "Movie":
+    def read(cls, film: Union[Name, BinaryIO]) -> "Movie":
         """Reads the moov of a film, by the name of its file or from a binary file that can be read and sought, and no
         other byte but the headers of the atoms at top level. Refusals 1 to 13 but 11, and 19."""
-        if not hasattr(film, "read"):
-            with open(film, "rb") as file:
-                return cls.read(file)
-        length = film.seek(0, os.SEEK_END)
-        place, size = _moov_in(film, length)
-        if size > _MAX_LENT:
-            raise Refused(Refusal.FILE_TOO_LONG)
-        return cls.of_moov(_read_at(film, place, size), length)
+        moov = Moov.read(film)
+        movie = cls.of_moov(moov.bytes, moov.length)
+        movie._film, movie._moofs = film, moov.fragments
+        return movie
 
     def _open(self, lent: bytes, length: Optional[int]) -> None:
         self._lent, self._length = lent, length
+        # How many fragments stood at top level, where the film was read by its headers.
+        self._moofs = 0
+        # Where the samples' bytes are read, if the movie was made by read.
+        self._film: Union[Name, BinaryIO, None] = None
         room = _room(ctypes.c_uint32, _TRACK_NUMBERS * _MAX_TRACKS)
         count, = self._ask("track_list", 1, room=room)
         rows = _rows(room, count, _TRACK_NUMBERS)
@@ -411,13 +504,28 @@ class Movie:
             self._opened[track] = Opened(self._lent, next(known for known in self._tracks if known.id == track), handle)
         return self._opened[track]
 
+    def columns(self, track: int, start: Optional[int] = None) -> "Columns":
+        """The same as samples, as columns: for programs that look at all samples of a long track. Refusals 14, 15."""
+        return self.opened(track).columns(start)
+
     def sample_bytes(self, track: int, n: int) -> bytes:
-        """The bytes of sample n of a track, numbered from 1. Refusals 14, 15. A ValueError where the movie was made of
-        its moov alone: offset and size of the sample then tell where in the file they are."""
-        if self._length is not None:
-            raise ValueError("the movie was made of its moov alone, which has no sample's bytes")
+        """The bytes of sample n of a track, numbered from 1. Refusals 14, 15. A movie that read has made reads them from its
+        file, which must not have changed: an OSError where its length has. A ValueError where the movie was made of_moov:
+        offset and size of the sample then tell where in the file they are."""
         sample = self.sample(track, n)
-        return self._lent[sample.offset:sample.offset + sample.size]
+        if self._length is None:
+            return self._lent[sample.offset:sample.offset + sample.size]
+        if self._film is None:
+            raise ValueError("the movie was made of its moov alone, which has no sample's bytes; Movie.read knows the file")
+        if hasattr(self._film, "read"):
+            return self._bytes_in(self._film, sample)
+        with open(self._film, "rb") as file:
+            return self._bytes_in(file, sample)
+
+    def _bytes_in(self, film: BinaryIO, sample: Sample) -> bytes:
+        if film.seek(0, os.SEEK_END) != self._length:
+            raise OSError("the film has changed since its moov was read")
+        return _read_at(film, sample.offset, sample.size)
 
     def sample_at(self, track: int, t: int) -> SampleAt:
         """The sample at media time t: decode time <= t < decode time + duration. Refusals 14, 15."""
@@ -441,6 +549,26 @@ class Movie:
         out = _room(ctypes.c_uint8, _SLIP_HEAD_BYTES + pair_bytes * self._chunks(track))
         length, = self._ask("write_slip", 1, track, a, b, room=out)
         return bytes(memoryview(out)[:length])
+
+    def fragments(self) -> Fragments:
+        """Whether the film has fragments, whose samples are not read."""
+        announced, present = self._ask("fragments", 2)
+        return Fragments(announced == 1, present == 1 or self._moofs > 0)
+
+    def moov_bytes(self) -> range:
+        """Where the moov atom stands in what the movie was made of; a moov alone is all of it."""
+        if self._length is not None:
+            return range(len(self._lent))
+        place, size, _ = _moov_in(io.BytesIO(self._lent), len(self._lent))
+        return range(place, place + size)
+
+    def compact(self) -> bytes:
+        """The moov atom written anew with compact tables: its stts and stsc have the fewest entries that say the same, and
+        the bytes freed in a track are one free atom. It is as long as the moov was. With it in the moov's place no offset
+        moves and every question gets the same answer, so slips of the film stay good."""
+        room = _room(ctypes.c_uint8, len(self.moov_bytes()))
+        length, = self._ask("compact", 1, room=room)
+        return bytes(memoryview(room)[:length])
 
     def profile(self, track: int) -> Tuple[ProfileRecord, ...]:
         """The stored profile of a track, or for 0 of the movie: its records with a code other than 0; none where there
@@ -533,6 +661,14 @@ class Opened:
             return iter(())
         return _stepped(self._lent, self._ask("opened_step_start", _STEPPER_NUMBERS, 1 if start is None else start))
 
+    def columns(self, start: Optional[int] = None) -> "Columns":
+        """The same as samples, as columns."""
+        if start is None and self._track.samples == 0:
+            return _columns(self._lent, (), 0)
+        first = 1 if start is None else start
+        position = self._ask("opened_step_start", _STEPPER_NUMBERS, first)
+        return _columns(self._lent, position, self._track.samples + 1 - first)
+
     def stretch(self, a: int, b: int) -> Stretch:
         """The bytes of the track from media time a to b. Refusal 15."""
         room = _room(ctypes.c_uint64, _PAIR_NUMBERS * self._track.chunks)
@@ -566,11 +702,21 @@ class FilmReturn:
     def __init__(self) -> None:
         self._numbers = (ctypes.c_uint64 * _FILM_RETURN_NUMBERS)()
 
-    def add(self, file: Bytes) -> None:
-        """Adds a film by the bytes of its file, be it accepted or refused under its number. Refusals 20, 21, with which the
-        return is left without any of the film."""
-        lent = _lent(file)
-        self._add("film_return", lent)
+    def add(self, film: Union[Bytes, Name]) -> None:
+        """Adds a film, be it accepted or refused under its number, by the bytes of its file or by the file's name, of which
+        the moov alone is read. Refusals 20, 21, with which the return is left without any of the film."""
+        if isinstance(film, (str, os.PathLike)):
+            self._add_named(film)
+        else:
+            self._add("film_return", _lent(film))
+
+    def _add_named(self, name: Name) -> None:
+        try:
+            moov = Moov.read(name)
+        except Refused as refused:
+            # The film's top level: it is counted by a moov that is refused with the same number.
+            moov = Moov(*_REFUSED_AT_TOP_LEVEL[refused.number])
+        self.add_moov(moov.bytes, moov.length)
 
     def add_moov(self, moov: Bytes, length: int) -> None:
         """The same by its moov alone, with the length of its file."""
@@ -635,17 +781,49 @@ def _sample(numbers: Any) -> Sample:
     return Sample(decode, duration, composition, sync == 1, *rest)
 
 
+def _columns(lent: bytes, start: Any, samples: int) -> Columns:
+    """So many samples from a position on, as columns of one table."""
+    table = _table(samples * _SAMPLE.size)
+    if samples:
+        stepper = (ctypes.c_uint64 * _STEPPER_NUMBERS)(*start)
+        room = (ctypes.c_int64 * (samples * _SAMPLE_NUMBERS)).from_buffer(table)
+        count = (ctypes.c_uint64 * 1)()
+        answer = _function("steps")(lent, len(lent), stepper, len(stepper), room, len(room), count, 1)
+        if answer != 0:
+            raise Refused(answer)
+    numbers = memoryview(table).cast("q")
+    return Columns(*(numbers[place::_SAMPLE_NUMBERS] for place in range(_SAMPLE_NUMBERS)))
+
+
+def _table(size: int) -> Any:
+    """So many bytes of memory from the system, in large pages where there are such: to touch 64 MB of small ones for the first
+    time takes several times as long as to fill them with samples."""
+    if size == 0:
+        return bytearray()
+    table = mmap.mmap(-1, size, flags=mmap.MAP_PRIVATE | mmap.MAP_ANONYMOUS)
+    if size >= _LARGE_PAGE and hasattr(mmap, "MADV_HUGEPAGE"):
+        table.madvise(mmap.MADV_HUGEPAGE)
+    return table
+
+
 def _stepped(lent: bytes, start: Any) -> Iterator[Sample]:
-    """The samples from a position on. A generator has a position and a room of its own."""
+    """The samples from a position on. Each iterator has a position and a room of its own."""
+    # By tuple's own constructor, since _make is written in Python and takes three times as long.
+    return map(functools.partial(tuple.__new__, Sample), itertools.chain.from_iterable(_batches(lent, start)))
+
+
+def _batches(lent: bytes, start: Any) -> Iterator[Iterator[Any]]:
+    """The samples from a position on as tuples of their numbers, many at a time."""
     stepper = (ctypes.c_uint64 * _STEPPER_NUMBERS)(*start)
     room = _room(ctypes.c_int64, _SAMPLE_NUMBERS * _FETCHED)
+    numbers = memoryview(room).cast("B")
     count = (ctypes.c_uint64 * 1)(_FETCHED)
     # Fewer than the room takes come only at the end.
     while count[0] == _FETCHED:
         answer = _function("steps")(lent, len(lent), stepper, len(stepper), room, len(room), count, 1)
         if answer != 0:
             raise Refused(answer)
-        yield from map(_sample, _rows(room, count[0], _SAMPLE_NUMBERS))
+        yield _SAMPLE.iter_unpack(bytes(numbers[:count[0] * _SAMPLE.size]))
 
 
 def read_slip(slip: Bytes) -> Slip:
@@ -673,16 +851,35 @@ def _read(reader: str, kind: Any, slip: bytes) -> Slip:
     return Slip(track, scale, a, b, _pairs(room, count), slip[0])
 
 
-def _moov_in(film: BinaryIO, length: int) -> Tuple[int, int]:
-    """The place and the size of a film's moov, which the library finds by the headers at top level."""
+# A moov and a length of a file that are refused 1, 2 and 3, as a film's top level may be.
+_REFUSED_AT_TOP_LEVEL = {1: (b"", 2**63), 2: (b"\0\0\0\7moov", 8), 3: (b"\0\0\0\10moov", 8)}
+
+
+def _moov_in(film: BinaryIO, length: int) -> Tuple[int, int, int]:
+    """The place and the size of a film's moov, which the library finds by the headers at top level, and how many of those
+    are fragments."""
+    fragments = 0
     places = (ctypes.c_uint64 * _TOP_LEVEL_PLACES)(_number(length, 64))
     while not places[5]:
         place = places[1]
         header = _read_at(film, place, min(_HEADER_BYTES, length - place))
+        fragments += _is_fragment(header, len(header))
         answer = _function("top_level_step")(header, len(header), places, len(places))
         if answer != 0:
             raise Refused(answer)
-    return places[3], places[4]
+    return places[3], places[4], fragments
+
+
+def _children(lent: bytes, begin: int, end: int) -> Iterator[Tuple[int, int, bytes]]:
+    """Where the atoms inside one begin and end, and their types, as far as their sizes are right."""
+    # Only the moov itself, which stands at top level, may have a size of 64 bits.
+    at = begin + (16 if lent[begin:begin + 4] == b"\0\0\0\1" else 8)
+    while at + 8 <= end:
+        size = int.from_bytes(lent[at:at + 4], "big")
+        if size < 8 or at + size > end:
+            return
+        yield at, at + size, lent[at + 4:at + 8]
+        at += size
 
 
 def _read_at(film: BinaryIO, place: int, count: int) -> bytes:
@@ -717,6 +914,8 @@ _PARAMETERS = {
     "read_slip": "r",
     "read_any_slip": "r",
     "write_slip": "nnnr",
+    "compact": "r",
+    "fragments": "",
     "top_level_step": "",
     "film_return": "",
     "step_start": "nn",
@@ -734,12 +933,30 @@ _PARAMETERS = {
 }
 _MOOV = (
     "track_list", "sample", "sample_at", "media_time", "stretch", "profile", "check_profile", "check_quay", "feature",
-    "peak", "movie", "edits", "film_return", "write_slip", "step_start", "open",
+    "peak", "movie", "edits", "film_return", "write_slip", "compact", "fragments", "step_start", "open",
 )
 _PARAMETERS.update({"moov_" + name: "l" + _PARAMETERS[name] for name in _MOOV})
 
+def _library_name() -> str:
+    """The library beside this file, or the name by which the loader finds it."""
+    beside = os.path.join(os.path.dirname(os.path.abspath(__file__)), "libchaldoref.so.1")
+    return beside if os.path.exists(beside) else "libchaldoref.so.1"
+
+
 # A call through CDLL lets other threads of Python run, as the library keeps no state.
-_library = ctypes.CDLL("libchaldoref.so.1")
+_library = ctypes.CDLL(_library_name())
+
+# 1 where the atom with that header is a fragment, else 0.
+_is_fragment = _library.chaldoref_is_fragment
+_is_fragment.argtypes, _is_fragment.restype = (ctypes.c_char_p, ctypes.c_size_t), ctypes.c_uint32
+
+
+def library_version() -> str:
+    """The version of the library that answers: that of this module, where the two belong together."""
+    function = _library.chaldoref_version
+    function.argtypes, function.restype = (), ctypes.c_uint32
+    number = function()
+    return f"{number // 1_000_000}.{number // 1_000 % 1_000}.{number % 1_000}"
 
 
 def _declared(name: str) -> Any:

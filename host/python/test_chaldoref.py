@@ -9,13 +9,15 @@ import ctypes
 import io
 import pickle
 import re
+import struct
+import tempfile
 import threading
 import unittest
 from pathlib import Path
 
 import chaldoref
 from chaldoref import (
-    FEATURES, UNIVERSAL_PART, ByteRange, FilmReturn, MalformedSlip, Movie, Peak, ProfileRecord, QUAY_RULES, QuayFault, Refusal, Refused,
+    FEATURES, UNIVERSAL_PART, ByteRange, FilmReturn, Fragments, MalformedSlip, Moov, Movie, Peak, ProfileRecord, QUAY_RULES, QuayFault, Refusal, Refused,
     Sample, SampleAt, Stretch, Track, read_any_slip, read_slip,
 )
 
@@ -69,6 +71,29 @@ def with_edits(*edits):
     return with_atom(W, atom(b"edts", atom(b"elst", numbers(0, len(edits)) + entries)), b"mdia", (b"moov", b"trak"))
 
 
+def rebuilt(file, bodies):
+    """Atoms in which those of some kinds have other bodies."""
+    made, place = b"", 0
+    while place < len(file):
+        size, kind = int.from_bytes(file[place:place + 4], "big"), file[place + 4:place + 8]
+        content = file[place + 8:place + size]
+        inner = kind in (b"moov", b"trak", b"mdia", b"minf", b"stbl")
+        made += atom(kind, rebuilt(content, bodies) if inner else bodies.get(kind, content))
+        place += size
+    return made
+
+
+def long_moov(samples):
+    """The moov of film W with a track of so many samples in one chunk, of 0 to 6 bytes."""
+    numbers = lambda *given: struct.pack(f">{len(given)}I", *given)
+    return rebuilt(W[:int.from_bytes(W[:4], "big")], {
+        b"stts": numbers(0, 1, samples, 24),
+        b"stsc": numbers(0, 1, 1, samples, 1),
+        b"stsz": numbers(0, 0, samples, *(n % 7 for n in range(samples))),
+        b"stco": numbers(0, 1, 4096),
+    })
+
+
 class Case(unittest.TestCase):
     def assertRefused(self, number, question, *asked):
         with self.assertRaises(Refused) as raised:
@@ -109,6 +134,29 @@ class FilmW(Case):
         self.assertRefused(15, self.movie.samples, 1, 0)
         self.assertRefused(15, self.movie.samples, 1, 5)
         self.assertRefused(14, self.movie.samples, 2)
+
+    def test_columns(self):
+        for film in (W, TWO_HOSES):
+            movie = Movie(film)
+            for track in movie.tracks():
+                for start in (None, 1, 3, track.samples):
+                    columns = movie.columns(track.id, start)
+                    self.assertEqual(columns._fields, Sample._fields)
+                    self.assertEqual([Sample(*row) for row in zip(*columns)], list(movie.samples(track.id, start)))
+        self.assertEqual((sum(columns.size), columns.size.format, columns.size.itemsize), (16, "q", 8))
+        for start in (0, 5):
+            self.assertRefused(15, Movie(W).columns, 1, start)
+        self.assertRefused(14, Movie(W).columns, 2)
+        self.assertIs(type(next(Movie(W).samples(1)).sync), bool)
+
+    def test_columns_of_a_long_track(self):
+        samples = 300_000
+        movie = Movie.of_moov(long_moov(samples), 2**40)
+        columns = movie.columns(1)
+        self.assertEqual((len(columns.size), sum(columns.size)), (samples, sum(n % 7 for n in range(samples))))
+        for n in (1, 1024, 1025, samples):
+            self.assertEqual(Sample(*(column[n - 1] for column in columns)), movie.sample(1, n))
+        self.assertEqual(sum(sample.size for sample in movie.samples(1)), sum(columns.size))
 
     def test_opened_once(self):
         for movie in (self.movie, Movie.read("films/w.mov")):
@@ -167,6 +215,24 @@ class FilmW(Case):
         self.assertEqual(self.movie.write_slip(1, 24, 73), SLIP)
         self.assertRefused(15, self.movie.write_slip, 1, 24, 24)
         self.assertRefused(14, self.movie.write_slip, 2, 24, 73)
+
+    def test_compact(self):
+        place = self.movie.moov_bytes()
+        moov = self.movie.file[place.start:place.stop]
+        # Its tables are compact already.
+        self.assertEqual(self.movie.compact(), moov)
+        # A run for each of its samples: 24 units three times, and 48.
+        few = struct.pack(">I4sI5I", 32, b"stts", 0, 2, 3, 24, 1, 48)
+        many = struct.pack(">I4sI9I", 48, b"stts", 0, 4, 1, 24, 1, 24, 1, 24, 1, 48)
+        self.assertEqual(moov.count(few), 1)
+        wasteful = resized(moov.replace(few, many), [b"moov", b"trak", b"mdia", b"minf", b"stbl"], 16)
+        movie = Movie.of_moov(wasteful, 4096)
+        compact = movie.compact()
+        self.assertEqual((len(compact), compact[-16:]), (len(wasteful), struct.pack(">I4s8x", 16, b"free")))
+        after = Movie.of_moov(compact, 4096)
+        self.assertEqual(list(after.samples(1)), list(movie.samples(1)))
+        self.assertEqual(after.write_slip(1, 24, 73), SLIP)
+        self.assertEqual(after.compact(), compact)
 
     def test_features(self):
         self.assertEqual(self.movie.feature(1, "avvb"), 8800)
@@ -265,6 +331,17 @@ class Returns(Case):
         quarter.add_moov(W[:size], len(W))
         self.assertEqual((quarter.accepted, quarter.scales), (3, {600: 528}))
 
+    def test_films_by_their_names(self):
+        by_bytes, by_name = FilmReturn(), FilmReturn()
+        with tempfile.TemporaryDirectory() as folder:
+            for i, film in enumerate((W, TWO_HOSES, b"", b"no film", W + W, W[:1000])):
+                name = Path(folder) / str(i)
+                name.write_bytes(film)
+                by_bytes.add(film)
+                by_name.add(name if i % 2 else str(name))
+        self.assertEqual(list(by_bytes._numbers), list(by_name._numbers))
+        self.assertRaises(FileNotFoundError, by_name.add, "films/none.mov")
+
 
 class TwoHoses(Case):
     def setUp(self):
@@ -334,6 +411,11 @@ class Asking(Case):
             self.assertEqual(movie.sample_at(1, 24).sample, 2)
         self.assertEqual(read_slip(bytearray(SLIP)), read_slip(SLIP))
 
+    def test_a_file_name_is_not_bytes(self):
+        for name in ("films/w.mov", Path("films/w.mov")):
+            with self.assertRaisesRegex(TypeError, r"Movie\.read\('films/w\.mov'\)"):
+                Movie(name)
+
     def test_what_is_not_bytes(self):
         for given in (4096, "w.mov", None, [0, 1]):
             self.assertRaises(TypeError, Movie, given)
@@ -375,8 +457,20 @@ class SecondWay(unittest.TestCase):
         self.assertEqual([movie.header() for movie in (whole, alone)], [chaldoref.Header(600, 120)] * 2)
         self.assertEqual([movie.edits(1) for movie in (whole, alone)], [(), ()])
         self.assertEqual(alone.profile(0), ())
-        self.assertRaises(ValueError, alone.sample_bytes, 1, 1)
+        self.assertRaises(ValueError, Movie.of_moov(alone._lent, 4096).sample_bytes, 1, 1)
         self.refused(14, alone.edits, 2)
+
+    def test_sample_bytes_of_a_file(self):
+        whole = Movie(TWO_HOSES)
+        for film in ("films/two-hoses.mov", Path("films/two-hoses.mov"), io.BytesIO(TWO_HOSES)):
+            alone = Movie.read(film)
+            for track, n in ((1, 1), (2, 2), (2, 6)):
+                self.assertEqual(alone.sample_bytes(track, n), whole.sample_bytes(track, n))
+            self.refused(15, alone.sample_bytes, 2, 7)
+        changed_film = io.BytesIO(TWO_HOSES)
+        alone = Movie.read(changed_film)
+        changed_film.truncate(len(TWO_HOSES) - 1)
+        self.assertRaises(OSError, alone.sample_bytes, 2, 1)
 
     def test_a_long_file(self):
         alone = Movie.read("films/w.mov")
@@ -411,6 +505,14 @@ class SecondWay(unittest.TestCase):
         self.assertEqual(raised.exception.number, number)
 
 
+class Version(unittest.TestCase):
+    def test_the_headers(self):
+        self.assertIn(f'#define CHALDOREF_VERSION "{chaldoref.__version__}"\n', HEADER)
+
+    def test_the_librarys(self):
+        self.assertEqual(chaldoref.library_version(), chaldoref.__version__)
+
+
 class Header(unittest.TestCase):
     """The module has the header's numbers, names and functions."""
 
@@ -430,6 +532,8 @@ class Header(unittest.TestCase):
 
     def test_functions(self):
         declared = {name: parameters for name, parameters in re.findall(r"^uint32_t chaldoref_(\w+)\((.*?)\);", HEADER, re.M | re.S)}
+        self.assertEqual(declared.pop("version"), "void")
+        self.assertEqual(declared.pop("is_fragment"), "const uint8_t *header, size_t header_len")
         self.assertEqual(set(declared), set(chaldoref._PARAMETERS))
         for name, parameters in declared.items():
             # The last pointer and length are the answer's own.
@@ -439,9 +543,71 @@ class Header(unittest.TestCase):
             self.assertEqual("".join(letters), chaldoref._PARAMETERS[name])
 
     def test_features(self):
-        codes = re.findall(r"define CHALDOREF_(\w+) UINT32_C\((\w+)\)", HEADER)
+        codes = re.findall(r"define CHALDOREF_(\w+) UINT32_C\((0x\w+)\)", HEADER)
         self.assertEqual([(name.lower(), int(number, 16)) for name, number in codes],
                          [(code, int.from_bytes(code.encode(), "big")) for code in FEATURES])
+
+
+class FragmentsOfFilms(unittest.TestCase):
+    """Films of which some lies in fragments."""
+
+    def test_none(self):
+        for movie in (Movie(W), Movie.read("films/w.mov")):
+            self.assertEqual(movie.fragments(), Fragments(False, False))
+
+    def test_at_top_level(self):
+        film = W + struct.pack(">I4s", 8, b"moof")
+        self.assertEqual(Movie(film).fragments(), Fragments(False, True))
+        self.assertEqual(Movie.read(io.BytesIO(film)).fragments(), Fragments(False, True))
+        self.assertEqual(Moov.read(io.BytesIO(film)).fragments, 1)
+
+    def test_announced(self):
+        moov = Moov.read(io.BytesIO(W)).bytes
+        extended = resized(moov + struct.pack(">I4s", 8, b"mvex"), [b"moov"], 8)
+        self.assertEqual(Movie.of_moov(extended, 4096).fragments(), Fragments(True, False))
+
+
+class LeavingOut(unittest.TestCase):
+    """Films read with parts left out."""
+
+    def test_a_track(self):
+        moov = Moov.read(io.BytesIO(TWO_HOSES))
+        whole = Movie.of_moov(moov.bytes, moov.length)
+        second = moov.leaving_out(tracks=[1])
+        movie = Movie.of_moov(second.bytes, second.length)
+        self.assertEqual(movie.tracks(), whole.tracks()[1:])
+        self.assertEqual(list(movie.samples(2)), list(whole.samples(2)))
+        self.assertEqual((len(second.bytes), second.length), (len(moov.bytes), moov.length))
+        self.assertEqual(Movie.of_moov(moov.leaving_out(tracks=[1, 2]).bytes, moov.length).tracks(), ())
+        with self.assertRaises(Refused) as raised:
+            moov.leaving_out(tracks=[1, 7])
+        self.assertEqual(raised.exception.number, Refusal.NO_TRACK)
+
+    def test_edits(self):
+        film = Path("films/w-edits.mov").read_bytes()
+        # The second edit ends past the samples.
+        elst = body(film, b"elst")
+        refused = changed(film, elst + 8 + 12, 121)
+        with self.assertRaises(Refused) as raised:
+            Movie(refused)
+        self.assertEqual(raised.exception.number, Refusal.EDIT_LIST)
+        moov = Moov.read(io.BytesIO(refused)).leaving_out(edits=True)
+        movie = Movie.of_moov(moov.bytes, moov.length)
+        self.assertEqual(movie.edits(1), ())
+        self.assertEqual(list(movie.samples(1)), list(Movie(film).samples(1)))
+        plain = Moov.read(io.BytesIO(W))
+        self.assertEqual(plain.leaving_out(edits=True), plain)
+
+    def test_any_bytes(self):
+        moov = Moov.read(io.BytesIO(W))
+        for end in range(len(moov.bytes)):
+            cut = Moov(moov.bytes[:end], moov.length)
+            cut.leaving_out(edits=True)
+            with self.subTest(end):
+                try:
+                    cut.leaving_out(tracks=[1])
+                except Refused as refused:
+                    self.assertEqual(refused.number, Refusal.NO_TRACK)
 
 
 if __name__ == "__main__":

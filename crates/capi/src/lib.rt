@@ -1,12 +1,15 @@
 // The questions of documents 01 and 02 for programs in C and Rust: numbers and slices alone. Each function answers the number of a refusal, or 0, and
 // puts the values into lent places, in the order of the documents. Each is one call: a function that is exported must stand in this crate.
 mod checks;
+mod compacting;
 mod filing;
+mod fragment_check;
 mod handles;
 mod index;
 mod moov;
 mod quay_check;
 mod steps;
+mod version;
 
 use host_any_slips::hand_read_any_slip;
 use host_features::hand_feature;

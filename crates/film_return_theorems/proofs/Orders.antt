@@ -1,11 +1,11 @@
 -- The same in another order: sums, and lists put together.
 -- Assumes nothing.
 use Prim.Native.Nat.{ℕ, _+_}
-use mathlib.Core.Path.{_≡_, refl, ap, _∙_, sym}
-use mathlib.Core.List.{List, [], _∷_, _++_, map, append-assoc}
+use mathlib.Core.Path.{_≡_, refl, ap, _∙_}
+use mathlib.Core.List.{List, [], _∷_, _++_, map}
 use native.Mathlib.Omega.{arith}
 use Rattle.lists.specs.Lists.{sum}
-use Rattle.film_return_theorems.specs.Filing.{Reordered, none, keep, swap, then}
+use Rattle.film_return_theorems.specs.Filing.{joined, Reordered, none, keep, swap, then}
 
 pub order-sum : {A : Type 0} (g : A → ℕ) {l m : List A} → Reordered l m → sum (map g l) ≡ sum (map g m)
 order-sum g none = refl
@@ -13,10 +13,11 @@ order-sum g (keep {x} h) = ap (λ k. g x + k) (order-sum g h)
 order-sum g swap = omega arith
 order-sum g (then h k) = order-sum g h ∙ order-sum g k
 
--- all of the lists, one after the other
-abbrev pub joined : {A B : Type 0} → (A → List B) → List A → List B
-joined f [] = []
-joined f (x ∷ xs) = f x ++ joined f xs
+pub order-map : {A B : Type 0} (g : A → B) {l m : List A} → Reordered l m → Reordered (map g l) (map g m)
+order-map g none = none
+order-map g (keep h) = keep (order-map g h)
+order-map g swap = swap
+order-map g (then h k) = then (order-map g h) (order-map g k)
 
 pub order-back : {A : Type 0} {l m : List A} → Reordered l m → Reordered m l
 order-back none = none

@@ -1,6 +1,6 @@
 -- Totals by scale, in whatever order the tracks are met.
 -- Assumes nothing.
-use Prim.Native.Nat.{ℕ, zero, suc, _+_, _≤_, _<_}
+use Prim.Native.Nat.{ℕ, suc, _+_, _<_}
 use mathlib.Core.Path.{_≡_, refl, sym, ap, _∙_}
 use mathlib.Core.Bool.{Bool, true, false, cond, _||_}
 use mathlib.Core.List.{List, [], _∷_, _++_, map}
@@ -13,11 +13,24 @@ use Rattle.lists.proofs.Booleans.{or-left, or-right, or-neither}
 use Rattle.return_totals.specs.Returns.{Scale, withUnits, anyOver}
 use Rattle.return_totals.specs.Following.{unitsIn}
 use Rattle.return_totals.specs.declared.TrackTotals.{TrackTotals}
-use Rattle.film_return_theorems.specs.Filing.{totalOf, isMet, Reordered, none, keep, swap, then}
+use Rattle.film_return_theorems.specs.Filing.{Reordered, none, keep, swap, then}
+
+-- the total of a scale; 0 where it was not met
+abbrev pub totalOf : ℕ → List Scale → ℕ
+totalOf k [] = 0
+totalOf k (x ∷ xs) = cond (eqb (x .scale) k) (x .total) 0 + totalOf k xs
+
+abbrev isMet : ℕ → List Scale → Bool
+isMet k [] = false
+isMet k (x ∷ xs) = eqb (x .scale) k || isMet k xs
 
 abbrev pub withAll : List TrackTotals → List Scale → List Scale
 withAll [] l = l
 withAll (t ∷ ts) l = withAll ts (withUnits (t .scale) (t .total) l)
+
+pub all-append : (a b : List TrackTotals) (l : List Scale) → withAll (a ++ b) l ≡ withAll b (withAll a l)
+all-append [] b l = refl
+all-append (t ∷ a) b l = all-append a b (withUnits (t .scale) (t .total) l)
 
 -- the same scales, each with the same total
 pub record Same (l m : List Scale) : Type 0 where
@@ -102,7 +115,7 @@ two false true false n h = refl
 two false false true n h = refl
 two false false false n h = refl
 
-eqb-swap : (a b : ℕ) → eqb a b ≡ eqb b a
+pub eqb-swap : (a b : ℕ) → eqb a b ≡ eqb b a
 eqb-swap a b = go (eqb b a) refl
   where
     go : (f : Bool) → eqb b a ≡ f → eqb a b ≡ f

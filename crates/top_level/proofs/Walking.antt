@@ -48,14 +48,14 @@ unfolding said filledBy total piecesAfter passed
 said-end w = refl
 
 -- past an atom the length stays, and the place is past it
-past-length : (z k : ℕ) (w : Walk) → past z k w .length ≡ w .length
+pub past-length : (z k : ℕ) (w : Walk) → past z k w .length ≡ w .length
 past-length z k w = go (eqb k moov) refl
   where
     go : (b : Bool) → eqb k moov ≡ b → past z k w .length ≡ w .length
     go true e = rw (past-moov z k w (eqb-true _ _ e))
     go false e = rw (past-other z k w (eqb-false _ _ e))
 
-past-place : (z k : ℕ) (w : Walk) → past z k w .place ≡ w .place + z
+pub past-place : (z k : ℕ) (w : Walk) → past z k w .place ≡ w .place + z
 past-place z k w = go (eqb k moov) refl
   where
     go : (b : Bool) → eqb k moov ≡ b → past z k w .place ≡ w .place + z

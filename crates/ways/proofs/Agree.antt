@@ -2,30 +2,24 @@
 -- Assumes nothing.
 use Prim.Native.Nat.{ℕ}
 use mathlib.Core.Path.{_≡_, refl, sym, ap, _∙_}
-use mathlib.Core.List.{List, [], _∷_}
+use mathlib.Core.List.{List, [], _∷_, map}
 use mathlib.Core.Bool.{Bool, true, false}
-use lib.ListN.{length}
+use lib.ListN.{length, getD}
 use Rattle.structure.specs.declared.source.Source.{Source}
 use Rattle.structure.specs.Source.{wholeFile, moovAlone, strictly, lengthOf}
-use Rattle.structure.specs.Rows.{some, first, orElse}
-use Rattle.structure.specs.Movie.{moovOf, tracksOf}
-use Rattle.track.specs.Track.{trackOf}
+use Rattle.structure.specs.Rows.{some, first}
+use Rattle.structure.specs.Movie.{moovOf, tracksOf, movieScale, movieProfile}
 use Rattle.track.specs.Refusals.{otherDuration}
 use Rattle.movie.specs.Refusals.{filmRefusal}
 use Rattle.movie.specs.TableRows.{tableRows, tablesRefusal}
 use Rattle.movie.proofs.Tables.{film-is}
-use Rattle.track_list.specs.TrackList.{trackLines, listRefusal}
-use Rattle.quay.specs.Quay.{quayVerdict}
-use Rattle.questions.specs.Asked.{askRefusal, trackAsked}
-use Rattle.questions.specs.Samples.{sampleRefusal}
-use Rattle.time_questions.specs.Times.{atRefusal, atNumber, atEntry, mappedOf}
-use Rattle.profiles.specs.Profiles.{profileAsked, profileNumbers, profileRefusal}
-use Rattle.movie_times.specs.Entries.{editsAsked, editsRefusal}
-use Rattle.stretch.specs.Stretches.{stretchPairs, spanRefusal, stretchRefusal}
-use Rattle.slip_writing.specs.Slips.{slipHead, slipOfStretch, slipRefusal}
+use Rattle.questions.specs.Asked.{trackAsked}
+use Rattle.time_questions.specs.Times.{atEntry}
+use Rattle.movie_times.specs.Header.{movieDuration}
 use Rattle.ways.specs.Ways.{moovAtom, BothWays}
-use Rattle.ways.specs.Agree.{SameAnswers, WaysAgree}
+use Rattle.ways.specs.Agree.{SameEntries, WaysAgree}
 use Rattle.ways.proofs.Shapes.{moov-same, shape-same}
+use Rattle.ways.proofs.Answers.{SameFilm, same-refl, strict-film, same-answers}
 
 -- ---- rows 7 to 13 and 19 ask for nothing of the source but whether it is strict
 
@@ -43,54 +37,28 @@ module _ (w v : Source) (e : v .strict ≡ w .strict) where
   unfolding tablesRefusal tableRows first
   tables-same len m = rw (some-same (otherDuration v) (otherDuration w) durations-same (tracksOf m))
 
--- ---- the answers, from the film's refusal and its moov
+map-itself : (l : List (List ℕ)) → map (λ t. t) l ≡ l
+map-itself [] = refl
+map-itself (a ∷ l) = ap (λ x. a ∷ x) (map-itself l)
 
-module _ (s m : List ℕ) (w v : Source) (e : filmRefusal m v ≡ filmRefusal s w) (d : moovOf m ≡ moovOf s) where
-  ask-same : (id : ℕ) → askRefusal m v id ≡ askRefusal s w id
-  unfolding askRefusal
-  ask-same id = rw (e, d)
+-- ---- the tracks of one moov stay what they are
 
-  track-same : (id : ℕ) → trackAsked m id ≡ trackAsked s id
-  unfolding trackAsked
-  track-same id = rw d
+same-moov : (s m : List ℕ) (w v : Source) → filmRefusal m v ≡ filmRefusal s w → filmRefusal m (strictly v) ≡ filmRefusal s (strictly w) → moovOf m ≡ moovOf s
+    → SameFilm s m w v
+same-moov s m w v e f d = record {
+  refusal = e;
+  strict = f;
+  became = λ t. t;
+  tracks = ap tracksOf d ∙ sym (map-itself (tracksOf (moovOf s)));
+  each = λ i g. same-refl (getD (tracksOf (moovOf s)) i []);
+  scale = ap movieScale d;
+  profile = ap movieProfile d;
+  duration = ap movieDuration d;
+}
 
-  edits-same : (id : ℕ) → editsAsked m id ≡ editsAsked s id
-  unfolding editsAsked
-  edits-same id = ap (λ t. trackOf t .edits) (track-same id)
-
--- of a slip also from the refusal of the film that is read strictly
-module _ (s m : List ℕ) (w v : Source) (e : filmRefusal m v ≡ filmRefusal s w) (f : filmRefusal m (strictly v) ≡ filmRefusal s (strictly w)) (d : moovOf m ≡ moovOf s) where
-  ask : (id : ℕ) → askRefusal m v id ≡ askRefusal s w id
-  ask = ask-same s m w v e d
-
-  track : (id : ℕ) → trackAsked m id ≡ trackAsked s id
-  track = track-same s m w v e d
-
-  edits : (id : ℕ) → editsAsked m id ≡ editsAsked s id
-  edits = edits-same s m w v e d
-
-  strict : (id : ℕ) → askRefusal m (strictly v) id ≡ askRefusal s (strictly w) id
-  strict = ask-same s m (strictly w) (strictly v) f d
-
-  same-answers : SameAnswers s w m v
-  unfolding trackLines listRefusal sampleRefusal atRefusal atNumber atEntry mappedOf profileAsked profileNumbers profileRefusal editsRefusal
-      stretchPairs spanRefusal stretchRefusal slipHead slipOfStretch slipRefusal quayVerdict
-  same-answers = record {
-    refusal = e;
-    tracks = λ room. (rw (e, d), rw (e, d));
-    quay = rw (e, d);
-    sample = λ id n. rw (ask id, track id);
-    sample-at = λ id t. rw (ask id, track id);
-    media-time = λ id t. rw (ask id, track id, d);
-    feature = λ id code. rw (ask id, track id, d);
-    peak = λ id code. rw (ask id, track id);
-    movie = rw (e, d);
-    edits = λ id room. (rw (ask id, edits id), rw (ask id, edits id));
-    profile = λ id room. (rw (e, ask id, track id, d), rw (e, ask id, track id, d));
-    profile-check = λ id. rw (ask id, track id, d);
-    stretch = λ id x y room. (rw (ask id, track id), rw (ask id, track id));
-    slip = λ id x y out. (rw (strict id, track id), rw (strict id, track id));
-  }
+same-entries : (s m : List ℕ) → moovOf m ≡ moovOf s → SameEntries s m
+unfolding atEntry trackAsked
+same-entries s m d = record { entry = λ id t. rw d }
 
 -- ---- a file and its moov
 
@@ -111,10 +79,14 @@ module _ (s : List ℕ) (b : BothWays s) (w v : Source) (wa : w .alone ≡ false
 strict-same : (s : List ℕ) → BothWays s → filmRefusal (moovAtom s) (strictly (moovAlone (length s))) ≡ filmRefusal s (strictly wholeFile)
 strict-same s b = film-same s b (strictly wholeFile) (strictly (moovAlone (length s))) refl refl refl refl
 
+same-film : (s : List ℕ) → BothWays s → SameFilm s (moovAtom s) wholeFile (moovAlone (length s))
+same-film s b =
+    same-moov s (moovAtom s) wholeFile (moovAlone (length s)) (film-same s b wholeFile (moovAlone (length s)) refl refl refl refl) (strict-same s b) (moov-same s b)
+
 pub ways-agree : (s : List ℕ) → WaysAgree s
 ways-agree s = record {
-  default = λ b.
-      same-answers s (moovAtom s) wholeFile (moovAlone (length s)) (film-same s b wholeFile (moovAlone (length s)) refl refl refl refl) (strict-same s b) (moov-same s b);
+  default = λ b. same-answers s (moovAtom s) wholeFile (moovAlone (length s)) (same-film s b);
   strict = λ b.
-      same-answers s (moovAtom s) (strictly wholeFile) (strictly (moovAlone (length s))) (strict-same s b) (strict-same s b) (moov-same s b);
+      same-answers s (moovAtom s) (strictly wholeFile) (strictly (moovAlone (length s))) (strict-film s (moovAtom s) wholeFile (moovAlone (length s)) (same-film s b));
+  entries = λ b. same-entries s (moovAtom s) (moov-same s b);
 }

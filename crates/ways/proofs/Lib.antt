@@ -1,5 +1,6 @@
 mod Top
 mod Trees
 mod Shapes
+pub mod Answers
 pub mod Agree
 pub mod Walked

@@ -3,13 +3,13 @@
 use Prim.Native.Nat.{ℕ, _+_}
 use mathlib.Core.Path.{_≡_, refl, sym, ap, _∙_}
 use mathlib.Core.List.{List, [], _∷_}
-use mathlib.Core.Bool.{Bool, true, false, cond, not, _&&_, _||_}
+use mathlib.Core.Bool.{Bool, true, false, cond, not, _&&_}
 use lib.ListN.{length}
 use lib.Dec.{eqb}
 use borrow.Author.Tests.{eqb-true, eq-eqb, le-ltb, not-true}
 use native.Mathlib.Omega.{arith}
 use Rattle.atoms.specs.Kinds.{file, moov, stbl, stco, co64}
-use Rattle.atoms.specs.Atoms.{kindOf, bodyOf, atoms, ofKind, childIn, countIn, filled}
+use Rattle.atoms.specs.Atoms.{kindOf, atoms, ofKind, countIn, filled}
 use Rattle.atoms.specs.Tree.{all, everywhere}
 use Rattle.atoms.proofs.Lengths.{child-short}
 use Rattle.leaves.specs.declared.LeafRule.{LeafRule}
@@ -18,13 +18,14 @@ use Rattle.leaves.specs.Leaves.{formOf, leafOk, atomOk, leavesOk}
 use Rattle.presence.specs.Present.{one, oneOffsets, tables, present}
 use Rattle.structure.specs.declared.source.Source.{Source}
 use Rattle.structure.specs.Movie.{moovOf}
-use Rattle.structure.specs.Rows.{first, orElse, ofWhole}
+use Rattle.structure.specs.Rows.{first}
 use Rattle.leaf_checks.specs.LeafChecks.{wrongVersion, wrongSize}
 use Rattle.shape.specs.Refusals.{fileTooLong, oneMoov, wrongAtoms, wrongCounts, fileRows}
 use Rattle.shape.specs.MovieRows.{movieRows, movieRefusal, refusalOf}
+use Rattle.compact_laws.proofs.File.{from-file}
 use Rattle.ways.specs.Ways.{moovAtom, noLongOffsets, BothWays}
 use Rattle.ways.proofs.Top.{moov-kinds, moov-filled, moov-size, moov-kind}
-use Rattle.ways.proofs.Trees.{from-file, all-same, everywhere-same}
+use Rattle.ways.proofs.Trees.{all-same, everywhere-same}
 
 -- ---- a body without co64
 

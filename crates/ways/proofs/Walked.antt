@@ -1,14 +1,13 @@
 -- What the walk over a file's top level says is what the whole file's first rows say of it, and where it finds the moov the two ways agree.
 -- Assumes nothing.
 use Prim.Native.Nat.{ℕ, _≤_}
-use mathlib.Core.Path.{_≡_, refl, sym, ap, _∙_}
+use mathlib.Core.Path.{_≡_, refl}
 use mathlib.Core.List.{List}
 use mathlib.Core.Bool.{Bool, true, false, cond, not, _||_}
-use lib.ListN.{length, take, drop}
-use lib.Dec.{eqb}
+use lib.ListN.{length}
 use borrow.Author.Tests.{le-ltb, eq-eqb, ne-eqb}
 use Rattle.atoms.specs.Kinds.{file, moov}
-use Rattle.atoms.specs.Atoms.{countIn, filled, childIn, bodyIn}
+use Rattle.atoms.specs.Atoms.{countIn, filled}
 use Rattle.atoms.specs.Tree.{everywhere}
 use Rattle.atoms.proofs.Laws.{everywhere-stop}
 use Rattle.presence.specs.Present.{one, present}
@@ -17,8 +16,8 @@ use Rattle.structure.specs.Movie.{moovOf}
 use Rattle.structure.specs.Rows.{first, ofWhole, orElse}
 use Rattle.shape.specs.Refusals.{fileTooLong, oneMoov, wrongAtoms, wrongCounts, fileRows}
 use Rattle.movie.specs.Refusals.{filmRefusal}
-use Rattle.top_level.specs.declared.Next.the-variants.{Found, Refused}
-use Rattle.top_level.specs.TopLevel.{walked, OneMoov}
+use Rattle.top_level.specs.declared.Next.the-variants.{Refused}
+use Rattle.top_level.specs.TopLevel.{walked}
 use Rattle.top_level.proofs.Walking.{only-two, only-three, only-found, finds}
 use Rattle.ways.specs.Ways.{BothWays}
 use Rattle.ways.specs.Walked.{AsWhole, TakenAlone, FoundNarrow, AnsweredAlone}
@@ -75,4 +74,5 @@ pub answered-alone : (s : List ℕ) (at size : ℕ) → AnsweredAlone s at size
 answered-alone s at size = record {
   default = λ f. rw (finds s .moov-there at size (f .found)) (ways-agree s .default (both-ways s at size f));
   strict = λ f. rw (finds s .moov-there at size (f .found)) (ways-agree s .strict (both-ways s at size f));
+  entries = λ f. rw (finds s .moov-there at size (f .found)) (ways-agree s .entries (both-ways s at size f));
 }

@@ -15,7 +15,7 @@ use Rattle.movie.specs.Refusals.{filmRefusal}
 use Rattle.top_level.specs.declared.Next.the-variants.{Found, Refused}
 use Rattle.top_level.specs.TopLevel.{walked}
 use Rattle.ways.specs.Ways.{moovAtom, noLongOffsets}
-use Rattle.ways.specs.Agree.{SameAnswers}
+use Rattle.ways.specs.Agree.{SameAnswers, SameEntries}
 
 -- a file s that is lent whole, as w says, and is not longer than document 01's limit
 pub record AsWhole (s : List ℕ) (w : Source) : Type 0 where
@@ -40,3 +40,4 @@ pub record FoundNarrow (s : List ℕ) (at size : ℕ) : Type 0 where
 pub record AnsweredAlone (s : List ℕ) (at size : ℕ) : Type 0 where
   pub default : FoundNarrow s at size → SameAnswers s wholeFile (take size (drop at s)) (moovAlone (length s))
   pub strict : FoundNarrow s at size → SameAnswers s (strictly wholeFile) (take size (drop at s)) (strictly (moovAlone (length s)))
+  pub entries : FoundNarrow s at size → SameEntries s (take size (drop at s))

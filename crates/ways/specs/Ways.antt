@@ -18,8 +18,8 @@ moovAtom s = childIn file moov 0 s
 unfoldable pub noLongOffsets : ℕ → List ℕ → Bool
 noLongOffsets p b = cond (eqb p stbl) (eqb (countIn stbl co64 b) 0) true
 
--- a file of which both ways say the same: it is within document 01's limit, its atoms fill it and one of them is a moov, in which no stbl has a
--- co64. With stco and co64 in one stbl a whole file is accepted, and its moov alone refused 3
+-- a file of which both ways say the same: it is within document 01's limit, its atoms fill it and exactly one of them is a moov, in which no stbl
+-- has a co64. With stco and co64 in one stbl a whole file is not refused for it, and its moov alone is refused 3
 pub record BothWays (s : List ℕ) : Type 0 where
   pub short : length s ≤ 2147483647
   pub top : filled file s ≡ true

@@ -131,6 +131,16 @@ impl Shown {
     }
 }
 
+/// Whether a film has fragments. Samples in fragments are not read, so that a film that has them is read in part.
+#[non_exhaustive]
+#[derive(Clone, Copy, Debug, PartialEq, Eq, Hash)]
+pub struct Fragments {
+    /// The moov has an mvex: the film may have fragments, in this file or in others.
+    pub announced: bool,
+    /// The file has a moof at top level. It is not known of a moov that is lent alone.
+    pub present: bool,
+}
+
 /// What the movie's own header says.
 #[non_exhaustive]
 #[derive(Clone, Copy, Debug, Default, PartialEq, Eq, Hash)]

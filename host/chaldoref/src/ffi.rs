@@ -181,6 +181,21 @@ pub fn write_slip(film: Film, id: u32, a: u32, b: u32, out: &mut [u8]) -> Result
     })
 }
 
+pub fn compact(film: Film, room: &mut [u8]) -> Result<[u64; 1], Refusal> {
+    let (room, room_len) = (room.as_mut_ptr(), room.len());
+    ask(|places, len| of_film!(film, chaldoref_compact, chaldoref_moov_compact, room, room_len, places, len))
+}
+
+pub fn fragments(film: Film) -> Result<[u64; 2], Refusal> {
+    ask(|places, len| of_film!(film, chaldoref_fragments, chaldoref_moov_fragments, places, len))
+}
+
+/// Whether the atom with that header is a fragment.
+pub fn is_fragment(header: &[u8]) -> bool {
+    // SAFETY: a slice's own pointer and length, as the module says.
+    unsafe { raw::chaldoref_is_fragment(header.as_ptr(), header.len()) == 1 }
+}
+
 pub fn movie(film: Film) -> Result<[u64; 2], Refusal> {
     ask(|places, len| of_film!(film, chaldoref_movie, chaldoref_moov_movie, places, len))
 }

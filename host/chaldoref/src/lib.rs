@@ -35,14 +35,15 @@
 //!
 //! # What a question costs
 //!
-//! The library keeps no state and allocates nothing. Before it answers it judges the whole file, in time that grows with
-//! the movie's tables (the `moov` atom) and not with the film's own bytes: for a million samples half a millisecond to
-//! some hundredths of a second. A [`Movie`] keeps where a track's tables are: the first question about the samples, times
-//! or stretches of a track judges the film, and those after it do not. A lookup then grows with the entries of the tables
-//! before the sample, which [`Opened::indexed`] takes from it, and a stretch with those up to its end. The
-//! other questions, [`Movie::header`], [`Movie::edits`], [`Movie::profile`], [`Movie::check_profile`], [`Movie::check_quay`], [`Movie::feature`], [`Movie::peak`],
-//! [`Movie::write_slip`] and the start of [`Movie::samples`], judge the film each time; the samples themselves take some
-//! nanoseconds each.
+//! The library keeps no state and allocates nothing. To judge a film takes time that grows with the movie's tables (the
+//! `moov` atom) and not with the film's own bytes: for a million samples half a millisecond to some hundredths of a
+//! second. [`Movie::open`] judges the film. A [`Movie`] keeps where a track's tables are: the first question about the
+//! samples, times or stretches of a track judges the film once more, and those after it do not, nor does the start of
+//! [`Movie::samples`]; the samples themselves take some nanoseconds each. A lookup grows with the entries of the tables
+//! before the sample, which [`Opened::indexed`] takes from it, and a stretch with those up to its end.
+//! [`Movie::header`], [`Movie::edits`], [`Movie::fragments`], [`Movie::profile`], [`Movie::check_profile`],
+//! [`Movie::check_quay`], [`Movie::feature`], [`Movie::peak`], [`Movie::write_slip`] and [`Movie::compact`] judge the film
+//! each time.
 //!
 //! # Memory
 //!
@@ -54,7 +55,8 @@
 //! # Building
 //!
 //! The build links `libchaldoref.a` from the folder that the environment variable `CHALDOREF_LIB_DIR` names; without
-//! it, from where `host/build-library` puts it, or else from where `pkg-config` says that it is installed.
+//! it, from where `host/build-library` puts it; then from `dist/x86_64-linux` of the repository; then from where
+//! `pkg-config` says that it is installed.
 #![deny(missing_docs)]
 #![deny(unsafe_code, clippy::undocumented_unsafe_blocks)]
 #![warn(clippy::pedantic)]
@@ -66,6 +68,7 @@ mod feature;
 mod ffi;
 mod film;
 mod film_return;
+mod leave_out;
 mod moov;
 mod movie;
 mod opened;
@@ -79,14 +82,15 @@ mod slip;
 mod units;
 
 pub use answers::{
-    Edit, Header, Peak, ProfileRecord, Sample, SampleAt, Shown, Stretch, StretchSize, Track, UNIVERSAL_PART,
+    Edit, Fragments, Header, Peak, ProfileRecord, Sample, SampleAt, Shown, Stretch, StretchSize, Track, UNIVERSAL_PART,
 };
 pub use feature::{Feature, UnknownFeature};
 pub use film::Film;
 pub use film_return::{FilmReturn, MAX_SCALES};
+pub use leave_out::{LeaveOut, ParseLeaveOutError};
 pub use moov::{Moov, ReadError};
 pub use movie::{strict_refusal, Movie, MAX_FILE_BYTES, MAX_LENGTH};
-pub use opened::{Indexed, Opened};
+pub use opened::{Indexed, Opened, TableEntries};
 pub use quay::{QuayFault, QuayRule};
 pub use refusal::{Refusal, UnknownRefusal};
 pub use samples::Samples;

@@ -8,12 +8,16 @@ use crate::units::FourCC;
 use std::error::Error;
 use std::fmt;
 use std::io::{self, ErrorKind, Read, Seek, SeekFrom};
+use std::ops::Range;
 
 /// As many bytes of an atom's header are looked at.
 const HEADER: usize = 16;
 
 /// As many bytes are read at once, so that small atoms that follow one another are not read one by one.
 const WINDOW: usize = 4096;
+
+/// The atom that has the film's own bytes.
+const MDAT: FourCC = FourCC::from_bytes(*b"mdat");
 
 /// The moov atom of a film, with its place and the length of its file. Of the film nothing else is read but the headers
 /// of the atoms at top level, whatever its length.
@@ -36,6 +40,10 @@ pub struct Moov {
     pub place: u64,
     /// The length of the file.
     pub length: u64,
+    /// How many fragments the file has at top level. Their samples are not read.
+    pub fragments: u64,
+    /// How many bytes of film the file has in fragments: those in mdat atoms after the first fragment.
+    pub fragment_bytes: u64,
 }
 
 impl Moov {
@@ -60,15 +68,34 @@ impl Moov {
         let mut film = Window { film, place: 0, bytes: Vec::new() };
         let length = film.film.seek(SeekFrom::End(0))?;
         let mut walk = [length, 0, 0, 0, 0, 0];
+        let (mut fragments, mut fragment_bytes) = (0, 0);
         loop {
             let place = walk[1];
             let header = film.header(place, length)?;
             let kind = header.get(4..8).and_then(|kind| kind.try_into().ok()).map(FourCC::from_bytes);
+            let is_fragment = ffi::is_fragment(header);
+            let head = if header.starts_with(&[0, 0, 0, 1]) { 16 } else { 8 };
             walk = ffi::top_level(header, walk)?;
-            match walk {
-                [_, _, _, at, size, 1] => return film.moov(at, size, length),
-                _ => kind.into_iter().for_each(|kind| see(kind, place)),
+            if let [_, _, _, at, size, 1] = walk {
+                return Ok(Moov { fragments, fragment_bytes, ..film.moov(at, size, length)? });
             }
+            fragments += u64::from(is_fragment);
+            if fragments > 0 && kind == Some(MDAT) {
+                fragment_bytes += (walk[1] - place).saturating_sub(head);
+            }
+            kind.into_iter().for_each(|kind| see(kind, place));
+        }
+    }
+}
+
+/// Where the moov of a whole file stands, as the proved walk over its top level finds it.
+pub(crate) fn moov_in(file: &[u8]) -> Result<Range<usize>, Refusal> {
+    let mut walk = [file.len() as u64, 0, 0, 0, 0, 0];
+    loop {
+        let begin = promised::<u64, usize>(walk[1]);
+        walk = ffi::top_level(&file[begin..file.len().min(begin + HEADER)], walk)?;
+        if let [_, _, _, at, size, 1] = walk {
+            return Ok(promised(at)..promised(at + size));
         }
     }
 }
@@ -104,7 +131,7 @@ impl<R: Read + Seek> Window<R> {
         let mut bytes = room(promised(size)).map_err(io::Error::from)?;
         self.film.seek(SeekFrom::Start(place))?;
         self.film.read_exact(&mut bytes).map_err(shorter)?;
-        Ok(Moov { bytes, place, length })
+        Ok(Moov { bytes, place, length, fragments: 0, fragment_bytes: 0 })
     }
 }
 

@@ -1,7 +1,10 @@
 //! Movies and the questions about them.
-use crate::answers::{Edit, Header, Peak, ProfileRecord, Sample, SampleAt, Shown, Stretch, StretchSize, Track};
+use crate::answers::{
+    Edit, Fragments, Header, Peak, ProfileRecord, Sample, SampleAt, Shown, Stretch, StretchSize, Track,
+};
 use crate::ffi::{self, broken, promised, Handle};
 use crate::film::Film;
+use crate::moov::moov_in;
 use crate::opened::Opened;
 use crate::quay::{QuayFault, QuayRule};
 use crate::refusal::Refusal;
@@ -313,6 +316,60 @@ impl<'a> Movie<'a> {
     /// Those of [`Movie::write_slip`]; [`Refusal::NoRoom`] where the bytes are too few. They then keep their contents.
     pub fn write_slip_into(&self, id: TrackId, time: Range<MediaTime>, out: &mut [u8]) -> Result<usize, Refusal> {
         let [length] = ffi::write_slip(self.film, id.0, time.start.0, time.end.0, out)?;
+        Ok(promised(length))
+    }
+
+    /// Whether the film has fragments, whose samples are not read. Of a film that is lent by its moov the top level is not known here:
+    /// [`Moov::fragments`](crate::Moov::fragments) tells how many fragments stand there.
+    #[must_use]
+    pub fn fragments(&self) -> Fragments {
+        // The film is accepted, so that no refusal is left.
+        let [announced, present] = ffi::fragments(self.film).unwrap_or_else(|_| broken());
+        Fragments { announced: announced == 1, present: present == 1 }
+    }
+
+    /// Where the moov atom stands in what was lent; a moov that is lent alone is all of it.
+    #[must_use]
+    pub fn moov_bytes(&self) -> Range<usize> {
+        match self.film {
+            Film::Moov { moov, .. } => 0..moov.len(),
+            // The film is accepted, so that it has one moov.
+            Film::Whole(file) => moov_in(file).unwrap_or_else(|_| broken()),
+        }
+    }
+
+    /// The moov atom written anew with compact tables: its stts and stsc have the fewest entries that say the same, and the bytes freed in a track
+    /// are one `free` atom. It is as long as the moov was. With it in the moov's place, no offset moves and every question gets
+    /// the same answer, so slips of the film stay good.
+    ///
+    /// ```
+    /// use chaldoref::Movie;
+    ///
+    /// # std::env::set_current_dir("../..")?;
+    /// let mut file = std::fs::read("films/two-hoses.mov")?;
+    /// let movie = Movie::open(&file)?;
+    /// let (place, moov) = (movie.moov_bytes(), movie.compact()?);
+    /// file[place].copy_from_slice(&moov);
+    /// # Ok::<(), Box<dyn std::error::Error>>(())
+    /// ```
+    ///
+    /// # Errors
+    ///
+    /// [`Refusal::NoRoom`] where there is no memory for it.
+    pub fn compact(&self) -> Result<Vec<u8>, Refusal> {
+        // Without memory no bytes are lent, and the library says so.
+        let mut out = room::<u8>(self.moov_bytes().len()).unwrap_or_default();
+        self.compact_into(&mut out)?;
+        Ok(out)
+    }
+
+    /// The same into lent bytes; the moov's length is returned.
+    ///
+    /// # Errors
+    ///
+    /// [`Refusal::NoRoom`] where the bytes are fewer than the moov has. They then keep their contents.
+    pub fn compact_into(&self, out: &mut [u8]) -> Result<usize, Refusal> {
+        let [length] = ffi::compact(self.film, out)?;
         Ok(promised(length))
     }
 

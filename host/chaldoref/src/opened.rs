@@ -8,6 +8,16 @@ use crate::units::{ByteRange, MediaTime, MovieTime, TrackId};
 use std::fmt;
 use std::ops::Range;
 
+/// How many entries two tables of a track have.
+#[non_exhaustive]
+#[derive(Clone, Copy, Debug, PartialEq, Eq, Hash)]
+pub struct TableEntries {
+    /// Runs of samples with one duration.
+    pub stts: u32,
+    /// Runs of chunks with as many samples of one description.
+    pub stsc: u32,
+}
+
 /// A track that was opened by [`Movie::opened`](crate::Movie::opened): the film is judged there and not again by these questions, whose answers are
 /// those of the [`Movie`](crate::Movie)'s own.
 ///
@@ -39,6 +49,21 @@ impl<'a> Opened<'a> {
     #[must_use]
     pub fn id(&self) -> TrackId {
         self.track.id
+    }
+
+    /// Whether the track has a ctts, so that samples may be shown at other times than they are decoded at.
+    #[must_use]
+    pub fn has_ctts(&self) -> bool {
+        // The fourth number of a handle is the length of ctts, 0 where there is none.
+        self.handle[3] > 0
+    }
+
+    /// How many entries the track's stts and stsc have, by the lengths that the library has found them with.
+    #[must_use]
+    pub fn table_entries(&self) -> TableEntries {
+        // A handle begins with the place and the length of stts, ctts and stsc; an accepted table is 16 bytes and its entries.
+        let entries = |length: u64, width: u64| promised(length.saturating_sub(16) / width);
+        TableEntries { stts: entries(self.handle[1], 8), stsc: entries(self.handle[5], 12) }
     }
 
     /// Sample `n`, numbered from 1, in time that grows with the entries of the tables before it; [`Opened::indexed`] is for many.

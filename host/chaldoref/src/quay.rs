@@ -82,3 +82,11 @@ pub struct QuayFault {
     /// The first track in file order that breaks it; none for the first rule, which is the movie's.
     pub track: Option<TrackId>,
 }
+
+impl QuayFault {
+    /// A rule, and the track that breaks it.
+    #[must_use]
+    pub fn new(rule: QuayRule, track: Option<TrackId>) -> QuayFault {
+        QuayFault { rule, track }
+    }
+}

@@ -246,6 +246,37 @@ extern "C" {
         places_len: usize,
     ) -> u32;
 
+    pub fn chaldoref_fragments(file: *const u8, file_len: usize, places: *mut u64, places_len: usize) -> u32;
+
+    pub fn chaldoref_moov_fragments(
+        moov: *const u8,
+        moov_len: usize,
+        length: u64,
+        places: *mut u64,
+        places_len: usize,
+    ) -> u32;
+
+    pub fn chaldoref_is_fragment(header: *const u8, header_len: usize) -> u32;
+
+    pub fn chaldoref_compact(
+        file: *const u8,
+        file_len: usize,
+        room: *mut u8,
+        room_len: usize,
+        places: *mut u64,
+        places_len: usize,
+    ) -> u32;
+
+    pub fn chaldoref_moov_compact(
+        moov: *const u8,
+        moov_len: usize,
+        length: u64,
+        room: *mut u8,
+        room_len: usize,
+        places: *mut u64,
+        places_len: usize,
+    ) -> u32;
+
     pub fn chaldoref_read_any_slip(
         slip: *const u8,
         slip_len: usize,

@@ -6,6 +6,8 @@ use std::fmt;
 
 /// Why a question is not answered: one of the refusals of documents 01 and 02, whose words [`Display`](fmt::Display) gives.
 ///
+/// [`Debug`](fmt::Debug) gives the number and the words, so that a `main` that returns a refusal prints them.
+///
 /// Of a file the lowest number that applies is given, but that 19 is judged after 11 and before 12; then comes 14, then 15 or 18, then 16. In reading a slip 17 comes
 /// before 16.
 ///
@@ -13,10 +15,11 @@ use std::fmt;
 /// use chaldoref::Refusal;
 ///
 /// assert_eq!((Refusal::try_from(15), u32::from(Refusal::Outside)), (Ok(Refusal::Outside), 15));
+/// assert_eq!(format!("{:?}", Refusal::EditList), "refused 13: an edit list is wrong");
 /// assert_eq!(Refusal::try_from(22).unwrap_err().to_string(), "no refusal has the number 22");
 /// ```
 #[non_exhaustive]
-#[derive(Clone, Copy, Debug, PartialEq, Eq, PartialOrd, Ord, Hash)]
+#[derive(Clone, Copy, PartialEq, Eq, PartialOrd, Ord, Hash)]
 pub enum Refusal {
     /// 1: the file is longer than 2,147,483,647 bytes; where the moov is lent alone, that one is, or the length of the file is
     /// above 2^63 - 1 or below the moov's.
@@ -173,6 +176,12 @@ fn too_long(moov: u64, length: u64) -> &'static str {
 impl fmt::Display for Refusal {
     fn fmt(&self, f: &mut fmt::Formatter<'_>) -> fmt::Result {
         f.pad(self.words())
+    }
+}
+
+impl fmt::Debug for Refusal {
+    fn fmt(&self, f: &mut fmt::Formatter<'_>) -> fmt::Result {
+        write!(f, "refused {}: {}", self.number(), self.words())
     }
 }
 

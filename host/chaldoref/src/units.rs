@@ -34,10 +34,11 @@ pub struct TrackId(pub u32);
 /// assert_eq!(FourCC::from_bytes(*b"vide"), FourCC(0x7669_6465));
 /// assert_eq!(FourCC(0x7669_6465).to_string(), "vide");
 /// assert_eq!(FourCC(0xa963_7079).to_string(), "0xa9637079");
+/// assert_eq!(format!("{:?}", FourCC(0x7669_6465)), "FourCC(vide)");
 /// assert_eq!(["vide".parse(), "0xa9637079".parse()], [Ok(FourCC::from(*b"vide")), Ok(FourCC(0xa963_7079))]);
 /// ```
 #[repr(transparent)]
-#[derive(Clone, Copy, Debug, Default, PartialEq, Eq, PartialOrd, Ord, Hash)]
+#[derive(Clone, Copy, Default, PartialEq, Eq, PartialOrd, Ord, Hash)]
 pub struct FourCC(pub u32);
 
 /// Some bytes of a film: as many as `length` from `offset` on, counted from the file's first byte.
@@ -128,6 +129,13 @@ impl fmt::Display for FourCC {
             Ok(text) if printable(bytes) => f.pad(text),
             _ => f.pad(&format!("{:#010x}", self.0)),
         }
+    }
+}
+
+impl fmt::Debug for FourCC {
+    /// What is displayed, after the type's name.
+    fn fmt(&self, f: &mut fmt::Formatter<'_>) -> fmt::Result {
+        write!(f, "FourCC({self})")
     }
 }
 

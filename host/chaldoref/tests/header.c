@@ -8,6 +8,7 @@
 
 #include <inttypes.h>
 #include <stdio.h>
+#include <string.h>
 
 /* Track 1 of film W, and the most that the film and its slips need. */
 enum { ONE = 1, MOST = 8192 };
@@ -28,8 +29,8 @@ static void print_words(void)
     printf("of a moov 1: %s\n", chaldoref_moov_refusal_text(1, 8, UINT64_C(1) << 63));
     if (SIZE_MAX > 2147483647u)
         printf("of a moov 1: %s\n", chaldoref_moov_refusal_text(1, (size_t)2147483647u + 1, 7));
-    printf("version %s: %d.%d.%d\n", chaldoref_version(), CHALDOREF_VERSION_MAJOR, CHALDOREF_VERSION_MINOR,
-           CHALDOREF_VERSION_PATCH);
+    printf("version %s: %d.%d.%d, %" PRIu32 ", the library %" PRIu32 "\n", CHALDOREF_VERSION, CHALDOREF_VERSION_MAJOR,
+           CHALDOREF_VERSION_MINOR, CHALDOREF_VERSION_PATCH, CHALDOREF_VERSION_NUMBER, chaldoref_version());
 }
 
 static void print_tracks(const struct film *film)
@@ -262,6 +263,30 @@ static void print_slips(const struct film *film, uint32_t a, uint32_t b)
     print_slip(slip, (size_t)length[0] - 1);
 }
 
+/* The moov with compact tables, compacted again by itself, and NULL for nothing. */
+static void print_compact(const struct film *film)
+{
+    static uint8_t moov[MOST], again[MOST];
+    size_t length, second, none;
+    uint32_t refusal = chaldoref_compact_into(film->bytes, film->len, moov, MOST, &length);
+    uint32_t of_moov = chaldoref_moov_compact_into(moov, length, film->len, again, MOST, &second);
+    uint32_t of_nothing = chaldoref_compact_into(NULL, 0, NULL, 0, &none);
+    printf("compact %" PRIu32 " %zu, again %" PRIu32 " %zu %d, of nothing %" PRIu32 " %zu\n", refusal, length, of_moov,
+           second, memcmp(moov, again, length) == 0, of_nothing, none);
+}
+
+/* Whether the film has fragments, by both ways in, and of nothing; and whether a header is a fragment's. */
+static void print_fragments(const struct film *film)
+{
+    struct chaldoref_fragments_info whole, alone, none;
+    uint32_t refusal = chaldoref_find_fragments(film->bytes, film->len, &whole);
+    uint32_t of_file = chaldoref_moov_find_fragments(film->bytes, film->len, film->len, &alone);
+    uint32_t of_nothing = chaldoref_find_fragments(NULL, 0, &none);
+    printf("fragments %" PRIu32 " %d %d, %" PRIu32 " %d %d, %" PRIu32 " %d %d, %" PRIu32 "\n", refusal, whole.announced,
+           whole.present, of_file, alone.announced, alone.present, of_nothing, none.announced, none.present,
+           chaldoref_is_fragment((const uint8_t *)"\0\0\0\10moof", 8));
+}
+
 /* NULL for nothing, in each place that may have it: prints the refusals. */
 static void print_nothing_lent(const struct film *film)
 {
@@ -308,6 +333,8 @@ static void print_all(struct film *film)
     print_peak(film);
     print_verdicts(film);
     print_slips(film, 24, 73);
+    print_compact(film);
+    print_fragments(film);
     print_nothing_lent(film);
     print_lent(film);
 }

@@ -38,7 +38,8 @@ fn words() -> String {
     lines += "of a moov 1: the length of the file is above 2^63 - 1\n";
     lines += "of a moov 1: the moov is longer than 2,147,483,647 bytes\n";
     let version = env!("CARGO_PKG_VERSION");
-    lines + &format!("version {version}: {version}\n")
+    let number = version.split('.').fold(0, |number: u32, part| 1000 * number + part.parse::<u32>().unwrap());
+    lines + &format!("version {version}: {version}, {number}, the library {number}\n")
 }
 
 fn tracks(movie: &Movie) -> String {
@@ -142,9 +143,8 @@ fn records_and_peak(movie: &Movie) -> String {
 fn verdicts(movie: &Movie, film: &[u8]) -> String {
     let place = movie.check_profile(ONE).unwrap().unwrap_or(0);
     let fault = movie.check_quay().unwrap();
-    let size = u32::from_be_bytes(*film.first_chunk().unwrap()) as usize;
     let mut totals = FilmReturn::new();
-    let alone = Film::Moov { moov: &film[..size], length: 4096 };
+    let alone = Film::Moov { moov: &film[..moov_length(film)], length: 4096 };
     for film in [Film::Whole(film), alone, Film::Whole(&[])] {
         totals.add(film).unwrap();
     }
@@ -153,6 +153,17 @@ fn verdicts(movie: &Movie, film: &[u8]) -> String {
         + &format!("totals {}, refused {refused}: ", totals.accepted())
         + &format!("{} {} {}\n", totals.tracks(), totals.samples(), totals.bytes());
     totals.scales().fold(lines, |lines, (scale, units)| lines + &format!("scale {scale} {units}\n"))
+}
+
+/// The length of the film's moov, which comes first in it.
+fn moov_length(film: &[u8]) -> usize {
+    u32::from_be_bytes(*film.first_chunk().unwrap()) as usize
+}
+
+/// The moov with compact tables, compacted again, and a file of no bytes.
+fn compact(film: &[u8]) -> String {
+    let length = moov_length(film);
+    format!("compact 0 {length}, again 0 {length} 1, of nothing 3 0\n")
 }
 
 /// What the program has to print about the film.
@@ -166,8 +177,22 @@ fn expected(film: &[u8]) -> String {
     let [stretch, slips] = stretch_and_slips(&movie);
     // A file and a slip of no bytes are refused as such; then come room, bytes and places that are too few.
     let lent = "nothing lent 3 17 16 16 16 16 16\nlent 1 1 1 1 1\n";
+    // The whole file is no moov alone, and no bytes have no moov; the header of a moof is a fragment's.
+    let fragments = "fragments 0 0 0, 2 0 0, 3 0 0, 1\n";
     let judged = records_and_peak(&movie) + &verdicts(&movie, film);
-    [words(), tracks(&movie), samples, times, stretch, judged, slips, lent.to_string()].concat()
+    [
+        words(),
+        tracks(&movie),
+        samples,
+        times,
+        stretch,
+        judged,
+        slips,
+        compact(film),
+        fragments.to_string(),
+        lent.to_string(),
+    ]
+    .concat()
 }
 
 #[track_caller]

@@ -38,6 +38,8 @@ impl Place {
             .current_dir(self.0.join("host/chaldoref"))
             .env_remove("CHALDOREF_LIB_DIR")
             .env_remove("PKG_CONFIG")
+            .env_remove("CARGO_CFG_TARGET_ARCH")
+            .env_remove("CARGO_CFG_TARGET_OS")
             .env("CARGO_MANIFEST_DIR", self.0.join("host/chaldoref"))
             .env("PKG_CONFIG_LIBDIR", &self.0)
             .env_remove("PKG_CONFIG_PATH")
@@ -52,6 +54,10 @@ fn links(output: &Output, folder: &Path) {
     let text = String::from_utf8_lossy(&output.stdout);
     assert!(output.status.success(), "{}", String::from_utf8_lossy(&output.stderr));
     assert!(text.contains(&format!("cargo:rustc-link-search=native={}\n", folder.display())), "{text}");
+}
+
+fn warns(output: &Output) -> bool {
+    String::from_utf8_lossy(&output.stdout).contains("cargo:warning=linking")
 }
 
 #[track_caller]
@@ -81,9 +87,30 @@ fn a_named_folder_without_the_library_is_an_error() {
 #[test]
 fn then_the_one_that_is_built_here() {
     let place = Place::new("built");
-    let [built, installed] = ["host/target/library", "lib"].map(|folder| place.library(folder));
+    let [built, _, installed] = ["host/target/library", "dist/x86_64-linux", "lib"].map(|folder| place.library(folder));
     place.config(&installed);
     links(&place.run(&[]), &built);
+}
+
+#[test]
+fn then_the_one_of_the_repository() {
+    let place = Place::new("dist");
+    let [dist, installed] = ["dist/x86_64-linux", "lib"].map(|folder| place.library(folder));
+    place.config(&installed);
+    let output = place.run(&[]);
+    links(&output, &dist);
+    assert!(!warns(&output));
+    // Not for another machine.
+    links(&place.run(&[("CARGO_CFG_TARGET_ARCH", "aarch64")]), &installed);
+}
+
+#[test]
+fn a_library_that_is_not_the_repositorys_is_named_in_a_warning() {
+    let place = Place::new("warned");
+    let [built, _] = ["host/target/library", "dist/x86_64-linux"].map(|folder| place.library(folder));
+    assert!(!warns(&place.run(&[])), "it is the same library");
+    fs::write(built.join("libchaldoref.a"), "another").unwrap();
+    assert!(warns(&place.run(&[])));
 }
 
 #[test]

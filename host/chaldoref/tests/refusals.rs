@@ -47,10 +47,13 @@ fn numbers_and_words() {
 #[test]
 fn names_are_those_of_the_header() {
     let header = include_str!("../../../include/chaldoref.h");
+    let source = include_str!("../src/refusal.rs");
     for refusal in Refusal::ALL {
         // FileTooLong is CHALDOREF_FILE_TOO_LONG.
+        let value = format!(" = {},", refusal.number());
+        let variant = source.lines().find_map(|line| line.strip_suffix(&value)).unwrap().trim();
         let mut name = String::from("CHALDOREF");
-        for c in format!("{refusal:?}").chars() {
+        for c in variant.chars() {
             if c.is_uppercase() {
                 name.push('_');
             }

@@ -75,6 +75,23 @@ fn what_is_read_is_the_moov() {
 }
 
 #[test]
+fn fragments() {
+    let mut found = [0; 4];
+    for n in 0..100 {
+        let film = maker::fragmented(&mut Random::of(18, n));
+        let whole = Movie::open(&film).unwrap().fragments();
+        let moov = Moov::read(Cursor::new(&film)).unwrap();
+        // A co64 beside the stco is refused 3 by the moov alone.
+        if let Ok(alone) = Movie::open(&moov) {
+            assert_eq!((alone.fragments().announced, alone.fragments().present), (whole.announced, false));
+        }
+        assert_eq!((moov.fragments > 0, moov.fragment_bytes), (whole.present, 20 * moov.fragments));
+        found[usize::from(whole.announced) + 2 * usize::from(whole.present)] += 1;
+    }
+    assert!(found.iter().all(|films| *films > 10), "{found:?}");
+}
+
+#[test]
 fn films_that_are_too_long_to_be_made() {
     let mut wide = 0;
     for n in 0..200 {

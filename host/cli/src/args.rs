@@ -1,12 +1,15 @@
 //! The arguments: which command, which film, and the numbers asked.
+use crate::commands::ReturnOptions;
 use crate::completion;
 use crate::failure::Failure;
+use crate::films::List;
 use crate::help;
 use crate::input;
 use crate::suggest;
-use crate::syntax::{Command, Opt, BYTES, COMMANDS, CSV, HELPERS, JSON};
+use crate::syntax::{is_several, Command, Opt, BYTES, COMMANDS, CSV, HELPERS, JSON, LEAVE_OUT, OUT, SHA256};
+use crate::syntax::{ALL, FILES_FROM, NUL, SLIPS};
 use crate::time::{Span, Time};
-use chaldoref::{FourCC, MediaTime, MovieTime, TrackId};
+use chaldoref::{FourCC, LeaveOut, TrackId};
 use std::ffi::{OsStr, OsString};
 
 /// What the arguments ask for: a text such as the help, or an answer.
@@ -20,6 +23,8 @@ pub struct Request {
     /// One or several, each of which is answered alone.
     pub files: Vec<OsString>,
     pub ask: Ask,
+    /// The parts of each film that are left out.
+    pub leave_out: Vec<LeaveOut>,
     pub json: bool,
 }
 
@@ -28,17 +33,20 @@ pub enum Ask {
     Sample { track: TrackId, n: u32, bytes: bool },
     Samples { track: TrackId, from: Option<u32>, to: Option<u32>, csv: bool },
     At { track: TrackId, time: Time },
-    Map { track: TrackId, time: MovieTime },
+    Map { track: TrackId, time: Time },
     Edits { track: TrackId },
     Stretch { track: TrackId, time: Span, bytes: bool },
-    Slip { track: TrackId, time: Span, out: Option<OsString> },
+    Slip { track: TrackId, time: Span, out: Option<OsString>, hashed: bool },
     ReadSlip { hex: bool },
     Check { slips: Vec<OsString> },
-    Features { track: TrackId, code: Option<FourCC> },
+    Compact { out: OsString },
+    Rates { track: TrackId, csv: bool },
+    Report { slips: Vec<OsString>, out: OsString },
+    Features { track: Option<TrackId>, code: Option<FourCC> },
     Profile { track: Option<TrackId> },
-    CheckProfile { track: TrackId },
-    CheckQuay,
-    FilmReturn,
+    CheckProfile { track: Option<TrackId> },
+    CheckQuay { all: bool },
+    FilmReturn(ReturnOptions),
 }
 
 pub fn parse(words: impl IntoIterator<Item = OsString>) -> Result<Parsed, Failure> {
@@ -47,7 +55,7 @@ pub fn parse(words: impl IntoIterator<Item = OsString>) -> Result<Parsed, Failur
     match first.to_str() {
         Some("-h" | "--help" | "help") => help_on(words),
         Some("completion") => completion(words),
-        Some("-V" | "--version") => alone(help::version(), words),
+        Some("-V" | "--version" | "version") => alone(help::version(), words),
         _ => Words::sort(command(&first)?, words),
     }
 }
@@ -61,6 +69,7 @@ pub fn has_json(words: &[OsString]) -> bool {
 fn help_on(mut words: impl Iterator<Item = OsString>) -> Result<Parsed, Failure> {
     let text = match words.next() {
         Some(name) if name == "completion" => help::completion(),
+        Some(name) if name == "version" => help::version_help(),
         Some(name) if !["help", "-h", "--help"].iter().any(|all| name == *all) => command(&name)?.help(),
         _ => help::help(),
     };
@@ -72,6 +81,8 @@ fn completion(mut words: impl Iterator<Item = OsString>) -> Result<Parsed, Failu
     let wrong = |message: String| Err(Failure::Usage(message, help::completion_usage()));
     match words.next() {
         Some(shell) if shell == "bash" => alone(completion::bash(), words),
+        Some(shell) if shell == "zsh" => alone(completion::zsh(), words),
+        Some(shell) if shell == "fish" => alone(completion::fish(), words),
         Some(flag) if flag == "-h" || flag == "--help" => Ok(Parsed::Text(help::completion())),
         Some(other) => wrong(format!("there is no completion for {}", quoted(&other))),
         None => wrong("the shell is missing".into()),
@@ -92,12 +103,14 @@ fn too_many(surplus: &OsStr) -> String {
 
 fn command(name: &OsStr) -> Result<&'static Command, Failure> {
     let found = name.to_str().and_then(Command::named);
-    found.ok_or_else(|| Failure::Usage(format!("there is no command {}{}", quoted(name), meant(name)), help::usage()))
+    let names = COMMANDS.iter().map(|command| command.name).chain(HELPERS);
+    found.ok_or_else(|| {
+        Failure::Usage(format!("there is no command {}{}", quoted(name), meant(name, names)), help::usage())
+    })
 }
 
-/// A question for whoever mistyped the name of a command.
-fn meant(name: &OsStr) -> String {
-    let names = COMMANDS.iter().map(|command| command.name).chain(HELPERS);
+/// A question for whoever mistyped the name of a command or an option.
+fn meant<'n>(name: &OsStr, names: impl IntoIterator<Item = &'n str>) -> String {
     let near = name.to_str().and_then(|typed| suggest::nearest(typed, names));
     near.map_or(String::new(), |near| format!("; did you mean {near}?"))
 }
@@ -114,36 +127,67 @@ pub struct Words {
     operands: Vec<OsString>,
     files: Vec<OsString>,
     flags: Vec<&'static str>,
-    /// The value of -o.
-    pub out: Option<OsString>,
+    /// The options that have a value, each with it.
+    values: Vec<(&'static str, OsString)>,
+    /// The option that takes the words up to the next option.
+    taking: Option<&'static Opt>,
 }
 
 impl Words {
     fn sort(command: &'static Command, mut rest: impl Iterator<Item = OsString>) -> Result<Parsed, Failure> {
-        let mut words = Words { command, operands: Vec::new(), files: Vec::new(), flags: Vec::new(), out: None };
+        let mut words = Words {
+            command,
+            operands: Vec::new(),
+            files: Vec::new(),
+            flags: Vec::new(),
+            values: Vec::new(),
+            taking: None,
+        };
         while let Some(word) = rest.next() {
             match word.to_str() {
                 Some("-h" | "--help") => return Ok(Parsed::Text(command.help())),
                 Some("--") => words.operands.extend(rest.by_ref()),
                 // A dash alone is standard input or output.
-                Some("-") => words.operands.push(word),
+                Some("-") => words.put(word),
                 _ if words.wants_number() && is_negative(&word) => words.operands.push(word),
                 _ if word.as_encoded_bytes().starts_with(b"-") => words.option(&word, &mut rest)?,
-                _ => words.operands.push(word),
+                _ => words.put(word),
             }
         }
         words.request().map(Parsed::Run)
     }
 
+    /// A word that is no option: an operand, or one more value of an option that takes several.
+    fn put(&mut self, word: OsString) {
+        match self.taking {
+            Some(option) => self.values.push((option.flag, word)),
+            None => self.operands.push(word),
+        }
+    }
+
     fn option(&mut self, word: &OsStr, rest: &mut impl Iterator<Item = OsString>) -> Result<(), Failure> {
         let Some(option) = self.command.options.iter().find(|option| word == option.flag) else {
-            return Err(self.wrong(format!("{} has no option {}", self.command.name, quoted(word))));
+            let flags = self.command.options.iter().map(|option| option.flag);
+            return Err(self.wrong(format!(
+                "{} has no option {}{}",
+                self.command.name,
+                quoted(word),
+                meant(word, flags)
+            )));
         };
+        self.taking = None;
         match option.value {
+            Some(value) if is_several(value) => {
+                let name = value.trim_end_matches('.');
+                let first = rest.next().filter(|word| !word.as_encoded_bytes().starts_with(b"-"));
+                let first = first.ok_or_else(|| self.wrong(format!("{} needs {name}", option.flag)))?;
+                self.values.push((option.flag, first));
+                self.taking = Some(option);
+            }
             None => self.flags.push(option.flag),
             Some(value) => {
                 let given = rest.next().ok_or_else(|| self.wrong(format!("{} needs {value}", option.flag)))?;
-                self.out = Some(given);
+                self.values.push((option.flag, given));
             }
         }
         Ok(())
@@ -155,18 +199,42 @@ impl Words {
         if let Some(surplus) = self.operands.get(most).filter(|_| !self.command.takes_several()) {
             return Err(self.wrong(too_many(surplus)));
         }
-        if let Some(missing) = self.command.missing(self.operands.len()) {
+        // A list of films stands for them.
+        let missing = self.command.missing(self.operands.len()).filter(|_| self.value(&FILES_FROM).is_none());
+        if let Some(missing) = missing {
             return Err(self.wrong(format!("{} is missing", self.name(missing))));
         }
         let json = self.has(&JSON);
-        if json && (self.has(&BYTES) || self.out.is_some()) {
+        if json && (self.has(&BYTES) || self.value(&OUT).is_some() && !self.command.writes_film()) {
             return Err(self.wrong("--json goes with neither --bytes nor -o".into()));
         }
         if json && self.has(&CSV) {
             return Err(self.wrong("--json does not go with --csv".into()));
         }
-        let ask = (self.command.ask)(&self)?;
-        Ok(Request { files: self.files, ask, json })
+        if self.has(&SHA256) && !json && self.value(&OUT).is_none_or(|out| out == input::STANDARD) {
+            return Err(self.wrong("--sha256 goes with -o OUT, beside which it is kept, or with --json".into()));
+        }
+        let (ask, leave_out) = ((self.command.ask)(&self)?, self.leave_out()?);
+        Ok(Request { files: self.files, ask, leave_out, json })
+    }
+
+    /// The parts that are left out, each once.
+    fn leave_out(&self) -> Result<Vec<LeaveOut>, Failure> {
+        let mut parts = Vec::new();
+        for (_, word) in self.values.iter().filter(|(flag, _)| *flag == LEAVE_OUT.flag) {
+            let part = left_out(word).ok_or_else(|| {
+                self.wrong(format!("--leave-out takes edits, or track=ID as in track=2, and not {}", quoted(word)))
+            })?;
+            if !parts.contains(&part) {
+                parts.push(part);
+            }
+        }
+        Ok(parts)
+    }
+
+    /// The value of an option, the last one if it is given twice.
+    pub fn value(&self, option: &Opt) -> Option<OsString> {
+        self.values.iter().rev().find(|(flag, _)| *flag == option.flag).map(|(_, value)| value.clone())
     }
 
     /// Parts the files that are asked from the operands after them.
@@ -179,14 +247,17 @@ impl Words {
         Ok(())
     }
 
-    /// How many operands stand after several files: none, or TRACK, and CODE too where the one before the last is a number.
+    /// How many operands stand after several files: TRACK where the last is a number, and CODE too where the one before the last is one.
     fn after_files(&self) -> usize {
         let given = self.operands.len();
-        match self.command.operands {
-            [_] => 0,
-            [_, _] => 1,
-            _ if given > 2 && number(&self.operands[given - 2]).is_some() => 2,
-            _ => 1,
+        let is_number = |before: usize| {
+            let word = given.checked_sub(before).filter(|place| *place > 0).map(|place| &self.operands[place]);
+            word.is_some_and(|word| number(word).is_some() || is_negative(word))
+        };
+        match self.command.operands.len() {
+            1 => 0,
+            3 if is_number(2) => 2,
+            _ => usize::from(is_number(1)),
         }
     }
 
@@ -201,7 +272,46 @@ impl Words {
     /// Whether the next operand, or the last one if there is no other, is no file. One that may be given several times is.
     fn wants_number(&self) -> bool {
         let name = self.command.operands.get(self.operands.len()).or(self.command.operands.last());
-        name.is_some_and(|name| *name != "FILE" && !name.ends_with("..."))
+        name.is_some_and(|name| *name != "FILE" && !is_several(name))
+    }
+
+    /// The file that a film is written to. Standard output is none: a film may be large.
+    pub fn film_out(&self) -> Result<OsString, Failure> {
+        match self.value(&OUT) {
+            Some(name) if name == input::STANDARD => Err(self.wrong("a film is not written to standard output".into())),
+            Some(name) => Ok(name),
+            None => Err(self.wrong("-o OUT is missing".into())),
+        }
+    }
+
+    /// How a return is made and printed. Its films are named as arguments, in a list, or both.
+    pub fn return_options(&self) -> Result<ReturnOptions, Failure> {
+        let (list, nul) = (self.value(&FILES_FROM), self.has(&NUL));
+        if list.is_none() && nul {
+            return Err(self.wrong("-0 goes with --files-from".into()));
+        }
+        self.one_standard_input(&[&self.files[..], list.as_slice()].concat())?;
+        let list = list.map(|name| List { name, nul });
+        Ok(ReturnOptions { list, csv: self.has(&CSV), all: self.has(&ALL) })
+    }
+
+    /// The file that a page is written to, which is written whole or not at all.
+    pub fn page_out(&self) -> Result<OsString, Failure> {
+        match self.value(&OUT) {
+            Some(name) if name == input::STANDARD => Err(self.wrong("a page is not written to standard output".into())),
+            Some(name) => Ok(name),
+            None => Err(self.wrong("-o OUT is missing".into())),
+        }
+    }
+
+    /// The slips that are given by an option, each of which is a file.
+    pub fn slips(&self) -> Result<Vec<OsString>, Failure> {
+        let slips: Vec<OsString> =
+            self.values.iter().filter(|(flag, _)| *flag == SLIPS.flag).map(|(_, name)| name.clone()).collect();
+        if slips.iter().any(|name| name == input::STANDARD) {
+            return Err(self.wrong("a slip of a report is a file, and not standard input".into()));
+        }
+        Ok(slips)
     }
 
     pub fn has(&self, option: &Opt) -> bool {
@@ -218,10 +328,19 @@ impl Words {
     }
 
     pub fn media_time(&self, place: usize) -> Result<Time, Failure> {
+        let wanted = "a number of units from 0 to 4294967295, or as 12.5s, 1:02, 00:01:02.250, start or end";
+        self.time(place).ok_or_else(|| self.misfit(place, wanted))
+    }
+
+    /// The same of the movie, whose end is not told.
+    pub fn movie_time(&self, place: usize) -> Result<Time, Failure> {
+        let wanted = "a number of units from 0 to 4294967295, or as 12.5s, 1:02, 00:01:02.250 or start";
+        self.time(place).filter(|time| *time != Time::End).ok_or_else(|| self.misfit(place, wanted))
+    }
+
+    fn time(&self, place: usize) -> Option<Time> {
         let word = &self.operands[place];
-        let units = number(word).map(|units| Time::Units(MediaTime(units)));
-        let wanted = "a number of units from 0 to 4294967295, or as 12.5s, 00:01:02.250 or end";
-        units.or_else(|| Time::parse(word.to_str()?)).ok_or_else(|| self.misfit(place, wanted))
+        number(word).map(Time::Units).or_else(|| Time::parse(word.to_str()?))
     }
 
     /// Two media times, one after the other, or none for the whole track.
@@ -230,17 +349,6 @@ impl Words {
             return Ok(Span::Whole);
         }
         Ok(Span::Between(self.media_time(place)?, self.media_time(place + 1)?))
-    }
-
-    /// A plain number, since the library does not tell the movie's time scale.
-    pub fn movie_time(&self, place: usize) -> Result<MovieTime, Failure> {
-        let word = &self.operands[place];
-        if word.to_str().and_then(Time::parse).is_some() {
-            let why = "the movie's time scale is not known here";
-            let wanted = format!("{} is taken in plain units only, and not as", self.name(place));
-            return Err(self.wrong(format!("{wanted} {}: {why}", quoted(word))));
-        }
-        self.number(place).map(MovieTime)
     }
 
     pub fn code(&self, place: usize) -> Result<FourCC, Failure> {
@@ -280,6 +388,14 @@ impl Words {
 /// Whether a word that begins with a dash is meant as a number.
 fn is_negative(word: &OsStr) -> bool {
     matches!(word.as_encoded_bytes(), [b'-', digit, ..] if digit.is_ascii_digit())
+}
+
+/// A part of a film that is left out, by its ID in hex too.
+fn left_out(word: &OsStr) -> Option<LeaveOut> {
+    match word.to_str()?.strip_prefix("track=") {
+        Some(id) => number(OsStr::new(id)).map(|id| LeaveOut::Track(TrackId(id))),
+        None => word.to_str()?.parse().ok(),
+    }
 }
 
 /// A number below 2^32: decimal digits, or hex digits after 0x.

@@ -1,10 +1,18 @@
 //! A slip beside the film that it should be of. The library reads the slip and tells the byte ranges of its stretch;
 //! here they are compared.
+use crate::commands::hash_name;
+use crate::failure::{in_words, Failure};
 use crate::fault::Fault;
-use crate::input;
+use crate::film::Film;
+use crate::input::{self, STANDARD};
+use crate::retyped;
+use crate::sha256;
 use chaldoref::{AnySlip, ByteRange, Movie, Track, TrackId};
+use std::cell::RefCell;
+use std::collections::HashMap;
 use std::ffi::OsStr;
 use std::io;
+use std::path::Path;
 
 /// A slip that was checked.
 pub struct Checked<'n> {
@@ -12,6 +20,10 @@ pub struct Checked<'n> {
     /// The slip, where it could be read. Its pairs are not kept.
     pub slip: Option<AnySlip>,
     pub wrong: Option<Wrong>,
+    /// Whether a hash beside the slip is that of the film's bytes.
+    pub hashed: bool,
+    /// Which retyping makes it the film's, where there is one.
+    pub retyped: Option<String>,
 }
 
 /// The first thing that is wrong with a slip.
@@ -31,6 +43,7 @@ pub enum Kind {
     OtherScale,
     Outside,
     OtherPairs,
+    OtherBytes,
 }
 
 impl Kind {
@@ -43,6 +56,7 @@ impl Kind {
             Kind::OtherScale => "scale",
             Kind::Outside => "stretch",
             Kind::OtherPairs => "pairs",
+            Kind::OtherBytes => "sha256",
         }
     }
 }
@@ -55,27 +69,47 @@ impl Wrong {
 
 impl From<io::Error> for Wrong {
     fn from(error: io::Error) -> Wrong {
-        Wrong::new(Kind::Unread, format!("cannot be read: {error}"))
+        Wrong::new(Kind::Unread, format!("cannot be read: {}", in_words(&error)))
     }
 }
 
 impl From<Fault> for Wrong {
     fn from(fault: Fault) -> Wrong {
-        Wrong { kind: Kind::Malformed, reason: format!("malformed at {}", fault.line()), place: Some(fault.place) }
+        let reason = fault.hint().map_or_else(|| format!("malformed at {}", fault.line()), String::from);
+        Wrong { kind: Kind::Malformed, reason, place: Some(fault.place) }
     }
 }
 
 impl Checked<'_> {
-    /// Reads the slip in the file of that name and compares it with the film.
-    pub fn of<'n>(movie: &Movie, name: &'n OsStr) -> Checked<'n> {
-        match read(name) {
-            Ok(mut slip) => {
-                let wrong = compare(movie, &slip).err();
-                slip.pairs = Vec::new();
-                Checked { name, slip: Some(slip), wrong }
-            }
-            Err(wrong) => Checked { name, slip: None, wrong: Some(wrong) },
+    /// Reads the slip in the file of that name and compares it with the film, and the film's bytes with the hash beside it.
+    pub fn of<'n>(film: &Film, movie: &Movie, name: &'n OsStr) -> Result<Checked<'n>, Failure> {
+        let (mut checked, bytes) = Checked::compared(film, movie, name)?;
+        if checked.wrong.as_ref().is_some_and(|wrong| !matches!(wrong.kind, Kind::OtherBytes | Kind::Unread)) {
+            let known = RefCell::default();
+            checked.retyped = retyped::as_the_films(&bytes, |slip| is_the_films(movie, slip, &known).unwrap_or(false));
         }
+        Ok(checked)
+    }
+
+    /// The same without a search for what was mistyped; and the bytes of the slip.
+    pub fn compared<'n>(film: &Film, movie: &Movie, name: &'n OsStr) -> Result<(Checked<'n>, Vec<u8>), Failure> {
+        let mut checked = Checked { name, slip: None, wrong: None, hashed: false, retyped: None };
+        let bytes = match read(name) {
+            Ok(bytes) => bytes,
+            Err(error) => return Ok((Checked { wrong: Some(error.into()), ..checked }, Vec::new())),
+        };
+        match parse(&bytes) {
+            Ok(mut slip) => {
+                checked.wrong = compare(movie, &slip).err();
+                if checked.wrong.is_none() {
+                    (checked.hashed, checked.wrong) = compare_bytes(film, name, &slip)?;
+                }
+                slip.pairs = Vec::new();
+                checked.slip = Some(slip);
+            }
+            Err(wrong) => checked.wrong = Some(wrong),
+        }
+        Ok((checked, bytes))
     }
 
     /// The slip, where nothing is wrong with it.
@@ -88,9 +122,37 @@ impl Checked<'_> {
     }
 }
 
-fn read(name: &OsStr) -> Result<AnySlip, Wrong> {
-    let bytes = input::slip(input::read(name)?)?;
-    AnySlip::try_read(&bytes).map_err(io::Error::from)?.map_err(|malformed| Fault::of(&bytes, malformed).into())
+fn read(name: &OsStr) -> io::Result<Vec<u8>> {
+    input::slip(input::read(name)?)
+}
+
+fn parse(bytes: &[u8]) -> Result<AnySlip, Wrong> {
+    AnySlip::try_read(bytes).map_err(io::Error::from)?.map_err(|malformed| Fault::of(bytes, malformed).into())
+}
+
+/// Whether a hash is kept beside the slip and is that of the film's bytes; or what is wrong with it.
+fn compare_bytes(film: &Film, name: &OsStr, slip: &AnySlip) -> Result<(bool, Option<Wrong>), Failure> {
+    let beside = hash_name(name);
+    if name == STANDARD || !Path::new(&beside).exists() {
+        return Ok((false, None));
+    }
+    let wrong = |words: &str| Some(Wrong::new(Kind::OtherBytes, format!("{} {words}", input::named(&beside))));
+    let text = match input::read(&beside) {
+        Ok(text) => text,
+        Err(error) => return Ok((false, wrong(&format!("cannot be read: {}", in_words(&error))))),
+    };
+    let Some(kept) = sha256::of_line(&text) else {
+        return Ok((false, wrong("has no line of sha256sum")));
+    };
+    let agrees = film.hash(&slip.pairs)? == kept;
+    Ok((
+        agrees,
+        if agrees {
+            None
+        } else {
+            wrong("is not the sha256 of the film's bytes: the pictures were changed, or it is of another slip")
+        },
+    ))
 }
 
 /// The track is there, the scale is its own, and the pairs are those of the stretch from a to b.
@@ -109,6 +171,22 @@ fn compare(movie: &Movie, slip: &AnySlip) -> Result<(), Wrong> {
         Some(reason) => Err(Wrong::new(Kind::OtherPairs, reason)),
         None => Ok(()),
     }
+}
+
+/// The film's pairs of stretches that were asked, by track, a, b and their number; nothing where the film has another number.
+type Known = RefCell<HashMap<(TrackId, u64, u64, usize), Option<Vec<ByteRange>>>>;
+
+/// The same for many slips of a few pairs each: no room is lent for more than the slip has, and each stretch is asked once.
+fn is_the_films(movie: &Movie, slip: &AnySlip, known: &Known) -> Option<bool> {
+    let track = movie.track(TrackId(u32::try_from(slip.id).ok()?))?;
+    let (time, count) = (slip.time()?, slip.pairs.len());
+    let mut known = known.borrow_mut();
+    let pairs = known.entry((track.id, slip.a, slip.b, count)).or_insert_with(|| {
+        let mut room = vec![ByteRange::default(); count];
+        let size = movie.stretch_into(track.id, time, &mut room).ok()?;
+        (size.pairs == count).then_some(room)
+    });
+    Some(slip.scale == u64::from(track.scale) && pairs.as_ref() == Some(&slip.pairs))
 }
 
 fn outside(b: u64, track: &Track) -> Wrong {

@@ -15,10 +15,10 @@ pub enum Failure {
     Usage(String, String),
     /// The film or slip could not be read.
     Input(io::Error),
-    /// The film was refused, and why, if that is known; what more there is to say of it is a line of its own.
-    Film(Refusal, Option<String>, String),
-    /// The question was refused; what more there is to say of it is a line of its own.
-    Refused(Refusal, String),
+    /// The film was refused, and why, if that is known; and what to do about it.
+    Film(Refusal, Option<String>, Option<String>),
+    /// The question was refused; and a hint, if there is one.
+    Refused(Refusal, Option<String>),
     /// The slip is malformed.
     Malformed(Fault),
     /// The file of that name could not be written.
@@ -37,7 +37,7 @@ impl From<Refusal> for Failure {
         if refusal == Refusal::NoRoom {
             return Failure::Input(io::ErrorKind::OutOfMemory.into());
         }
-        Failure::Refused(refusal, String::new())
+        Failure::Refused(refusal, None)
     }
 }
 
@@ -48,9 +48,22 @@ impl From<io::Error> for Failure {
 }
 
 impl Failure {
-    /// Refuses a film, for the reason given if it is known.
-    pub fn of_film(refusal: Refusal, why: Option<String>) -> Failure {
-        Failure::Film(refusal, why, of_refusal(refusal))
+    /// The refusal, if it is one.
+    pub fn refusal(&self) -> Option<Refusal> {
+        match self {
+            Failure::Film(refusal, ..) | Failure::Refused(refusal, _) => Some(*refusal),
+            Failure::Malformed(fault) => Some(fault.refusal()),
+            _ => None,
+        }
+    }
+
+    /// What is said beside a refusal and is not proved.
+    pub fn hint(&self) -> Option<&str> {
+        match self {
+            Failure::Film(_, _, hint) | Failure::Refused(_, hint) => hint.as_deref(),
+            Failure::Malformed(fault) => fault.hint(),
+            _ => None,
+        }
     }
 
     /// Whoever reads standard output has seen enough, which is no failure.
@@ -74,13 +87,15 @@ impl Failure {
     pub fn message(&self, file: &str) -> String {
         match self {
             Failure::Usage(wrong, usage) => format!("chaldoref: {wrong}\n{usage}"),
-            Failure::Input(error) => format!("chaldoref: {file}: {error}\n"),
-            Failure::Film(refusal, why, more) => refused(file, *refusal, &(not_proved(why) + more)),
-            Failure::Refused(refusal, more) => refused(file, *refusal, more),
-            Failure::Malformed(fault) => refused(file, fault.refusal(), &fault.lines()),
-            Failure::NotWritten(name, error) => format!("chaldoref: {}: {error}\n", input::named(name)),
+            Failure::Input(error) => format!("chaldoref: {file}: {}\n", in_words(error)),
+            Failure::Film(refusal, why, hint) => refused(file, *refusal, &(not_proved(why) + &hinted(hint))),
+            Failure::Refused(refusal, hint) => refused(file, *refusal, &hinted(hint)),
+            Failure::Malformed(fault) => {
+                refused(file, fault.refusal(), &(fault.lines() + &hinted(&fault.hint().map(String::from))))
+            }
+            Failure::NotWritten(name, error) => format!("chaldoref: {}: {}\n", input::named(name), in_words(error)),
             Failure::Output(_) if self.is_broken_pipe() => String::new(),
-            Failure::Output(error) => format!("chaldoref: standard output: {error}\n"),
+            Failure::Output(error) => format!("chaldoref: standard output: {}\n", in_words(error)),
             Failure::NotAllGood { .. } | Failure::Skipped { .. } => String::new(),
         }
     }
@@ -94,35 +109,23 @@ pub fn worse(one: Result<(), Failure>, other: Result<(), Failure>) -> Result<(),
     }
 }
 
+/// An error of the system, without the number that Rust puts after its words.
+pub fn in_words(error: &io::Error) -> String {
+    let text = error.to_string();
+    text.split_once(" (os error ").map_or(text.clone(), |(words, _)| words.into())
+}
+
 /// What is said of every refusal, and what else is said of this one.
 fn refused(file: &str, refusal: Refusal, more: &str) -> String {
     format!("chaldoref: {file}: refused {}: {refusal}\n{more}", refusal.number())
 }
 
-/// A second line for a refusal.
-pub fn hint(words: &str) -> String {
-    format!("chaldoref: hint: {words}\n")
+/// The line that says what to do.
+fn hinted(hint: &Option<String>) -> String {
+    hint.as_ref().map_or(String::new(), |words| format!("chaldoref: hint: {words}\n"))
 }
 
 /// The line that says why. It is told apart from what the proved library says.
 fn not_proved(why: &Option<String>) -> String {
     why.as_ref().map_or(String::new(), |words| format!("chaldoref: not proved: {words}\n"))
-}
-
-/// The hint for the refusals that films from ffmpeg meet, and for the one whose words are those of a file that is lent whole.
-fn of_refusal(refusal: Refusal) -> String {
-    match refusal {
-        Refusal::FileTooLong => hint(
-            "a film in a file may have any length; its moov, and a film from standard input, may have 2,147,483,647 \
-             bytes",
-        ),
-        Refusal::LeafVersion => hint(
-            "atoms are read in version 0 alone; ffmpeg writes a ctts of version 1 with -movflags negative_cts_offsets",
-        ),
-        Refusal::EditList => hint(
-            "for films with B-frames ffmpeg writes an edit list that ends past their samples; with -use_editlist 0 it \
-             writes none",
-        ),
-        _ => String::new(),
-    }
 }

@@ -18,6 +18,19 @@ pub struct Fault {
     pub rule: String,
     /// The slip in hex, or the part of it that is around the fault, and a mark below the place.
     picture: String,
+    /// Whether the bytes begin as a film does.
+    is_film: bool,
+}
+
+/// What is said of bytes that begin as a film does.
+pub const IS_FILM: &str = "this is a film, not a slip";
+
+/// The atoms that films begin with.
+const FIRST_ATOMS: [&[u8]; 7] = [b"ftyp", b"moov", b"mdat", b"wide", b"free", b"skip", b"pnot"];
+
+/// Whether bytes begin as a film does.
+fn is_film(bytes: &[u8]) -> bool {
+    bytes.get(4..8).is_some_and(|kind| FIRST_ATOMS.contains(&kind))
 }
 
 impl Fault {
@@ -39,7 +52,7 @@ impl Fault {
             let a = if before == 4 { values(3) } else { 0 };
             (Some(called(before)), broken(before, &slip[place..], a, width))
         };
-        Fault { place, number, rule, picture: picture(slip, place) }
+        Fault { place, number, rule, picture: picture(slip, place), is_film: is_film(slip) }
     }
 
     /// The lines that people are told, after the one with the refusal.
@@ -47,7 +60,12 @@ impl Fault {
         format!("{}{}\n", self.picture, self.line())
     }
 
-    /// The last of these alone: the place, the number and the rule.
+    /// What may have happened, if that is known.
+    pub fn hint(&self) -> Option<&'static str> {
+        self.is_film.then_some(IS_FILM)
+    }
+
+    /// The place, the number and the rule.
     pub fn line(&self) -> String {
         let number = self.number.as_ref().map_or(String::new(), |number| format!(", {number}"));
         format!("place {}{number}: {}", self.place, self.rule)

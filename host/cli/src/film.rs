@@ -2,18 +2,22 @@
 //! refused, and is no longer than a file may be that is lent whole, is explained as a whole file is: zeros are lent for what is not read of it.
 use crate::atoms;
 use crate::explain::{explanation, explanation_alone};
-use crate::failure::{hint, Failure};
+use crate::failure::Failure;
+use crate::hints;
 use crate::input::{self, MOST_BYTES, STANDARD};
 use crate::progress::Progress;
+use crate::sha256::Sha256;
 use crate::warnings::disagreements;
 use crate::zeros::zeros;
 use chaldoref::{
-    self as lent, strict_refusal, ByteRange, FilmReturn, FourCC, Moov, Movie, ReadError, Refusal, MAX_FILE_BYTES,
+    self as lent, strict_refusal, AnySlip, ByteRange, FilmReturn, FourCC, LeaveOut, Moov, Movie, ReadError, Refusal,
+    TrackId, MAX_FILE_BYTES,
 };
-use std::borrow::Cow;
+use std::cell::OnceCell;
 use std::ffi::OsStr;
 use std::fs::File;
-use std::io::{self, Cursor, ErrorKind, Read, Seek, Write};
+use std::io::{self, Cursor, ErrorKind, Read, Seek, SeekFrom, Write};
+use std::ops::Range;
 use std::os::unix::fs::FileExt;
 
 /// A film with more atoms at top level is not explained, rather than read one header here and one there again.
@@ -22,17 +26,51 @@ const MOST_ATOMS: usize = 65_536;
 /// A header with a 64-bit size.
 const LONGEST_HEADER: usize = 16;
 
+/// The atoms that films have at top level.
+const TOP_LEVEL: [&[u8]; 10] =
+    [b"ftyp", b"moov", b"mdat", b"wide", b"free", b"skip", b"moof", b"uuid", b"sidx", b"pnot"];
+
+/// A longer file is not tried as a slip.
+const LONGEST_SLIP: u64 = 1 << 20;
+
 /// As many bytes are copied at once.
 const COPIED: usize = 1 << 16;
 
-/// The atom at top level that fragments have.
-const MOOF: FourCC = FourCC::from_bytes(*b"moof");
+/// As many bytes of a film that is written anew are copied between two looks at the clock.
+const PIECE: u64 = 1 << 20;
 
 pub struct Film {
     /// Its moov, or why its top level is refused.
     moov: Result<Moov, ReadError>,
-    has_moof: bool,
+    /// The parts that are left out of the moov.
+    left_out: Vec<LeaveOut>,
+    /// Those of them that are video tracks.
+    left_out_videos: Vec<TrackId>,
     kept: Kept,
+    /// The film as it is lent whole, once that was asked for.
+    whole: OnceCell<Option<Vec<u8>>>,
+}
+
+/// What of a film is not read, since it lies in fragments. A film that only announces fragments has none of them.
+#[derive(Clone, Copy, Debug, PartialEq)]
+pub struct Fragments {
+    pub count: u64,
+    pub bytes: u64,
+}
+
+impl Fragments {
+    /// What is said of the film.
+    pub fn in_words(self) -> String {
+        let s = if self.count == 1 { "" } else { "s" };
+        match self {
+            Fragments { count: 0, .. } => {
+                "the film announces fragments (mvex), and none is in this file: it may be cut off; compare it with the original".into()
+            }
+            Fragments { count, bytes } => format!(
+                "the film is fragmented: {bytes} bytes of film in {count} fragment{s} are not read; keep it, and ask the camera's maker for films without fragments"
+            ),
+        }
+    }
 }
 
 /// What the film's own bytes are copied from.
@@ -51,43 +89,91 @@ impl Film {
         if name == STANDARD || !told.is_file() || told.len() == 0 {
             return Film::of(input::all(file)?);
         }
-        let (moov, has_moof) = moov_of(&file)?;
-        Ok(Film { moov, has_moof, kept: Kept::File(file) })
+        Ok(Film::new(moov_of(&file)?, Kept::File(file)))
     }
 
     /// The film of these bytes, which are all of it, or one more than are accepted.
     fn of(bytes: Vec<u8>) -> io::Result<Film> {
-        let (moov, has_moof) = if bytes.len() as u64 == MOST_BYTES {
-            (Err(ReadError::Refused(Refusal::FileTooLong)), false)
+        let moov = if bytes.len() as u64 == MOST_BYTES {
+            Err(ReadError::Refused(Refusal::FileTooLong))
         } else {
             moov_of(Cursor::new(&bytes))?
         };
-        Ok(Film { moov, has_moof, kept: Kept::Bytes(bytes) })
+        Ok(Film::new(moov, Kept::Bytes(bytes)))
+    }
+
+    fn new(moov: Result<Moov, ReadError>, kept: Kept) -> Film {
+        Film { moov, left_out: Vec::new(), left_out_videos: Vec::new(), kept, whole: OnceCell::new() }
+    }
+
+    /// The film without these parts. One whose top level is refused stays as it is.
+    pub fn leaving_out(mut self, parts: &[LeaveOut]) -> Result<Film, Failure> {
+        for part in parts {
+            if let Ok(moov) = &self.moov {
+                let is_video =
+                    |id: &TrackId| atoms::trak(&moov.bytes, id.0).is_some_and(|trak| trak.subtype() == *b"vide");
+                if let LeaveOut::Track(id) = part {
+                    self.left_out_videos.extend(Some(*id).filter(is_video));
+                }
+                let words = || Some(format!("--leave-out {part}: the film has no such track"));
+                let copy = moov.leaving_out(&[*part]).map_err(|refusal| Failure::Refused(refusal, words()))?;
+                self.moov = Ok(copy);
+            }
+        }
+        self.left_out = parts.to_vec();
+        Ok(self)
+    }
+
+    /// The video tracks that are left out.
+    pub fn left_out_videos(&self) -> &[TrackId] {
+        &self.left_out_videos
     }
 
     /// The movie, or the failure that says why there is none.
     pub fn movie(&self) -> Result<Movie<'_>, Failure> {
-        match &self.moov {
-            Ok(moov) => Movie::open(moov).map_err(|refusal| self.refused(refusal)),
-            Err(error) => Err(self.unread(error)),
-        }
+        self.open(|_, refusal| refusal)
     }
 
     /// The same for the slip writer, which reads strictly.
     pub fn filed(&self) -> Result<Movie<'_>, Failure> {
-        match &self.moov {
-            Ok(moov) => Movie::open(moov).map_err(|refusal| self.refused(strict_refusal(moov).unwrap_or(refusal))),
-            Err(error) => Err(self.unread(error)),
-        }
+        self.open(|film, refusal| strict_refusal(film).unwrap_or(refusal))
     }
 
-    /// Adds the film to a return. One whose top level is refused is counted by its whole, or, where it is too long to be lent so, by bytes that
-    /// are refused with the same number.
+    /// Asks the film by its moov alone. Where that is refused 3, which a co64 beside an stco is by this way alone, and the whole can be lent,
+    /// the whole is asked. The refusal that is told may be another for the same film.
+    fn open(&self, told: impl Fn(lent::Film, Refusal) -> Refusal) -> Result<Movie<'_>, Failure> {
+        let moov = self.moov.as_ref().map_err(|error| self.unread(error))?;
+        let alone = Movie::open(moov);
+        let (film, movie) = match (&alone, self.whole_after(&alone)) {
+            (Err(_), Some(whole)) => (lent::Film::Whole(whole), Movie::open(whole)),
+            _ => (moov.into(), alone),
+        };
+        movie.map_err(|refusal| self.refused(told(film, refusal)))
+    }
+
+    /// The whole film, where the moov alone was refused 3 and it can be lent.
+    fn whole_after(&self, alone: &Result<Movie, Refusal>) -> Option<&[u8]> {
+        matches!(alone, Err(Refusal::AtomCount)).then(|| self.whole()).flatten()
+    }
+
+    /// Adds the film to a return, by its moov, or whole where the moov alone is refused 3. One whose top level is refused is counted by its whole, or,
+    /// where it is too long to be lent so, by bytes that are refused with the same number.
     pub fn file(&self, totals: &mut FilmReturn) -> Result<(), Refusal> {
         match &self.moov {
-            Ok(moov) => totals.add(moov),
+            Ok(moov) => {
+                let before = totals.clone();
+                totals.add(moov)?;
+                let is_refused_3 = refused_3(totals) > refused_3(&before);
+                match is_refused_3.then(|| self.whole()).flatten() {
+                    Some(whole) => {
+                        *totals = before;
+                        totals.add(whole)
+                    }
+                    None => Ok(()),
+                }
+            }
             Err(error) => match self.whole() {
-                Some(whole) => totals.add(&whole[..]),
+                Some(whole) => totals.add(whole),
                 None => totals.add(refused_as(error.refusal().unwrap_or(Refusal::FileTooLong))),
             },
         }
@@ -98,15 +184,55 @@ impl Film {
         match failure {
             Failure::Refused(refusal @ Refusal::StoredDuration, _) => {
                 let words = disagreements(movie).collect::<Vec<_>>().join("; ");
-                Failure::Film(refusal, self.why(refusal), hint(&words))
+                Failure::Film(refusal, self.why(refusal), Some(words))
             }
             other => other,
         }
     }
 
-    /// Whether the film has fragments, or says that it may have: a moof at top level, or an mvex in moov.
-    pub fn has_fragments(&self) -> bool {
-        self.has_moof || self.moov.as_ref().is_ok_and(|moov| atoms::has_fragments(&moov.bytes))
+    /// The fragments of the film, if it has any or announces some: moofs at top level, or an mvex in moov.
+    pub fn fragments(&self, movie: &Movie) -> Option<Fragments> {
+        let announced = || self.names_mvex() && movie.fragments().announced;
+        self.present_fragments().or_else(|| announced().then_some(Fragments { count: 0, bytes: 0 }))
+    }
+
+    /// Whether those four bytes are anywhere in the moov: where they are not, nothing is announced, and the library need not judge the film again.
+    pub fn names_mvex(&self) -> bool {
+        self.moov.as_ref().is_ok_and(|moov| moov.bytes.windows(4).any(|kind| kind == b"mvex"))
+    }
+
+    /// The fragments at top level, if there are any.
+    pub fn present_fragments(&self) -> Option<Fragments> {
+        let moov = self.moov.as_ref().ok()?;
+        (moov.fragments > 0).then_some(Fragments { count: moov.fragments, bytes: moov.fragment_bytes })
+    }
+
+    /// Where its moov stands in the file.
+    pub fn moov_range(&self) -> Option<ByteRange> {
+        let moov = self.moov.as_ref().ok()?;
+        Some(ByteRange { offset: moov.place, length: moov.bytes.len() as u64 })
+    }
+
+    /// The atoms at top level, each with the bytes that it takes, as far as sizes lead.
+    pub fn top_level(&self) -> Vec<(FourCC, Range<u64>)> {
+        let (mut found, mut at) = (Vec::new(), 0);
+        while let Some((kind, end)) = self.atom_at(at).filter(|_| found.len() < MOST_ATOMS) {
+            found.push((kind, at..end));
+            at = end;
+        }
+        found
+    }
+
+    /// The atom at a place, and where it ends.
+    fn atom_at(&self, at: u64) -> Option<(FourCC, u64)> {
+        let (header, length) = self.header(at)?;
+        let kind = FourCC::from_bytes(header.get(4..8)?.try_into().ok()?);
+        let (least, size) = atoms::said(&header, true)?;
+        let end = match size {
+            Some(size) => at.checked_add(size).filter(|end| size >= least as u64 && *end <= length)?,
+            None => length,
+        };
+        Some((kind, end))
     }
 
     /// Writes parts of the film, one after the other, as they stand in the file. They lie within it: a film in which a
@@ -115,7 +241,10 @@ impl Film {
         let all = parts.iter().fold(0, |sum: u64, part| sum.saturating_add(part.length));
         let mut progress = Progress::of(all);
         let copied = match &self.kept {
-            Kept::File(file) => parts.iter().try_for_each(|part| copy(file, *part, out, &mut progress)),
+            Kept::File(file) => {
+                let mut room = zeros(COPIED).map_err(Failure::Input)?;
+                parts.iter().try_for_each(|part| copy(file, *part, &mut room, out, &mut progress))
+            }
             Kept::Bytes(bytes) => parts
                 .iter()
                 .try_for_each(|part| Ok(out.write_all(part.of(bytes).expect("the ranges of a film lie within it"))?)),
@@ -124,10 +253,34 @@ impl Film {
         copied
     }
 
+    /// Writes the whole film with another moov in its moov's place, which is as long. The film must not change in the meantime.
+    pub fn copy_with(&self, moov: &[u8], out: &mut File) -> io::Result<()> {
+        let place = self.moov.as_ref().map_or(0, |moov| moov.place);
+        let end = place + moov.len() as u64;
+        match &self.kept {
+            Kept::File(file) => copy_around(file, place..end, moov, out),
+            Kept::Bytes(bytes) => {
+                let [place, end] =
+                    [place, end].map(|at| usize::try_from(at).map_or(bytes.len(), |at| at.min(bytes.len())));
+                [&bytes[..place], moov, &bytes[end..]].iter().try_for_each(|part| out.write_all(part))
+            }
+        }
+    }
+
+    /// The sha256 of parts of the film, one after the other.
+    pub fn hash(&self, parts: &[ByteRange]) -> Result<String, Failure> {
+        let mut hash = Sha256::new();
+        self.copy(parts, &mut hash)?;
+        Ok(hash.finish())
+    }
+
     /// Refuses the film for its top level.
     fn unread(&self, error: &ReadError) -> Failure {
         match error {
-            ReadError::MoovTooLong { .. } => Failure::of_film(Refusal::FileTooLong, Some(error.to_string())),
+            ReadError::MoovTooLong { .. } => {
+                let refusal = Refusal::FileTooLong;
+                Failure::Film(refusal, Some(error.to_string()), self.hint(refusal))
+            }
             error => self.refused(error.refusal().unwrap_or(Refusal::FileTooLong)),
         }
     }
@@ -135,23 +288,113 @@ impl Film {
     /// Refuses the film. Of a film with several moovs one may be wrong inside, which is judged first: that is told of the whole.
     fn refused(&self, refusal: Refusal) -> Failure {
         let whole = if self.moov.is_err() { self.whole() } else { None };
-        let refusal = whole.and_then(|film| Movie::open(&film[..]).err()).unwrap_or(refusal);
-        Failure::of_film(refusal, self.why(refusal))
+        let refusal = whole.and_then(|film| Movie::open(film).err()).unwrap_or(refusal);
+        Failure::Film(refusal, self.why(refusal), self.hint(refusal))
+    }
+
+    /// A refusal of the film, and why, if that is known.
+    pub fn explained(&self, refusal: Refusal) -> Failure {
+        Failure::Film(refusal, self.why(refusal), None)
     }
 
     /// Why the film is refused, if that is known.
     fn why(&self, refusal: Refusal) -> Option<String> {
-        let whole = self.whole().and_then(|film| explanation(&film, refusal));
+        let whole = self.whole().and_then(|film| explanation(film, refusal));
         whole.or_else(|| explanation_alone(self.moov.as_ref().ok()?, refusal))
     }
 
-    /// The film as it is lent whole; nothing where it is too long, or cannot be read.
-    fn whole(&self) -> Option<Cow<'_, [u8]>> {
-        match &self.kept {
-            Kept::File(file) => tables(file).map(Cow::Owned),
-            Kept::Bytes(bytes) => Some(Cow::Borrowed(bytes)),
+    /// What can be done about a refusal, if that is known.
+    fn hint(&self, refusal: Refusal) -> Option<String> {
+        if self.is_slip() {
+            return Some("this is a slip, not a film; the film stands first".into());
+        }
+        match (&self.moov, refusal) {
+            (_, Refusal::FileTooLong) => Some(TOO_LONG.into()),
+            (_, Refusal::AtomSize) => self.missing().map(|(bytes, has_moov)| hints::cut_off(bytes, has_moov)),
+            (Err(_), Refusal::AtomCount) => Some(hints::without_moov()),
+            (Ok(moov), refusal) => hints::of_moov(moov, refusal),
+            _ => None,
         }
     }
+
+    /// Whether the file is a slip, which someone named in the film's place.
+    fn is_slip(&self) -> bool {
+        let bytes = match &self.kept {
+            Kept::File(file) => {
+                let length = file.metadata().map_or(u64::MAX, |file| file.len());
+                let mut bytes = vec![0; usize::try_from(length.min(LONGEST_SLIP)).unwrap_or(0)];
+                if length > LONGEST_SLIP || fill(file, 0, &mut bytes).is_none() {
+                    return false;
+                }
+                bytes
+            }
+            Kept::Bytes(bytes) if bytes.len() as u64 <= LONGEST_SLIP => bytes.clone(),
+            Kept::Bytes(_) => return false,
+        };
+        input::slip(bytes).is_ok_and(|bytes| AnySlip::read(&bytes).is_ok())
+    }
+
+    /// How many bytes the last atom at top level is longer than the file, if it is, and whether a moov stands before it.
+    fn missing(&self) -> Option<(u64, bool)> {
+        let (mut at, mut has_moov) = (0, false);
+        for _ in 0..MOST_ATOMS {
+            let (header, length) = self.header(at)?;
+            let (least, size) = atoms::said(&header, true)?;
+            let end = at.checked_add(size.filter(|size| *size >= least as u64)?)?;
+            let kind = header.get(4..8)?;
+            if end > length {
+                // Of bytes that are no film a size means nothing.
+                return TOP_LEVEL.contains(&kind).then_some((end - length, has_moov));
+            }
+            has_moov |= kind == b"moov";
+            at = end;
+        }
+        None
+    }
+
+    /// The first bytes from a place on, as many as a header has, and the length of the file.
+    fn header(&self, at: u64) -> Option<(Vec<u8>, u64)> {
+        let length = match &self.kept {
+            Kept::File(file) => file.metadata().ok()?.len(),
+            Kept::Bytes(bytes) => bytes.len() as u64,
+        };
+        let range = ByteRange { offset: at, length: length.checked_sub(at)?.min(LONGEST_HEADER as u64) };
+        let mut header = vec![0; usize::try_from(range.length).ok()?];
+        match &self.kept {
+            Kept::File(file) => file.read_exact_at(&mut header, at).ok()?,
+            Kept::Bytes(bytes) => header.copy_from_slice(range.of(bytes)?),
+        }
+        Some((header, length))
+    }
+
+    /// The film as it is lent whole, without what is left out; nothing where it is too long, or cannot be read.
+    fn whole(&self) -> Option<&[u8]> {
+        match &self.kept {
+            Kept::Bytes(bytes) if self.left_out.is_empty() => Some(bytes),
+            kept => self.whole.get_or_init(|| self.whole_of(kept)).as_deref(),
+        }
+    }
+
+    fn whole_of(&self, kept: &Kept) -> Option<Vec<u8>> {
+        let mut bytes = match kept {
+            Kept::File(file) => tables(file)?,
+            Kept::Bytes(bytes) => bytes.clone(),
+        };
+        if let Ok(moov) = &self.moov {
+            let place = usize::try_from(moov.place).ok()?;
+            bytes.get_mut(place..)?.get_mut(..moov.bytes.len())?.copy_from_slice(&moov.bytes);
+        }
+        Some(bytes)
+    }
+}
+
+/// The hint for the refusal whose words are those of a file that is lent whole.
+const TOO_LONG: &str =
+    "a film in a file may have any length; its moov, and a film from standard input, may have 2,147,483,647 bytes";
+
+/// How many films of a return are refused 3.
+fn refused_3(totals: &FilmReturn) -> u64 {
+    totals.refused().filter(|(refusal, _)| *refusal == Refusal::AtomCount).map(|(_, films)| films).sum()
 }
 
 /// Bytes that are refused with that number, one of those that a film's top level can be refused with.
@@ -163,12 +406,11 @@ fn refused_as(refusal: Refusal) -> lent::Film<'static> {
     }
 }
 
-/// The moov of a film, or why its top level is refused; and whether a moof stands there.
-fn moov_of(film: impl Read + Seek) -> io::Result<(Result<Moov, ReadError>, bool)> {
-    let mut has_moof = false;
-    match Moov::read_seeing(film, |kind, _| has_moof |= kind == MOOF) {
+/// The moov of a film, or why its top level is refused.
+fn moov_of(film: impl Read + Seek) -> io::Result<Result<Moov, ReadError>> {
+    match Moov::read(film) {
         Err(ReadError::Io(error)) => Err(error),
-        read => Ok((read, has_moof)),
+        read => Ok(read),
     }
 }
 
@@ -210,15 +452,52 @@ fn fill(file: &File, at: usize, room: &mut [u8]) -> Option<()> {
     file.read_exact_at(room, u64::try_from(at).ok()?).ok()
 }
 
-fn copy(file: &File, part: ByteRange, out: &mut dyn Write, progress: &mut Progress) -> Result<(), Failure> {
-    let mut room = [0; COPIED];
+fn copy(
+    file: &File,
+    part: ByteRange,
+    room: &mut [u8],
+    out: &mut dyn Write,
+    progress: &mut Progress,
+) -> Result<(), Failure> {
     let (mut at, mut left) = (part.offset, part.length);
     while left > 0 {
-        let some = &mut room[..usize::try_from(left).map_or(COPIED, |left| left.min(COPIED))];
+        let some = usize::try_from(left).map_or(room.len(), |left| left.min(room.len()));
+        let some = &mut room[..some];
         file.read_exact_at(some, at).map_err(|error| Failure::Input(not_copied(error)))?;
         out.write_all(some)?;
         let count = some.len() as u64;
         at += count;
+        left -= count;
+        progress.add(count);
+    }
+    Ok(())
+}
+
+/// Writes a file with other bytes in one place.
+fn copy_around(file: &File, place: Range<u64>, instead: &[u8], out: &mut File) -> io::Result<()> {
+    let told = file.metadata()?;
+    let mut progress = Progress::of(told.len());
+    let copied = copy_file(file, 0..place.start, out, &mut progress)
+        .and_then(|()| out.write_all(instead))
+        .and_then(|()| copy_file(file, place.end..told.len(), out, &mut progress));
+    progress.end();
+    copied?;
+    let after = file.metadata()?;
+    if (after.len(), after.modified()?) == (told.len(), told.modified()?) {
+        return Ok(());
+    }
+    Err(io::Error::other("the film changed while it was read"))
+}
+
+/// Writes a part of a file to another, piece by piece, within the system where it can do that.
+fn copy_file(mut file: &File, part: Range<u64>, out: &mut File, progress: &mut Progress) -> io::Result<()> {
+    file.seek(SeekFrom::Start(part.start))?;
+    let mut left = part.end.saturating_sub(part.start);
+    while left > 0 {
+        let count = io::copy(&mut file.take(left.min(PIECE)), out)?;
+        if count == 0 {
+            return Err(not_copied(ErrorKind::UnexpectedEof.into()));
+        }
         left -= count;
         progress.add(count);
     }
@@ -236,9 +515,9 @@ fn not_copied(error: io::Error) -> io::Error {
 #[cfg(test)]
 mod tests {
     use super::*;
-    use crate::atoms::{extent, has_ctts};
+    use crate::atoms::extent;
     use chaldoref::{Feature, MediaTime, MovieTime, Track};
-    use reference::film::{atom, file, w, w_movie, Node, Size};
+    use reference::film::{self, atom, file, w, w_movie, Node, Size};
     use reference::made::moov_last;
     use reference::maker::{self, Random};
     use std::fs;
@@ -273,7 +552,7 @@ mod tests {
             (0..=track.samples.min(9) + 1).map(|n| (movie.sample(id, n), movie.sample_range(id, n))).collect();
         let times = [0, 1, track.total.0 / 2, track.total.0];
         let at = times.map(|t| (movie.sample_at(id, MediaTime(t)), movie.media_time(id, MovieTime(t))));
-        let ctts = has_ctts(movie.film().lent(), id.0);
+        let ctts = movie.opened(id).map(|track| track.has_ctts());
         let stretch = (movie.stretch(id, whole.clone()), movie.write_slip(id, whole), ctts);
         let features: Vec<_> = Feature::ALL.iter().map(|of| (movie.feature(id, *of), movie.peak(id, *of))).collect();
         format!("{track:?} {samples:?} {at:?} {stretch:?} {features:?} {:?}", movie.profile(id))
@@ -297,7 +576,8 @@ mod tests {
 
     /// The same where all of it is lent.
     fn said_of_whole(film: &[u8]) -> [String; 2] {
-        let refused = |refusal| failed(Failure::of_film(refusal, explanation(film, refusal)));
+        let lent = || Film::of(film.to_vec()).unwrap();
+        let refused = |refusal| failed(Failure::Film(refusal, explanation(film, refusal), lent().hint(refusal)));
         let movie = || Movie::open(film);
         let strictly = |refusal| refused(strict_refusal(film).unwrap_or(refusal));
         [movie().map_or_else(refused, |movie| answers(&movie)), movie().map_or_else(strictly, |movie| answers(&movie))]
@@ -397,7 +677,7 @@ mod tests {
         for (begin, end) in unread.iter().map(|n| places[*n]) {
             bytes[begin + LONGEST_HEADER..end].fill(0);
         }
-        assert!(film.whole().unwrap() == bytes);
+        assert!(film.whole().unwrap() == &bytes[..]);
     }
 
     #[test]
@@ -429,13 +709,19 @@ mod tests {
 
     #[test]
     fn fragments_are_seen_at_top_level() {
-        let film = |atoms: &[Node]| Stored::new("fragments", &file(atoms.to_vec()).bytes()).film();
-        let (moov, moof) = (w_movie().moov(), atom("moof", &[0; 8]));
-        assert!(!film(&[moov.clone()]).has_fragments());
-        assert!(film(&[moof.clone(), moov.clone()]).has_fragments() && film(&[moov.clone(), moof]).has_fragments());
+        let fragments = |atoms: &[Node]| {
+            let film = Stored::new("fragments", &file(atoms.to_vec()).bytes()).film();
+            let found = film.fragments(&film.movie().ok().unwrap());
+            found.map(|fragments| (fragments.count, fragments.bytes))
+        };
+        let (moov, moof, mdat) =
+            (film::Movie { tracks: vec![], ..w_movie() }.moov(), atom("moof", &[0; 8]), atom("mdat", &[7; 5]));
+        assert_eq!(fragments(&[mdat.clone(), moov.clone()]), None);
+        assert_eq!(fragments(&[mdat.clone(), moof.clone(), moov.clone(), mdat.clone()]), Some((1, 5)));
+        assert_eq!(fragments(&[moov.clone(), moof.clone(), mdat.clone(), moof, mdat]), Some((2, 10)));
         let mut with_mvex = moov;
         with_mvex.children.push(atom("mvex", &[]));
-        assert!(film(&[with_mvex]).has_fragments());
+        assert_eq!(fragments(&[with_mvex]), Some((0, 0)));
     }
 
     /// Linux tells no length of its own files.

@@ -1,29 +1,42 @@
 //! The texts that tell how to use the commands.
-use crate::syntax::{Command, Opt, COMMANDS, HELPERS};
+use crate::syntax::{Command, Opt, COMMANDS, HELPERS, LEAVE_OUT, SHELLS};
 
 /// The width of a terminal.
 const COLUMNS: usize = 80;
 
-const OPERANDS: &str = "\
-FILE is a whole film, and for read-slip a slip; - is standard input. SLIP is a
-slip. A slip is raw bytes or hex text. TRACK is a track ID. Numbers are decimal,
-or hex after 0x, and below 2^32. CODE is four characters, or hex after 0x.
-MEDIA-TIME, A and B are units of the track's own time scale, or seconds as
-12.5s, or hours, minutes and seconds as 00:01:02.250, rounded down to units, or
-end, where the track ends. Without A and B the whole track is taken. MOVIE-TIME
-is in units of the movie's time scale only. N, FROM and TO are numbers of
-samples, from 1; without FROM a track is listed from 1, without TO to its end.
-";
+/// What operands are, and the names of those that each text is of.
+const OPERANDS: [(&[&str], &str); 8] = [
+    (&["FILE"], "FILE is a film, and for read-slip a slip; - is standard input."),
+    (&["SLIP"], "SLIP is a slip: raw bytes, or hex text."),
+    (&["TRACK"], "TRACK is a track ID. Numbers are decimal, or hex after 0x, and below 2^32."),
+    (&["CODE"], "CODE is four characters, or hex after 0x."),
+    (
+        &["MEDIA-TIME", "A", "B"],
+        "MEDIA-TIME, A and B are units of the track's own time scale; or seconds as 12.5s, minutes and seconds as \
+         1:02, hours too as 00:01:02.250, rounded down to units; or start, or end, where the track ends.",
+    ),
+    (&["A", "B"], "Without A and B the whole track is taken."),
+    (
+        &["MOVIE-TIME"],
+        "MOVIE-TIME is units of the movie's time scale; or seconds as 12.5s, 1:02 or 00:01:02.250; or start.",
+    ),
+    (
+        &["N", "FROM", "TO"],
+        "N, FROM and TO are numbers of samples, from 1; without FROM a track is listed from 1, without TO to its end.",
+    ),
+];
+
+/// What is said of parts that are left out.
+const PARTS: &str = "\
+PART is edits, for the edit lists of all tracks, or track=ID; --leave-out may be given several times. The film itself stays as \
+it is, and each answer says what was left out.";
 
 const REST: &str = "\
---json prints one JSON document for each FILE, samples one for each sample, and
-film-return one for all films.
-chaldoref COMMAND --help tells the options of a command; the page chaldoref(1)
-tells all. chaldoref completion bash prints the completion for bash. Exit
-status: 0 answered; 1 refused, for the reason on standard error, or something
-that check, check-profile or check-quay found is not good; 2 bad usage,
-unreadable file or no memory. Of several files the greatest counts.
-";
+--json prints one JSON document for each FILE, samples one for each sample, and film-return one for all films. \
+chaldoref COMMAND --help tells the options of a command; the page chaldoref(1) tells all. chaldoref completion SHELL \
+prints the completion for bash, zsh or fish. Exit status: 0 answered; 1 refused, for the reason on standard error, or \
+something that check, check-profile or check-quay found is not good; 2 bad usage, unreadable file or no memory. Of \
+several files the greatest counts.";
 
 impl Command {
     /// The command with its operands.
@@ -31,17 +44,33 @@ impl Command {
         [&[self.name], self.operands].concat().join(" ")
     }
 
-    /// One line with everything that the command takes.
+    /// Everything that the command takes.
     pub fn usage(&self) -> String {
-        let options: String = self.options.iter().map(|option| format!(" [{}]", option.form())).collect();
-        format!("usage: chaldoref {}{options}\n", self.form())
+        // An option is not parted from its value, nor one bracket from the next.
+        let options = self.options.iter().map(|option| format!("[{}]", option.form().replace(' ', "\u{a0}")));
+        let words: Vec<String> = [self.form()].into_iter().chain(options).collect();
+        wrapped(&format!("usage: chaldoref {}", words.join(" ")), 0)
+            .replace('\u{a0}', " ")
+            .replace('\n', "\n    ")
+            .trim_end()
+            .to_string()
+            + "\n"
     }
 
     pub fn help(&self) -> String {
-        let line = |option: &&Opt| format!("  {:<9} {}\n", option.form(), option.about);
+        let wide = self.options.iter().map(|option| option.form().len()).max().unwrap_or(0);
+        let line = |option: &&Opt| format!("  {:<wide$}  {}", option.form(), wrapped(option.about, wide + 4));
         let options: String = self.options.iter().map(line).collect();
         let about = wrapped(&format!("Prints {}.", self.about), 0);
-        format!("{}\n{about}\n{options}\n{OPERANDS}", self.usage())
+        let parts = self.options.iter().any(|option| option.flag == LEAVE_OUT.flag).then(|| wrapped(PARTS, 0));
+        let (operands, parts) = (self.operands_in_words(), parts.unwrap_or_default());
+        format!("{}\n{about}\n{options}\n{operands}{parts}\nExample:\n\n  chaldoref {}\n", self.usage(), self.example)
+    }
+
+    /// What its own operands are, a paragraph each.
+    fn operands_in_words(&self) -> String {
+        let takes = |name: &&str| self.operands.iter().any(|own| own.trim_matches(['[', ']', '.']) == *name);
+        OPERANDS.iter().filter(|(names, _)| names.iter().any(takes)).map(|(_, text)| wrapped(text, 0)).collect()
     }
 }
 
@@ -80,18 +109,27 @@ pub fn help() -> String {
     let wide = COMMANDS.iter().map(|command| command.form().len()).max().unwrap_or(0);
     let line = |command: &Command| format!("  {:<wide$}  {}", command.form(), wrapped(command.about, wide + 4));
     let commands: String = COMMANDS.iter().map(line).collect();
+    let operands = wrapped(&OPERANDS.map(|(_, text)| text).join(" "), 0);
+    let (parts, rest) = (wrapped(PARTS, 0), wrapped(REST, 0));
     format!(
-        "Asks the tables of a QuickTime movie.\n\nusage: chaldoref COMMAND FILE ...\n\n{commands}\n{OPERANDS}\n{REST}"
+        "Asks the tables of a QuickTime movie.\n\nusage: chaldoref COMMAND FILE ...\n\n{commands}\n{operands}\n{parts}\n{rest}"
     )
 }
 
 pub fn completion_usage() -> String {
-    "usage: chaldoref completion bash\n".into()
+    format!("usage: chaldoref completion {}\n", SHELLS.join("|"))
 }
 
 pub fn completion() -> String {
-    let usage = completion_usage();
-    format!("{usage}\nPrints the completion for bash. It is used after\n\n  source <(chaldoref completion bash)\n")
+    format!(
+        "{}\nPrints the completion for a shell. It is used after\n\n  source <(chaldoref completion bash)\n  \
+         source <(chaldoref completion zsh)\n  chaldoref completion fish | source\n",
+        completion_usage()
+    )
+}
+
+pub fn version_help() -> String {
+    "usage: chaldoref version\n\nPrints the version.\n".into()
 }
 
 pub fn version() -> String {

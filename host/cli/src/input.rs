@@ -76,15 +76,18 @@ pub fn slip(file: Vec<u8>) -> io::Result<Vec<u8>> {
     Ok(file)
 }
 
-/// The bytes that hex text says: pairs of digits, and white space before and after them.
+/// The bytes that hex text says: pairs of digits, with white space and commas between them, and 0x before them or not.
 pub fn from_hex(text: &[u8]) -> io::Result<Vec<u8>> {
     let mut bytes = Vec::new();
     bytes.try_reserve_exact(text.len() / 2)?;
     let mut at = 0;
     while let Some(c) = text.get(at) {
-        if c.is_ascii_whitespace() {
+        if c.is_ascii_whitespace() || *c == b',' {
             at += 1;
             continue;
+        }
+        if matches!(text.get(at..at + 2), Some(b"0x" | b"0X")) {
+            at += 2;
         }
         bytes.push(text.get(at..at + 2).and_then(byte).ok_or_else(|| not_hex(text, at))?);
         at += 2;
@@ -92,13 +95,26 @@ pub fn from_hex(text: &[u8]) -> io::Result<Vec<u8>> {
     Ok(bytes)
 }
 
-/// Says where the text has no pair of digits: lines and columns count from 1.
+/// Says where the text has no pair of digits: lines and columns count from 1. A letter that is often taken for a digit is named.
 fn not_hex(text: &[u8], at: usize) -> io::Error {
     let before = &text[..at];
     let line = 1 + before.iter().filter(|c| **c == b'\n').count();
     let column = 1 + before.iter().rev().take_while(|c| **c != b'\n').count();
-    let words = format!("line {line}, column {column}: not a pair of hex digits");
+    let pair = text.get(at..).unwrap_or_default().iter().take(2);
+    let why = pair.copied().find_map(mistaken).map_or(String::new(), |words| format!(": {words}"));
+    let words = format!("line {line}, column {column}: not a pair of hex digits{why}");
     io::Error::new(io::ErrorKind::InvalidData, words)
+}
+
+/// What a character is that looks like a digit.
+fn mistaken(c: u8) -> Option<&'static str> {
+    match c {
+        b'O' | b'o' => Some("there is the letter O, and the digit is 0"),
+        b'l' => Some("there is the letter l, and the digit is 1"),
+        b'I' | b'i' => Some("there is the letter I, and the digit is 1"),
+        b'S' | b's' => Some("there is the letter S, and the digit is 5"),
+        _ => None,
+    }
 }
 
 /// The byte of two hex digits.
@@ -116,7 +132,10 @@ mod tests {
     fn hex() {
         assert_eq!(from_hex(b"01 d8\n04D8\t\n").ok(), Some(vec![0x01, 0xd8, 0x04, 0xd8]));
         assert_eq!(from_hex(b"").ok(), Some(vec![]));
-        for text in [&b"0"[..], b"0 1", b"0x01", b"01,02", b"\xff\xff"] {
+        for text in [&b"0x01, 0xD8,0x04\n0XD8"[..], b"01,d8,04,d8,", b"0x01D804D8"] {
+            assert_eq!(from_hex(text).ok(), Some(vec![0x01, 0xd8, 0x04, 0xd8]));
+        }
+        for text in [&b"0"[..], b"0 1", b"0x", b"0x 01", b"0x0x01", b"01;02", b"\xff\xff"] {
             assert!(from_hex(text).is_err());
         }
     }
@@ -124,9 +143,23 @@ mod tests {
     #[test]
     fn what_is_not_hex_has_its_line_and_column() {
         for (text, line, column) in
-            [("0x", 1, 1), ("01 0", 1, 4), ("01\r\n02 0g", 2, 4), ("\n\n 1", 3, 2), ("010", 1, 3)]
+            [("0x", 1, 3), ("01 0", 1, 4), ("01\r\n02 0g", 2, 4), ("\n\n 1", 3, 2), ("010", 1, 3)]
         {
             let said = format!("line {line}, column {column}: not a pair of hex digits");
+            assert_eq!(from_hex(text.as_bytes()).unwrap_err().to_string(), said, "{text}");
+        }
+    }
+
+    #[test]
+    fn letters_that_look_like_digits() {
+        for (text, words) in [
+            ("01 O1", ": there is the letter O, and the digit is 0"),
+            ("01 0o", ": there is the letter O, and the digit is 0"),
+            ("01 l0", ": there is the letter l, and the digit is 1"),
+            ("01 4I", ": there is the letter I, and the digit is 1"),
+            ("01 4g", ""),
+        ] {
+            let said = format!("line 1, column 4: not a pair of hex digits{words}");
             assert_eq!(from_hex(text.as_bytes()).unwrap_err().to_string(), said, "{text}");
         }
     }

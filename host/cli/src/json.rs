@@ -1,7 +1,9 @@
 //! JSON documents, written as they are made: a list of a million pairs is never held as text.
+use chaldoref::LeaveOut;
 use std::ffi::OsStr;
 use std::fmt;
 use std::io::{self, Write};
+use std::os::unix::ffi::OsStrExt;
 
 /// Which keys documents have. It is another number where one is taken away or has another meaning.
 const FORMAT: u32 = 1;
@@ -100,16 +102,31 @@ pub struct Object<'w> {
     empty: bool,
 }
 
-/// A document: one object, on a line of its own. The format comes first, and then the name of the file that was asked, if there is one.
+/// What a document is of: the file that was asked, if there is one, and what of it was not read.
+#[derive(Clone, Copy, Default)]
+pub struct Subject<'a> {
+    pub file: Option<&'a OsStr>,
+    pub left_out: &'a [LeaveOut],
+    /// Whether some of the film lies in fragments, which are not read.
+    pub fragmented: bool,
+}
+
+/// A document: one object, on a line of its own. The format comes first, and then what it is of.
 pub fn document(
     out: &mut dyn Write,
-    file: Option<&OsStr>,
+    of: Subject,
     fields: impl FnOnce(&mut Object) -> io::Result<()>,
 ) -> io::Result<()> {
     object(out, |o| {
         o.put("format", FORMAT)?;
-        if let Some(name) = file {
-            o.put("file", name.to_string_lossy().into_owned())?;
+        if let Some(name) = of.file {
+            o.name("file", name)?;
+        }
+        if !of.left_out.is_empty() {
+            o.texts("left_out", &of.left_out.iter().map(LeaveOut::to_string).collect::<Vec<_>>())?;
+        }
+        if of.fragmented {
+            o.put("fragmented", true)?;
         }
         fields(o)
     })?;
@@ -128,6 +145,15 @@ impl Object<'_> {
         self.key(key)?;
         write!(self.out, "{}", value.into())?;
         Ok(self)
+    }
+
+    /// The name of a file. One that is no UTF-8 has its bytes too, under the key and `_hex`, so that it can be told apart.
+    pub fn name(&mut self, key: &str, name: &OsStr) -> io::Result<&mut Self> {
+        self.put(key, name.to_string_lossy().into_owned())?;
+        match name.to_str() {
+            Some(_) => Ok(self),
+            None => self.put(&format!("{key}_hex"), Value::Hex(name.as_bytes().to_vec())),
+        }
     }
 
     /// A time in units of a scale, and after it the same in seconds.
@@ -190,6 +216,16 @@ impl Object<'_> {
         Ok(self)
     }
 
+    /// A field that is a list of names of files. Where one is no UTF-8, their bytes follow as another list.
+    pub fn names(&mut self, key: &str, names: &[&OsStr]) -> io::Result<&mut Self> {
+        self.texts(key, &names.iter().map(|name| name.to_string_lossy().into_owned()).collect::<Vec<_>>())?;
+        if names.iter().all(|name| name.to_str().is_some()) {
+            return Ok(self);
+        }
+        let hex = |name: &&OsStr| name.as_bytes().iter().map(|byte| format!("{byte:02x}")).collect::<String>();
+        self.texts(&format!("{key}_hex"), &names.iter().map(hex).collect::<Vec<_>>())
+    }
+
     fn key(&mut self, key: &str) -> io::Result<()> {
         self.out.write_all(if self.empty { b"\"" } else { b",\"" })?;
         self.empty = false;
@@ -201,10 +237,11 @@ impl Object<'_> {
 #[cfg(test)]
 mod tests {
     use super::*;
+    use chaldoref::TrackId;
 
     fn written(fields: impl FnOnce(&mut Object) -> io::Result<()>) -> String {
         let mut out = Vec::new();
-        document(&mut out, None, fields).unwrap();
+        document(&mut out, Subject::default(), fields).unwrap();
         String::from_utf8(out).unwrap()
     }
 
@@ -247,11 +284,32 @@ mod tests {
         );
     }
 
+    fn written_of(of: Subject) -> String {
+        let mut out = Vec::new();
+        document(&mut out, of, |o| o.put("c", true).map(drop)).unwrap();
+        String::from_utf8(out).unwrap()
+    }
+
     #[test]
     fn documents_have_the_file() {
-        let mut out = Vec::new();
-        document(&mut out, Some(OsStr::new("a \"b\"")), |o| o.put("c", true).map(drop)).unwrap();
-        assert_eq!(String::from_utf8(out).unwrap(), "{\"format\":1,\"file\":\"a \\\"b\\\"\",\"c\":true}\n");
+        let file = Some(OsStr::new("a \"b\""));
+        let left_out = &[LeaveOut::Edits, LeaveOut::Track(TrackId(7))];
+        assert_eq!(
+            written_of(Subject { file, ..Subject::default() }),
+            "{\"format\":1,\"file\":\"a \\\"b\\\"\",\"c\":true}\n"
+        );
+        assert_eq!(
+            written_of(Subject { file: Some(OsStr::new("a")), left_out, fragmented: true }),
+            "{\"format\":1,\"file\":\"a\",\"left_out\":[\"edits\",\"track=7\"],\"fragmented\":true,\"c\":true}\n"
+        );
+    }
+
+    #[test]
+    fn names_that_are_no_text_have_their_bytes() {
+        let of =
+            |name: &'static [u8]| written_of(Subject { file: Some(OsStr::from_bytes(name)), ..Subject::default() });
+        assert_eq!(of(b"a\xff"), "{\"format\":1,\"file\":\"a\u{fffd}\",\"file_hex\":\"61ff\",\"c\":true}\n");
+        assert_ne!(of(b"a\xff"), of(b"a\xfe"));
     }
 
     #[test]

@@ -13,21 +13,31 @@ mod failure;
 mod fault;
 mod filed;
 mod film;
+mod films;
 mod help;
+mod hints;
+mod html;
 mod input;
 mod json;
 mod output;
 mod progress;
+mod quay;
+mod rates;
+mod retyped;
+mod sha256;
 mod suggest;
+mod svg;
 mod syntax;
 mod table;
 mod time;
+mod unproved;
 mod warnings;
 #[allow(unsafe_code)]
 mod zeros;
 
 use args::{Ask, Parsed, Request};
 use failure::{worse, Failure, SUCCESS};
+use json::Subject;
 use std::ffi::{OsStr, OsString};
 use std::io::{self, BufWriter, Write};
 use std::process::ExitCode;
@@ -40,26 +50,34 @@ fn main() -> ExitCode {
     let json = args::has_json(&words);
     let status = match args::parse(words) {
         Ok(Parsed::Text(text)) => end("", print(|out| Ok(out.write_all(text.as_bytes())?))),
-        Ok(Parsed::Run(request)) if matches!(request.ask, Ask::FilmReturn) => {
-            end("", print(|out| commands::film_return(&request, out)))
-        }
-        Ok(Parsed::Run(request)) => {
-            request.files.iter().map(|file| end(&input::called(file), answer(&request, file))).max().unwrap_or(SUCCESS)
-        }
-        Err(failure) => end("", documented(Err(failure), None, json)),
+        Ok(Parsed::Run(request)) => match &request.ask {
+            Ask::FilmReturn(options) => end("", print(|out| commands::film_return(&request, options, out))),
+            &Ask::CheckQuay { all } if request.files.len() > 1 && !request.json => {
+                end("", print(|out| commands::check_quay_table(&request, all, out)))
+            }
+            Ask::Report { ref slips, ref out } => end("", print(|to| commands::report(&request, slips, out, to))),
+            _ => each(&request),
+        },
+        Err(failure) => end("", documented(Err(failure), Subject::default(), json)),
     };
     ExitCode::from(status)
 }
 
+/// Answers a request of each file; the greatest exit status counts.
+fn each(request: &Request) -> u8 {
+    request.files.iter().map(|file| end(&input::called(file), answer(request, file))).max().unwrap_or(SUCCESS)
+}
+
 /// Answers a request of one file.
 fn answer(request: &Request, file: &OsStr) -> Result<(), Failure> {
-    documented(print(|out| commands::run(request, file, out)), Some(file), request.json)
+    let of = Subject { file: Some(file), left_out: &request.leave_out, ..Subject::default() };
+    documented(print(|out| commands::run(request, file, out)), of, request.json)
 }
 
 /// With --json a failure is a document on standard output as well, so that there is always one.
-fn documented(done: Result<(), Failure>, file: Option<&OsStr>, json: bool) -> Result<(), Failure> {
+fn documented(done: Result<(), Failure>, of: Subject, json: bool) -> Result<(), Failure> {
     if let (Err(failure), true) = (&done, json) {
-        print(|out| Ok(commands::failed(failure, file, out)?))?;
+        print(|out| Ok(commands::failed(failure, of, out)?))?;
     }
     done
 }

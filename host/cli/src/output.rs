@@ -1,7 +1,7 @@
 //! Writing to standard output and to files.
 use crate::closed;
 use std::fs::{self, File, Permissions};
-use std::io::{self, ErrorKind, Write};
+use std::io::{self, ErrorKind, Read, Write};
 use std::os::fd::AsFd;
 use std::path::{Path, PathBuf};
 
@@ -28,15 +28,33 @@ impl Write for Standard {
     }
 }
 
-/// Writes a file. It is written beside its place and then put there, so that what fails leaves what was there whole.
+/// The types of atoms that films begin with.
+const FIRST_ATOMS: [&[u8; 4]; 9] = [b"ftyp", b"moov", b"mdat", b"free", b"skip", b"wide", b"pnot", b"moof", b"styp"];
+
+/// Whether a file that is there begins as films do. What is no regular file is none.
+pub fn is_film(name: &Path) -> bool {
+    let header = || {
+        let mut header = [0; 8];
+        File::open(name).and_then(|mut file| file.read_exact(&mut header)).map(|()| header)
+    };
+    let is_first = |header: [u8; 8]| FIRST_ATOMS.iter().any(|kind| header[4..] == **kind);
+    fs::metadata(name).is_ok_and(|there| there.is_file()) && header().is_ok_and(is_first)
+}
+
+/// Writes bytes to a file, as `replace_with` does.
 pub fn replace(name: &Path, bytes: &[u8]) -> io::Result<()> {
+    replace_with(name, |file| file.write_all(bytes))
+}
+
+/// Writes a file. It is written beside its place and then put there, so that what fails leaves what was there whole.
+pub fn replace_with(name: &Path, write: impl FnOnce(&mut File) -> io::Result<()>) -> io::Result<()> {
     let permissions = match fs::metadata(name) {
         Ok(there) => {
             // What must not be written must not be replaced either.
             let mut file = File::options().write(true).open(name)?;
             if !there.is_file() {
                 // A device or a pipe keeps nothing.
-                return file.write_all(bytes);
+                return write(&mut file);
             }
             Some(there.permissions())
         }
@@ -45,7 +63,7 @@ pub fn replace(name: &Path, bytes: &[u8]) -> io::Result<()> {
     };
     let place = past_links(name);
     let (beside, file) = new_beside(&place)?;
-    let put = fill(file, bytes, permissions).and_then(|()| fs::rename(&beside, &place));
+    let put = fill(file, write, permissions).and_then(|()| fs::rename(&beside, &place));
     if put.is_err() {
         // The error that counts is the first.
         let _ = fs::remove_file(&beside);
@@ -78,10 +96,14 @@ fn new_beside(place: &Path) -> io::Result<(PathBuf, File)> {
 }
 
 /// Writes a new file through to the disk.
-fn fill(mut file: File, bytes: &[u8], permissions: Option<Permissions>) -> io::Result<()> {
+fn fill(
+    mut file: File,
+    write: impl FnOnce(&mut File) -> io::Result<()>,
+    permissions: Option<Permissions>,
+) -> io::Result<()> {
     if let Some(permissions) = permissions {
         file.set_permissions(permissions)?;
     }
-    file.write_all(bytes)?;
+    write(&mut file)?;
     file.sync_all()
 }

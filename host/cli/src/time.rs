@@ -1,16 +1,16 @@
 //! Times as people write them and as they are shown to them. Both ways are computed in whole numbers, and rounded down.
-use crate::failure::{hint, Failure};
-use chaldoref::{MediaTime, Movie, MovieTime, Refusal, Track, TrackId};
+use crate::failure::Failure;
+use chaldoref::{MediaTime, Movie, MovieTime, Refusal, TrackId};
 use std::ops::Range;
 
 const MILLISECONDS: u64 = 1000;
 const SECONDS_A_MINUTE: u64 = 60;
 const MINUTES_AN_HOUR: u64 = 60;
 
-/// A time of a track's media, as it was asked.
+/// A time of a track's media or of the movie, as it was asked.
 #[derive(Clone, Debug, PartialEq)]
 pub enum Time {
-    Units(MediaTime),
+    Units(u32),
     /// Whole seconds, and the decimal digits after the point.
     Seconds(u64, String),
     /// Where the track ends.
@@ -24,10 +24,12 @@ pub enum Span {
 }
 
 impl Time {
-    /// A time that is no plain number: 12.5s, 00:01:02.250 or end.
+    /// A time that is no plain number: 12.5s, 00:01:02.250, 1:02, start or end.
     pub fn parse(text: &str) -> Option<Time> {
-        if text == "end" {
-            return Some(Time::End);
+        match text {
+            "start" => return Some(Time::Seconds(0, String::new())),
+            "end" => return Some(Time::End),
+            _ => (),
         }
         match text.strip_suffix('s') {
             Some(seconds) => {
@@ -53,25 +55,29 @@ impl Time {
     /// The media time in the track's own scale. Refused 14 where no track has that ID, and 15 where it is over what a track can have.
     fn of(&self, movie: &Movie, id: TrackId) -> Result<MediaTime, Failure> {
         // The library refuses a plain number itself.
-        if let Time::Units(time) = self {
-            return Ok(*time);
+        if let Time::Units(units) = self {
+            return Ok(MediaTime(*units));
         }
         let track = movie.track(id).ok_or(Refusal::NoTrack)?;
-        self.on(track).ok_or_else(|| {
-            let words = format!("that time is over 4294967295 units of the track's scale {}", track.scale);
-            Failure::Refused(Refusal::Outside, hint(&words))
-        })
+        self.units(track.scale, track.total.0).map(MediaTime).ok_or_else(|| too_late("track", track.scale))
     }
 
-    fn on(&self, track: &Track) -> Option<MediaTime> {
+    /// The movie time in the movie's own scale. The movie's end is not asked for.
+    pub fn of_movie(&self, movie: &Movie) -> Result<MovieTime, Failure> {
+        let scale = movie.header().scale;
+        self.units(scale, u32::MAX).map(MovieTime).ok_or_else(|| too_late("movie", scale))
+    }
+
+    /// The time in units of a scale, or nothing where these are 2^32 or more.
+    fn units(&self, scale: u32, end: u32) -> Option<u32> {
         match self {
-            Time::Units(time) => Some(*time),
-            Time::Seconds(whole, fraction) => units(*whole, fraction, track.scale),
-            Time::End => Some(track.total),
+            Time::Units(units) => Some(*units),
+            Time::Seconds(whole, fraction) => units(*whole, fraction, scale),
+            Time::End => Some(end),
         }
     }
 
-    fn is_plain(&self) -> bool {
+    pub fn is_plain(&self) -> bool {
         matches!(self, Time::Units(_))
     }
 }
@@ -98,9 +104,15 @@ impl Span {
     }
 
     /// Whether it was asked in units, so that no one has to be told which they are.
-    pub fn is_plain(&self) -> bool {
+    fn is_plain(&self) -> bool {
         matches!(self, Span::Between(a, b) if a.is_plain() && b.is_plain())
     }
+}
+
+/// The refusal of a time that no track or movie can have.
+fn too_late(of: &str, scale: u32) -> Failure {
+    let words = format!("that time is over 4294967295 units of the {of}'s scale {scale}");
+    Failure::Refused(Refusal::Outside, Some(words))
 }
 
 /// The refusal of a question; of a time that lies outside it says the units that were asked, if no one gave them.
@@ -109,21 +121,22 @@ fn outside(movie: &Movie, id: TrackId, refusal: Refusal, asked: Option<String>) 
         (Refusal::Outside, Some(track), Some(asked)) => {
             let end = clock(track.total, track.scale);
             let words = format!("media time {asked} was asked, and the track ends at {} ({end})", track.total);
-            Failure::Refused(refusal, hint(&words))
+            Failure::Refused(refusal, Some(words))
         }
         _ => refusal.into(),
     }
 }
 
-/// Hours, minutes and seconds with colons between them.
+/// Hours, minutes and seconds with colons between them, or minutes and seconds.
 fn clock_time(text: &str) -> Option<Time> {
-    let mut parts = text.split(':');
-    let (hours, minutes, seconds) = (parts.next()?, parts.next()?, parts.next()?);
-    let (hours, minutes, (seconds, fraction)) = (whole(hours)?, whole(minutes)?, decimal(seconds)?);
-    if parts.next().is_some() || minutes >= MINUTES_AN_HOUR || seconds >= SECONDS_A_MINUTE {
-        return None;
-    }
-    Some(Time::Seconds((hours * MINUTES_AN_HOUR + minutes) * SECONDS_A_MINUTE + seconds, fraction))
+    let (before, seconds) = text.rsplit_once(':')?;
+    let (hours, minutes) = match before.split_once(':') {
+        Some((hours, minutes)) => (whole(hours)?, whole(minutes).filter(|minutes| *minutes < MINUTES_AN_HOUR)?),
+        None => (0, whole(before)?),
+    };
+    let (seconds, fraction) = decimal(seconds).filter(|(seconds, _)| *seconds < SECONDS_A_MINUTE)?;
+    let minutes = hours.saturating_mul(MINUTES_AN_HOUR).saturating_add(minutes);
+    Some(Time::Seconds(minutes.saturating_mul(SECONDS_A_MINUTE).saturating_add(seconds), fraction))
 }
 
 /// A number, and the digits after its point if it has one.
@@ -134,9 +147,9 @@ fn decimal(text: &str) -> Option<(u64, String)> {
     }
 }
 
-/// A number below 2^32, so that no product of it here is too great.
+/// A number, however great: no track lasts that long, so that the greatest of 64 bits can stand for all above it.
 fn whole(text: &str) -> Option<u64> {
-    text.parse::<u32>().ok().filter(|_| is_digits(text)).map(u64::from)
+    is_digits(text).then(|| text.parse().unwrap_or(u64::MAX))
 }
 
 fn is_digits(text: &str) -> bool {
@@ -144,12 +157,12 @@ fn is_digits(text: &str) -> bool {
 }
 
 /// Seconds in units of a scale, or nothing where these are 2^32 or more.
-fn units(whole: u64, fraction: &str, scale: u32) -> Option<MediaTime> {
+fn units(whole: u64, fraction: &str, scale: u32) -> Option<u32> {
     // From the last digit on, what is left over at one digit is less than a unit at the one before: no length is too long.
     let digits = fraction.bytes().rev().map(|c| u64::from(c - b'0'));
     let part = digits.fold(0, |after, digit| (digit * u64::from(scale) + after) / 10);
     let all = whole.checked_mul(scale.into())?.checked_add(part)?;
-    u32::try_from(all).ok().map(MediaTime)
+    u32::try_from(all).ok()
 }
 
 /// A time as hours, minutes, seconds and milliseconds. No accepted movie or slip has scale 0.
@@ -170,6 +183,15 @@ pub fn clock_of(time: u64, scale: u64) -> String {
     let (minutes, seconds) = (seconds / minute, seconds % minute);
     let (hours, minutes) = (minutes / hour, minutes % hour);
     format!("{hours:02}:{minutes:02}:{seconds:02}.{milliseconds:03}")
+}
+
+/// The same as seconds with one digit after the point, where it is less than a minute.
+pub fn brief(time: u64, scale: u64) -> String {
+    if u128::from(time) >= u128::from(scale) * u128::from(SECONDS_A_MINUTE) {
+        return clock_of(time, scale);
+    }
+    let tenths = u128::from(time) * 10 / u128::from(scale);
+    format!("{}.{} s", tenths / 10, tenths % 10)
 }
 
 /// A stretch of media time and how long it lasts, in units and as people have it.
@@ -195,9 +217,15 @@ mod tests {
         assert_eq!(Time::parse("1:59:59"), seconds(7199, ""));
         assert_eq!(Time::parse("100:00:00"), seconds(360_000, ""));
         assert_eq!(Time::parse("4294967295:59:59.9"), seconds(15_461_882_265_599, "9"));
-        let seconds = "s 5.s .5s 1.2.3s -1s +1s 1e3s 0x10s 1S 12.5 4294967296s １s";
-        let clocks = "1:2 1:60:00 1:00:60 1:00:00:00 :: 1::2 1:+1:0 1:0:0. 1:0:0s 1:0.5:0";
-        for text in seconds.split(' ').chain(clocks.split(' ')).chain(["", "1 s", "End", "end "]) {
+        assert_eq!([Time::parse("1:00"), Time::parse("100:59.5")], [seconds(60, ""), seconds(6059, "5")]);
+        assert_eq!(Time::parse("start"), seconds(0, ""));
+        assert_eq!(Time::parse("4294967296s"), seconds(4_294_967_296, ""));
+        for text in ["99999999999999999999s", "99999999999999999999:00", "9999999999999999999:00:00"] {
+            assert_eq!(Time::parse(text), seconds(u64::MAX, ""), "{text}");
+        }
+        let seconds = "s 5.s .5s 1.2.3s -1s +1s 1e3s 0x10s 1S 12.5 １s";
+        let clocks = "1: :1 1:60 1:60:00 1:00:60 1:00:00:00 :: 1::2 1:+1:0 1:0:0. 1:0:0s 1:0.5:0";
+        for text in seconds.split(' ').chain(clocks.split(' ')).chain(["", "1 s", "End", "end ", "Start", "starts"]) {
             assert_eq!(Time::parse(text), None, "{text}");
         }
     }
@@ -218,7 +246,7 @@ mod tests {
             (1, "0", u32::MAX, u32::MAX),
             (u32::MAX.into(), "9", 1, u32::MAX),
         ] {
-            assert_eq!(units(whole, fraction, scale), Some(MediaTime(expected)), "{whole}.{fraction} in {scale}");
+            assert_eq!(units(whole, fraction, scale), Some(expected), "{whole}.{fraction} in {scale}");
         }
         assert_eq!(units(1, "0000000003", u32::MAX), None);
         assert_eq!(units(7_158_278, "9", 600), None);
@@ -231,7 +259,7 @@ mod tests {
         for scale in [1, 3, 24, 600, 1000, 1001, 30_000, 44_100, 90_000, u32::MAX] {
             for ms in 0..1000u64 {
                 let expected = u32::try_from(ms * u64::from(scale) / 1000).unwrap();
-                assert_eq!(units(0, &format!("{ms:03}"), scale), Some(MediaTime(expected)), "{ms} in {scale}");
+                assert_eq!(units(0, &format!("{ms:03}"), scale), Some(expected), "{ms} in {scale}");
             }
         }
     }
@@ -253,6 +281,19 @@ mod tests {
         }
     }
 
+    #[test]
+    fn brief_times() {
+        for (time, scale, expected) in [
+            (1_048_576, 48_000, "21.8 s"),
+            (0, 1, "0.0 s"),
+            (59_999, 1000, "59.9 s"),
+            (60_000, 1000, "00:01:00.000"),
+            (1_048_576, 25, "11:39:03.040"),
+        ] {
+            assert_eq!(brief(time, scale), expected);
+        }
+    }
+
     /// What is shown is taken again as that time, or less by under a millisecond and a unit.
     #[test]
     fn what_is_shown_is_taken() {
@@ -261,7 +302,7 @@ mod tests {
                 let Some(Time::Seconds(whole, fraction)) = Time::parse(&clock(MediaTime(time), scale)) else {
                     panic!()
                 };
-                let again = units(whole, &fraction, scale).unwrap().0;
+                let again = units(whole, &fraction, scale).unwrap();
                 assert!(again <= time && time - again <= scale.div_ceil(1000), "{time} in {scale}");
             }
         }

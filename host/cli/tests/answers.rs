@@ -1,9 +1,10 @@
 //! Whole outputs of each command, for people and for machines.
 mod common;
 
-use common::{answers, run, run_on, Folder, Ran};
+use common::{answers, run, run_on, words, Folder, Ran};
 use reference::film::{self, w_movie, w_track};
 use reference::made::{sound_track, w_with};
+use std::ffi::{OsStr, OsString};
 
 const SLIP: &str = "01 01 D8 04 18 49 02 CC 08 32 84 07 46\n";
 const SLIP_BYTES: [u8; 13] = [0x01, 0x01, 0xd8, 0x04, 0x18, 0x49, 0x02, 0xcc, 0x08, 0x32, 0x84, 0x07, 0x46];
@@ -24,14 +25,18 @@ fn tracks() {
         "tracks films/w.mov",
         "id  subtype  scale  total  hh:mm:ss.mmm  samples  chunks  edits  stored\n \
           1  vide       600    120  00:00:00.200        4       2      0     120\n\
-         movie scale 600, stored duration 120 (00:00:00.200)\n",
+         movie scale 600, stored duration 120 (00:00:00.200)\n\
+         not proved: the file has 4096 bytes\n\
+         not proved: track 1 is jpeg, 320 x 240 pixels\n",
     );
     answers(
         "tracks films/w.mov --json",
         "{\"format\":1,\"file\":\"films/w.mov\",\"movie\":{\"scale\":600,\"stored\":120,\"stored_seconds\":0.2},\
          \"tracks\":[{\"id\":1,\"subtype\":\"vide\",\"scale\":600,\"total\":120,\
          \"total_seconds\":0.2,\"samples\":4,\"chunks\":2,\
-         \"edits\":0,\"stored\":120,\"stored_seconds\":0.2}],\"warnings\":[]}\n",
+         \"edits\":0,\"stored\":120,\"stored_seconds\":0.2}],\"warnings\":[],\
+         \"unproved\":{\"length\":4096,\"tracks\":[{\"id\":1,\"formats\":[\"jpeg\"],\"width\":320,\"height\":240,\
+         \"handler_name\":null}]}}\n",
     );
 }
 
@@ -46,7 +51,11 @@ fn tracks_with_odd_subtypes() {
                   1  a\"\\b          600    120  00:00:00.200        4       2      0     120\n\
          4000000000  0x00016162    600    120  00:00:00.200        4       2      0     120\n         \
                   7  soun        44100      9  00:00:00.000        9       3      1       9\n\
-         movie scale 600, stored duration 120 (00:00:00.200)\n",
+         movie scale 600, stored duration 120 (00:00:00.200)\n\
+         not proved: the file has 4096 bytes\n\
+         not proved: track 1 is jpeg\n\
+         not proved: track 4000000000 is jpeg\n\
+         not proved: track 7 is twos\n",
     );
     let json = run_on(&film, &["tracks", "-", "--json"]).out;
     assert!(json.contains("\"id\":1,\"subtype\":\"a\\\"\\\\b\","), "{json}");
@@ -56,13 +65,14 @@ fn tracks_with_odd_subtypes() {
 #[test]
 fn no_tracks() {
     let heading = "id  subtype  scale  total  hh:mm:ss.mmm  samples  chunks  edits  stored\n\
-                   movie scale 600, stored duration 120 (00:00:00.200)\n";
+                   movie scale 600, stored duration 120 (00:00:00.200)\n\
+                   not proved: the file has 4096 bytes\n";
     answers_on(&film_of(vec![]), &["tracks", "-"], heading);
     answers_on(
         &film_of(vec![]),
         &["tracks", "-", "--json"],
         "{\"format\":1,\"file\":\"-\",\"movie\":{\"scale\":600,\"stored\":120,\"stored_seconds\":0.2},\
-         \"tracks\":[],\"warnings\":[]}\n",
+         \"tracks\":[],\"warnings\":[],\"unproved\":{\"length\":4096,\"tracks\":[]}}\n",
     );
 }
 
@@ -120,7 +130,8 @@ fn samples() {
 fn bytes() {
     answers("sample films/two-hoses.mov 2 3 --bytes", "hose 2 picture 3");
     answers("sample films/w.mov 1 3 --bytes", "");
-    answers("stretch --bytes films/two-hoses.mov 2 24 96", "hose 2 picture 2hose 2 picture 3hose 2 picture 4");
+    let pictures = run(&["stretch", "--bytes", "films/two-hoses.mov", "2", "24", "96"]);
+    assert_eq!((pictures.out.as_str(), pictures.status), ("hose 2 picture 2hose 2 picture 3hose 2 picture 4", 0));
 }
 
 #[test]
@@ -134,7 +145,7 @@ fn times() {
         "at films/w.mov 0x1 0x77 --json",
         "{\"format\":1,\"file\":\"films/w.mov\",\"track\":1,\"media_time\":119,\
          \"media_time_seconds\":0.19833333333333333,\"sample\":4,\"decode\":72,\"decode_seconds\":0.12,\
-         \"duration\":48,\"duration_seconds\":0.08,\"entry\":2}\n",
+         \"duration\":48,\"duration_seconds\":0.08,\"entry\":2,\"warnings\":[]}\n",
     );
     answers("map films/w.mov 1 60", "movie time  media time  hh:mm:ss.mmm\n        60          60  00:00:00.100\n");
     answers(
@@ -173,8 +184,8 @@ fn stretches() {
          media time 24 to 73 (00:00:00.040 to 00:00:00.121), film time 49 (00:00:00.081)\n",
     );
     answers(
-        "stretch films/w.mov 1 0 1",
-        "offset  length\n  1000     100\n1 range, 100 bytes\nmedia time 0 to 1 (00:00:00.000 to 00:00:00.001), film time 1 (00:00:00.001)\n",
+        "stretch films/w.mov 1 0 24",
+        "offset  length\n  1000     100\n1 range, 100 bytes\nmedia time 0 to 24 (00:00:00.000 to 00:00:00.040), film time 24 (00:00:00.040)\n",
     );
     answers(
         "stretch films/w.mov 1 0 120 --json",
@@ -186,7 +197,9 @@ fn stretches() {
 
 #[test]
 fn slips() {
-    answers("slip films/w.mov 1 24 73", SLIP);
+    let told = "chaldoref: track 1, media time 24 to 73 (00:00:00.040 to 00:00:00.121), film time 49 (00:00:00.081)\n";
+    let says = |out: &str| Ran { out: out.into(), err: told.into(), status: 0 };
+    assert_eq!(run(&["slip", "films/w.mov", "1", "24", "73"]), says(SLIP));
     answers(
         "slip films/w.mov 1 24 73 --json",
         "{\"format\":1,\"file\":\"films/w.mov\",\"track\":1,\"a\":24,\"a_seconds\":0.04,\"b\":73,\
@@ -195,7 +208,7 @@ fn slips() {
     let folder = Folder::new("slips");
     let path = folder.path("w.slip");
     let name = path.to_str().unwrap();
-    answers(&format!("slip films/w.mov 1 24 73 -o {name}"), "");
+    assert_eq!(run(&["slip", "films/w.mov", "1", "24", "73", "-o", name]), says(""));
     assert_eq!(std::fs::read(&path).unwrap(), SLIP_BYTES);
     let raw = common::program(&["slip", "films/w.mov", "1", "24", "73", "-o", "-"]).output().unwrap();
     assert_eq!(raw.stdout, SLIP_BYTES);
@@ -364,15 +377,35 @@ fn profiles() {
     answers_on(
         &film,
         &["profile", "-", "1"],
-        "part  code          value  hex\n   \
-            1  vfps        1638400  0x00190000\n   \
-            2  0x00000005        6  0x00000006\n",
+        "part        code          value  hex\n\
+         0x00000001  vfps        1638400  0x00190000\n\
+         0x00000002  0x00000005        6  0x00000006\n",
     );
     let movies =
         "\"records\":[{\"part\":1,\"code\":\"vfps\",\"value\":7},{\"part\":2,\"code\":\"0x00000005\",\"value\":6}]}\n";
-    answers_on(&film, &["profile", "-", "--json"], &format!("{{\"format\":1,\"file\":\"-\",\"track\":null,{movies}"));
+    let tracks = "[{\"track\":1,\"records\":[{\"part\":1,\"code\":\"vfps\",\"value\":1638400},\
+                  {\"part\":2,\"code\":\"0x00000005\",\"value\":6}]}]}\n";
+    let all = format!(
+        "{{\"format\":1,\"file\":\"-\",\"track\":null,{}",
+        movies.replace("}\n", &format!(",\"tracks\":{tracks}"))
+    );
+    answers_on(&film, &["profile", "-", "--json"], &all);
     answers_on(&film, &["profile", "-", "0", "--json"], &format!("{{\"format\":1,\"file\":\"-\",\"track\":0,{movies}"));
-    answers("profile films/w.mov", "part  code  value  hex\n");
+    answers("profile films/w.mov", "the film has no profile\n");
+    answers("profile films/w.mov 1", "track 1 has no profile\n");
+    answers("profile films/w.mov 0", "the movie has no profile\n");
+    answers_on(
+        &film,
+        &["profile", "-"],
+        "the movie:\n\
+         part        code        value  hex\n\
+         0x00000001  vfps            7  0x00000007\n\
+         0x00000002  0x00000005      6  0x00000006\n\
+         track 1:\n\
+         part        code          value  hex\n\
+         0x00000001  vfps        1638400  0x00190000\n\
+         0x00000002  0x00000005        6  0x00000006\n",
+    );
     answers("profile films/w.mov 1 --json", "{\"format\":1,\"file\":\"films/w.mov\",\"track\":1,\"records\":[]}\n");
 }
 
@@ -388,15 +421,19 @@ fn true_profiles() {
     answers_on(
         &film,
         &["check-profile", "-", "1"],
-        "record       part  code       value  computed\n     \
-              1  538976288  avvb        8800      8800\n     \
-              2  538976288  vfmt  1785750887         -\n     \
-              3  538976288  abcd           7         -\n\
+        "record  part       code       value  verdict\n     \
+              1  universal  avvb        8800  claims at most 8800, computed 8800: true\n     \
+              2  universal  vfmt  1785750887  names jpeg, which a description has: true\n     \
+              3  universal  abcd           7  not judged\n\
          the profile of track 1 is true\n",
     );
+    assert_eq!(run_on(&film, &["check-profile", "-"]), run_on(&film, &["check-profile", "-", "1"]));
+    answers("check-profile films/w.mov 1", "track 1 has no profile, and none is untrue\n");
+    answers("check-profile films/two-hoses.mov", "no track of the film has a profile, so that none is untrue\n");
     answers(
-        "check-profile films/w.mov 1",
-        "record  part  code  value  computed\ntrack 1 has no profile, and none is untrue\n",
+        "check-profile films/w.mov --json",
+        "{\"format\":1,\"file\":\"films/w.mov\",\"true\":true,\"tracks\":[{\"track\":1,\"true\":true,\"fault\":null,\
+         \"records\":[]}]}\n",
     );
     answers(
         "check-profile films/w.mov 1 --json",
@@ -406,25 +443,25 @@ fn true_profiles() {
 
 #[test]
 fn records_at_fault() {
-    let told = |film: &[u8], line: &str| {
+    let told = |film: &[u8], record: usize, words: &str| {
         let ran = run_on(film, &["check-profile", "-", "1"]);
-        assert_eq!((ran.out.lines().last(), ran.err.as_str(), ran.status), (Some(line), "", 1));
+        let last = format!("the profile of track 1 is not true: record {record} is the first at fault");
+        assert_eq!((ran.out.lines().last(), ran.err.as_str(), ran.status), (Some(last.as_str()), "", 1));
+        assert!(ran.out.lines().nth(record).unwrap().ends_with(&format!("  {words}: not true")), "{}", ran.out);
     };
-    told(
-        &claiming(&[(b"vfps", u32::MAX), (b"avvb", 8799)]),
-        "record 2 is at fault: avvb is 8799, and 8800 is computed",
-    );
-    told(&claiming(&[(b"avab", 9)]), "record 1 is at fault: avab is 9, and none can be computed of this track");
-    told(
-        &claiming(&[(b"tvsz", 0xffff_0000)]),
-        "record 1 is at fault: tvsz is 65535 x 0 pixels, and 320 x 240 pixels is computed",
-    );
-    told(
-        &claiming(&[(b"vfmt", u32::from_be_bytes(*b"jpeg")), (b"vfmt", u32::from_be_bytes(*b"avc1"))]),
-        "record 2 is at fault: vfmt names avc1; such records name all formats of the track's descriptions, and no others",
-    );
+    let format = |code: &[u8; 4]| u32::from_be_bytes(*code);
+    told(&claiming(&[(b"vfps", u32::MAX), (b"avvb", 8799)]), 2, "claims at most 8799, computed 8800");
+    told(&claiming(&[(b"avab", 9)]), 1, "claims at most 9, and none can be computed of this track");
+    told(&claiming(&[(b"tvsz", 0xffff_0000)]), 1, "claims at most 65535 x 0 pixels, computed 320 x 240 pixels");
+    let two = claiming(&[(b"vfmt", format(b"jpeg")), (b"vfmt", format(b"avc1"))]);
+    told(&two, 2, "names avc1, which no description has");
+    // A format that no record names is charged to the first of them.
+    let profile = Some(vec![[0, 0x2020_2020, format(b"vfmt"), format(b"jpeg")]]);
+    let descriptions = [b"jpeg", b"avc1"].map(|name| film::description(name, 86)).to_vec();
+    let unnamed = film_of(vec![film::Track { profile, descriptions, ..w_track() }]);
+    told(&unnamed, 1, "avc1, which a description has, is named by no record");
     let json = run_on(&claiming(&[(b"avvb", 8799)]), &["check-profile", "-", "1", "--json"]);
-    let records = "[{\"part\":538976288,\"code\":\"avvb\",\"value\":8799,\"computed\":8800}]";
+    let records = "[{\"part\":538976288,\"code\":\"avvb\",\"value\":8799,\"computed\":8800,\"verdict\":false}]";
     let out = format!("{{\"format\":1,\"file\":\"-\",\"track\":1,\"true\":false,\"fault\":1,\"records\":{records}}}\n");
     assert_eq!((json.out, json.status), (out, 1));
 }
@@ -434,23 +471,73 @@ fn the_quay_film_profile() {
     answers("check-quay films/two-hoses.mov", "the film keeps the quay film profile\n");
     answers(
         "check-quay films/two-hoses.mov --json",
-        "{\"format\":1,\"file\":\"films/two-hoses.mov\",\"keeps\":true,\"rule\":null,\"words\":null,\"track\":null}\n",
+        "{\"format\":1,\"file\":\"films/two-hoses.mov\",\"keeps\":true,\"rule\":null,\"words\":null,\"track\":null,\
+         \"place\":null}\n",
     );
     let told = |film: &[u8], args: &[&str], out: &str| {
         let ran = run_on(film, args);
         assert_eq!((ran.out.as_str(), ran.err.as_str(), ran.status), (out, "", 1));
     };
-    told(&film_of(vec![w_track()]), &["check-quay", "-"], "rule 6 is broken by track 1: no zero sizes\n");
+    let sixth = "rule 6 (no sample of size 0): broken by track 1 at sample 3 (00:00:00.080)\n";
+    let not_proved = "not proved: where a rule is broken, which was found by stepping through the tracks";
+    told(&film_of(vec![w_track()]), &["check-quay", "-"], &format!("{sixth}{not_proved}\n"));
+    told(
+        &film_of(vec![w_track()]),
+        &["check-quay", "-", "--all"],
+        &format!(
+            "{sixth}rule 8 (chunks rise in the file and do not overlap): broken by track 1 at sample 4 (00:00:00.120): \
+             chunk 2 begins at byte 900, and chunk 1 lies from 1000 to 1150\n\
+             {not_proved}; the first line's rule and track are proved\n"
+        ),
+    );
     told(
         &film_of(vec![]),
         &["check-quay", "-"],
-        "rule 1 is broken by the movie: one or two vide tracks and no others\n",
+        &format!(
+            "rule 1 (one or two video tracks and no others): broken by the movie: it has no tracks\n{not_proved}\n"
+        ),
     );
     told(
         &film_of(vec![w_track()]),
         &["check-quay", "-", "--json"],
-        "{\"format\":1,\"file\":\"-\",\"keeps\":false,\"rule\":6,\"words\":\"no zero sizes\",\"track\":1}\n",
+        "{\"format\":1,\"file\":\"-\",\"keeps\":false,\"rule\":6,\"words\":\"no zero sizes\",\"track\":1,\
+         \"place\":{\"sample\":3,\"time\":48,\"time_seconds\":0.08,\"words\":\"\",\"proved\":false}}\n",
     );
+}
+
+/// Each rule is broken by a film, and where is told.
+#[test]
+fn where_each_rule_is_broken() {
+    for (rule, place) in [
+        (2, ": it has 2 edits"),
+        (3, ": it has 2 descriptions"),
+        (4, ": it has a ctts"),
+        (5, " at sample 1 (00:00:00.000): it is no sync sample"),
+        (6, " at sample "),
+        (7, " at sample "),
+        (8, " at sample "),
+        (9, " at sample "),
+    ] {
+        let film = film_of(vec![reference::made::breaking(reference::made::quay_track(1), rule)]);
+        let ran = run_on(&film, &["check-quay", "-"]);
+        assert!(ran.out.starts_with(&format!("rule {rule} (")), "{}", ran.out);
+        assert!(ran.out.contains(&format!("): broken by track 1{place}")), "{}", ran.out);
+        assert_eq!(ran.status, 1);
+    }
+}
+
+#[test]
+fn several_films_are_one_table() {
+    let ran = run(&["check-quay", "films/w.mov", "films/two-hoses.mov", "none.mov"]);
+    let out = "film                 verdict    rule                     track  where\n\
+               films/w.mov          breaks it  6 (no sample of size 0)  1      at sample 3 (00:00:00.080)\n\
+               films/two-hoses.mov  keeps it   -                        -      -\n\
+               none.mov             not read   -                        -      -\n\
+               not proved: where a rule is broken, which was found by stepping through the tracks\n";
+    let err = "chaldoref: none.mov: No such file or directory\n";
+    assert_eq!(ran, Ran { out: out.into(), err: err.into(), status: 2 });
+    let kept = run(&["check-quay", "films/two-hoses.mov", "films/two-hoses.mov"]);
+    assert_eq!((kept.out.lines().count(), kept.status), (3, 0));
 }
 
 /// The lines of the refusals, of which one film has that number.
@@ -461,16 +548,21 @@ fn refused_once(number: u32) -> String {
 
 #[test]
 fn film_returns() {
-    let out = format!("accepted 2\n{}tracks 3\nsamples 16\nbytes 412\nscale 600 408\n", refused_once(2));
-    answers("film-return films/w.mov films/two-hoses.mov README.md", &out);
+    let out = "accepted 2\ntracks 3\nsamples 16\nbytes 412\nscale 600 408 00:00:00.680\n";
+    answers("film-return films/w.mov films/two-hoses.mov", out);
+    let all = run(&words("film-return --all films/w.mov films/two-hoses.mov README.md"));
+    let rest = "tracks 3\nsamples 16\nbytes 412\nscale 600 408 00:00:00.680\n";
+    assert_eq!((all.out, all.status), (format!("accepted 2\n{}{rest}", refused_once(2)), 1));
+    assert!(all.err.starts_with("chaldoref: README.md: refused 2: "), "{}", all.err);
     let ran = run_on(&film_of(vec![w_track()]), &["film-return", "none.mov", "-"]);
-    let totals = format!("accepted 1\n{}tracks 1\nsamples 4\nbytes 220\nscale 600 120\n", refused_once(0));
+    let totals = "accepted 1\ntracks 1\nsamples 4\nbytes 220\nscale 600 120 00:00:00.200\n";
     assert_eq!(ran.out, format!("skipped none.mov\n{totals}"));
-    assert_eq!((ran.err.as_str(), ran.status), ("chaldoref: none.mov: No such file or directory (os error 2)\n", 2));
+    assert_eq!((ran.err.as_str(), ran.status), ("chaldoref: none.mov: No such file or directory\n", 2));
     let json = run_on(&film_of(vec![w_track()]), &["film-return", "none.mov", "-", "--json"]);
-    assert!(json
-        .out
-        .starts_with("{\"format\":1,\"skipped\":[\"none.mov\"],\"accepted\":1,\"refused\":[{\"refusal\":1,"));
+    assert!(json.out.starts_with(
+        "{\"format\":1,\"skipped\":[\"none.mov\"],\"fragmented\":[],\"not_accepted\":[{\"file\":\"none.mov\",\
+         \"counted\":false,\"error\":\"No such file or directory\"}],\"accepted\":1,\"refused\":[{\"refusal\":1,"
+    ));
     assert!(json.out.ends_with(
         "\"tracks\":1,\"samples\":4,\"bytes\":220,\"scales\":[{\"scale\":600,\"total\":120,\"total_seconds\":0.2}]}\n"
     ));
@@ -490,9 +582,82 @@ fn a_thirty_third_scale() {
     let third = format!("skipped {}\naccepted 3\n", names[2]);
     assert!(ran.out.starts_with(&third), "{}", ran.out);
     assert_eq!(ran.out.matches("scale ").count(), 32);
-    assert!(ran.out.contains("\nscale 100 240\n") && ran.out.contains("\nscale 131 120\n"), "{}", ran.out);
+    assert!(ran.out.contains("\nscale 100 240 00:00:02.400\n") && ran.out.contains("\nscale 131 120 "), "{}", ran.out);
     assert_eq!(
         (ran.err, ran.status),
         (format!("chaldoref: {}: refused 20: a thirty-third time scale would be met\n", names[2]), 1)
     );
+}
+
+/// A film that is refused is named, in each form.
+#[test]
+fn a_return_names_the_films_that_are_refused() {
+    let folder = common::Folder::new("refused");
+    folder.file("good.mov", &film_of(vec![w_track()]));
+    folder.file("bad, worse.mov", &film_of(vec![w_with(|track| track.scale = 0)]));
+    let ask = |options: &[&str]| {
+        let names = ["good.mov", "bad, worse.mov"].map(|name| OsStr::new(name).to_owned());
+        let options = options.iter().map(|option| OsStr::new(option).to_owned());
+        let line: Vec<OsString> = [OsString::from("film-return")].into_iter().chain(names).chain(options).collect();
+        Ran::new(common::program(&line).current_dir(folder.path("")).output().unwrap())
+    };
+    let ran = ask(&[]);
+    assert_eq!(ran.out, "accepted 1\nrefused 8 1\ntracks 1\nsamples 4\nbytes 220\nscale 600 120 00:00:00.200\n");
+    assert!(ran.err.starts_with("chaldoref: bad, worse.mov: refused 8: ") && ran.status == 1, "{ran:?}");
+    let lines = "file,verdict,tracks,samples,bytes,vide time\n\
+                 good.mov,accepted,1,4,220,00:00:00.200\n\"bad, worse.mov\",refused 8,0,0,0,\n";
+    let csv = ask(&["--csv"]);
+    assert_eq!((csv.out.as_str(), &csv.err, csv.status), (lines, &ran.err, 1));
+    let json = ask(&["--json"]);
+    let named = "\"skipped\":[],\"fragmented\":[],\"not_accepted\":[{\"file\":\"bad, worse.mov\",\"counted\":true,\"refused\":8,";
+    assert!(json.out.contains(named) && json.err == ran.err && json.status == 1, "{json:?}");
+}
+
+/// Film time is added for each subtype, whatever the scales are.
+#[test]
+fn film_time_by_subtype() {
+    let sound = |id, scale| w_with(|track| (track.id, track.scale, track.subtype) = (id, scale, *b"soun"));
+    let film = film_of(vec![w_track(), sound(2, 1200), sound(3, 60)]);
+    let ran = run_on(&film, &["film-return", "-", "--csv"]);
+    let lines =
+        "file,verdict,tracks,samples,bytes,vide time,soun time\n-,accepted,3,12,660,00:00:00.200,00:00:02.100\n";
+    assert_eq!((ran.out.as_str(), ran.status), (lines, 0));
+}
+
+/// Films in folders and in lists. What is not named as a film is told, and a link to a folder is not followed.
+#[test]
+fn films_in_folders_and_lists() {
+    let folder = common::Folder::new("folders");
+    let film = film_of(vec![w_track()]);
+    std::fs::create_dir_all(folder.path("films/more")).unwrap();
+    for name in ["films/b.mov", "films/a.MP4", "films/more/c.qt", "films/notes.txt", "d.mov", "e\nf.mov"] {
+        folder.file(name, &film);
+    }
+    std::os::unix::fs::symlink("..", folder.path("films/more/up.mov")).unwrap();
+    folder.file("list", b"d.mov\n\nfilms/b.mov\nnone.mov\n");
+    folder.file("list0", b"e\nf.mov\0d.mov\0");
+    let ran = common::run_in(&folder, "film-return films --csv");
+    let names: Vec<&str> = ran.out.lines().skip(1).map(|line| line.split(',').next().unwrap()).collect();
+    assert_eq!((names, ran.status), (vec!["films/a.MP4", "films/b.mov", "films/more/c.qt"], 0));
+    let told = "chaldoref: warning: films: 2 files are not named as films (.mov, .mp4, .m4v, .qt), and not counted\n";
+    assert_eq!(ran.err, told);
+    let ran = common::run_in(&folder, "film-return films/a.MP4 --files-from list");
+    assert!(ran.out.starts_with("skipped none.mov\naccepted 3\n") && ran.status == 2, "{ran:?}");
+    let ran = common::run_in(&folder, "film-return --files-from list0 -0");
+    assert!(ran.out.starts_with("accepted 2\n") && ran.status == 0, "{ran:?}");
+    let ran = common::run_in(&folder, "film-return --files-from none");
+    assert_eq!(ran, Ran { out: String::new(), err: "chaldoref: none: No such file or directory\n".into(), status: 2 });
+    let ran = common::run_in(&folder, "film-return --files-from none --json");
+    assert_eq!(ran.out, "{\"format\":1,\"file\":\"none\",\"error\":\"No such file or directory\"}\n");
+    let listed = run_on(b"films/w.mov\nfilms/two-hoses.mov\n", &["film-return", "--files-from", "-"]);
+    assert!(listed.out.starts_with("accepted 2\ntracks 3\n") && listed.status == 0, "{listed:?}");
+    for line in [
+        "film-return",
+        "film-return - --files-from -",
+        "film-return films/w.mov -0",
+        "film-return films/w.mov --csv --json",
+    ] {
+        let ran = run(&words(line));
+        assert!(ran.status == 2 && ran.err.contains("usage: chaldoref film-return FILE... "), "{line}: {ran:?}");
+    }
 }

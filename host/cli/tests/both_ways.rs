@@ -122,7 +122,8 @@ fn a_long_film() {
     }
     let ask = |line: &str| run_in(&folder, line).out;
     fs::copy("../../films/w.mov", folder.path("w.mov")).unwrap();
-    assert_eq!(ask("tracks long.mov"), ask("tracks w.mov"));
+    let tracks = ask("tracks w.mov").replace("4096 bytes", "1900000000 bytes");
+    assert_eq!(ask("tracks long.mov"), tracks);
     assert_eq!(ask("features long.mov 1"), ask("features w.mov 1"));
     let pairs = "    offset  length\n1800000100      50\n       900      70\n2 ranges, 120 bytes\n";
     assert!(ask("stretch long.mov 1 24 73").starts_with(pairs));

@@ -29,7 +29,7 @@ impl Desk {
     /// Writes the slip of a stretch: name, track, a and b.
     fn slip(&self, name: &str, track: u32, a: u32, b: u32) -> &Desk {
         let ran = run_in(&self.0, &format!("slip film.mov {track} {a} {b} -o {name}"));
-        assert_eq!(ran, Ran { out: String::new(), err: String::new(), status: 0 });
+        assert_eq!((ran.out.as_str(), ran.status), ("", 0), "{}", ran.err);
         self
     }
 
@@ -76,6 +76,7 @@ slip     track  scale   a    b  film time  hh:mm:ss.mmm  verdict
 track  scale  filed  hh:mm:ss.mmm  movie has  hh:mm:ss.mmm  verdict
     1    600    144  00:00:00.240        144  00:00:00.240  adds up
     2    600    144  00:00:00.240        144  00:00:00.240  adds up
+slips say where the film lies and do not vouch for the pictures' bytes; slip --sha256 keeps their hash
 every slip is good, and every track adds up
 ";
 
@@ -94,7 +95,7 @@ fn two_hoses_filed_whole() {
         format!(
             "{{\"file\":\"{name}\",\"track\":{track},\"scale\":600,\"a\":{a},\"a_seconds\":{a_seconds},\"b\":{b},\
              \"b_seconds\":{b_seconds},\"good\":true,\"fault\":null,\
-             \"place\":null,\"reason\":null}}"
+             \"place\":null,\"reason\":null,\"sha256\":false,\"retyped\":null}}"
         )
     };
     let slips = [slip("2b.slip", 2, 72, 144), slip("1b.slip", 1, 24, 144), slip("1a.slip", 1, 0, 24)];
@@ -102,7 +103,7 @@ fn two_hoses_filed_whole() {
         "--json 2b.slip 1b.slip 1a.slip 2a.slip",
         0,
         &format!(
-            "{{\"format\":1,\"file\":\"film.mov\",\"slips\":[{},{}],\"tracks\":[{},{}],\"all_good\":true}}\n",
+            "{{\"format\":1,\"file\":\"film.mov\",\"slips\":[{},{}],\"tracks\":[{},{}],\"all_good\":true,\"warnings\":[]}}\n",
             slips.join(","),
             slip("2a.slip", 2, 0, 72),
             track(1),
@@ -121,6 +122,7 @@ fn one_slip_for_the_whole() {
          w.slip      1    600  0  120        120  00:00:00.200  good\n\n\
          track  scale  filed  hh:mm:ss.mmm  movie has  hh:mm:ss.mmm  verdict\n    \
              1    600    120  00:00:00.200        120  00:00:00.200  adds up\n\
+         slips say where the film lies and do not vouch for the pictures' bytes; slip --sha256 keeps their hash\n\
          every slip is good, and every track adds up\n",
     );
 }
@@ -151,17 +153,18 @@ fn gaps() {
              2    600    113  00:00:00.188        144  00:00:00.240  does not add up\n\
          track 2: gap from media time 0 to 30 (00:00:00.000 to 00:00:00.050), film time 30 (00:00:00.050)\n\
          track 2: gap from media time 71 to 72 (00:00:00.118 to 00:00:00.120), film time 1 (00:00:00.001)\n\
+         slips say where the film lies and do not vouch for the pictures' bytes; slip --sha256 keeps their hash\n\
          every slip is good, and 1 track does not add up\n",
     );
     // A track that no slip files.
     let out = desk.check("1a.slip").out;
     let whole = "track 2: gap from media time 0 to 144 (00:00:00.000 to 00:00:00.240), film time 144 (00:00:00.240)\n";
-    assert!(out.ends_with(&format!("{whole}every slip is good, and 2 tracks do not add up\n")), "{out}");
+    assert!(out.ends_with(&format!("{whole}slips say where the film lies and do not vouch for the pictures' bytes; slip --sha256 keeps their hash\nevery slip is good, and 2 tracks do not add up\n")), "{out}");
     let json = desk.check("2b.slip 2c.slip --json").out;
     let gaps = "\"filed\":113,\"filed_seconds\":0.18833333333333332,\"total\":144,\"total_seconds\":0.24,\
          \"gaps\":[{\"a\":0,\"a_seconds\":0,\"b\":30,\"b_seconds\":0.05},{\"a\":71,\"a_seconds\":0.11833333333333333,\
          \"b\":72,\"b_seconds\":0.12}],\"overlaps\":[],\
-                \"adds_up\":false}],\"all_good\":false}\n";
+                \"adds_up\":false}],\"all_good\":false,\"warnings\":[]}\n";
     assert!(json.ends_with(gaps), "{json}");
 }
 
@@ -172,7 +175,8 @@ fn overlaps() {
     let expected = "    2    600    144  00:00:00.240        144  00:00:00.240  does not add up\n\
         track 2: overlap from media time 48 to 100 (00:00:00.080 to 00:00:00.166), film time 52 (00:00:00.086), \
         filed by 2a.slip, 2b.slip, 2c.slip\n\
-        every slip is good, and 1 track does not add up\n";
+        slips say where the film lies and do not vouch for the pictures' bytes; slip --sha256 keeps their hash\n\
+         every slip is good, and 1 track does not add up\n";
     assert!(ran.out.ends_with(expected), "{}", ran.out);
     assert_eq!(ran.status, 1);
     // The same slip twice: what is filed counts once.
@@ -262,13 +266,14 @@ fn malformed_slips() {
          number\n\n\
          track  scale  filed  hh:mm:ss.mmm  movie has  hh:mm:ss.mmm  verdict\n    \
              1    600    120  00:00:00.200        120  00:00:00.200  adds up\n\
+         slips say where the film lies and do not vouch for the pictures' bytes; slip --sha256 keeps their hash\n\
          2 slips are not good, and every track adds up\n",
     );
     let json = desk.check("x --json").out;
     let fields = "{\"format\":1,\"file\":\"film.mov\",\"slips\":[{\"file\":\"x\",\"track\":null,\"scale\":null,\
          \"a\":null,\"a_seconds\":null,\"b\":null,\"b_seconds\":null,\"good\":false,\
                   \"fault\":\"malformed\",\"place\":5,\"reason\":\"malformed at place 5, b: it is 24, and must be \
-                  above a, which is 24\"}],\"tracks\":[";
+                  above a, which is 24\",\"sha256\":false,\"retyped\":null}],\"tracks\":[";
     assert!(json.starts_with(fields), "{json}");
 }
 
@@ -279,7 +284,7 @@ fn faults_in_documents() {
     let fault = |hex: &str, fault: &str| {
         let ran = desk.typed("x", hex).check("--json x");
         assert!(ran.out.contains(&format!("\"good\":false,\"fault\":\"{fault}\",\"place\":")), "{}", ran.out);
-        assert!(ran.out.ends_with(",\"all_good\":false}\n"), "{}", ran.out);
+        assert!(ran.out.ends_with(",\"all_good\":false,\"warnings\":[]}\n"), "{}", ran.out);
         ran.status
     };
     assert_eq!(fault("01 02 D8 04 18 49 02 CC 08 32 84 07 46", "track"), 1);
@@ -294,11 +299,11 @@ fn faults_in_documents() {
 fn unreadable_files() {
     let desk = Desk::of_tracks("unreadable", vec![w_track()]);
     desk.slip("w", 1, 0, 120).typed("x", "01 01\nD8 O4");
-    desk.says("w x", 2, "not good: cannot be read: line 2, column 4: not a pair of hex digits");
+    desk.says("w x", 2, "not good: cannot be read: line 2, column 4: not a pair of hex digits: there is the letter O, and the digit is 0");
     desk.says("x w", 2, "good");
-    desk.says("w none", 2, "not good: cannot be read: No such file or directory (os error 2)");
+    desk.says("w none", 2, "not good: cannot be read: No such file or directory");
     // Of a film that cannot be read there is nothing to say.
-    let err = "chaldoref: films/none.mov: No such file or directory (os error 2)\n";
+    let err = "chaldoref: films/none.mov: No such file or directory\n";
     let expected = Ran { out: String::new(), err: err.into(), status: 2 };
     assert_eq!(run(&["check", "films/none.mov", "films/none.slip"]), expected);
 }
@@ -312,7 +317,7 @@ fn a_film_that_is_refused() {
     desk.typed("w", OF_W);
     assert_eq!(desk.check("w"), Ran { out: String::new(), err: err.clone(), status: 1 });
     let out = format!(
-        "{{\"format\":1,\"file\":\"film.mov\",\"refused\":9,\"reason\":\"{reason}\",\"explanation\":\"{why}\"}}\n"
+        "{{\"format\":1,\"file\":\"film.mov\",\"refused\":9,\"reason\":\"{reason}\",\"explanation\":\"{why}\",\"hint\":null}}\n"
     );
     assert_eq!(desk.check("--json w"), Ran { out, err, status: 1 });
 }
@@ -331,7 +336,8 @@ fn nothing_to_file() {
     let ran = desk.slip("w", 1, 0, 120).check("w");
     let expected = "    7    600      0  00:00:00.000          0  00:00:00.000  nothing to file\n    \
                         1    600    120  00:00:00.200        120  00:00:00.200  adds up\n\
-                    every slip is good, and every track adds up\n";
+                    slips say where the film lies and do not vouch for the pictures' bytes; slip --sha256 keeps their hash\n\
+         every slip is good, and every track adds up\n";
     assert!(ran.out.ends_with(expected), "{}", ran.out);
     assert_eq!(ran.status, 0);
     desk.typed("x", &OF_W.replacen("01 01", "01 07", 1)).says("w x", 1, "not good: b is 73, and the track ends at 0");
@@ -372,6 +378,64 @@ fn output_that_cannot_be_written() {
     let slip = desk.0.path("1a.slip");
     let full = Stdio::from(File::options().write(true).open("/dev/full").unwrap());
     let output = program(&["check", HOSES, slip.to_str().unwrap()]).stdout(full).output().unwrap();
-    let err = "chaldoref: standard output: No space left on device (os error 28)\n";
+    let err = "chaldoref: standard output: No space left on device\n";
     assert_eq!((output.status.code(), String::from_utf8(output.stderr).unwrap()), (Some(2), err.to_string()));
+}
+
+/// A film without any slip: all of it is unfiled.
+#[test]
+fn no_slips() {
+    let desk = Desk::of_hoses("no-slips");
+    let note = "slips say where the film lies and do not vouch for the pictures' bytes; slip --sha256 keeps their hash";
+    desk.finds(
+        "",
+        1,
+        &format!(
+            "track  scale  filed  hh:mm:ss.mmm  movie has  hh:mm:ss.mmm  verdict\n    \
+                 1    600      0  00:00:00.000        144  00:00:00.240  does not add up\n    \
+                 2    600      0  00:00:00.000        144  00:00:00.240  does not add up\n\
+             track 1: gap from media time 0 to 144 (00:00:00.000 to 00:00:00.240), film time 144 (00:00:00.240)\n\
+             track 2: gap from media time 0 to 144 (00:00:00.000 to 00:00:00.240), film time 144 (00:00:00.240)\n\
+             {note}\n\
+             no slip is given, and 2 tracks do not add up\n"
+        ),
+    );
+    assert!(desk.check("--json").out.contains("\"slips\":[],\"tracks\":[{"));
+}
+
+/// A slip that was typed wrongly at one place: which byte is told, and that this is not proved.
+#[test]
+fn retyped_slips() {
+    let desk = Desk::of_tracks("retyped", vec![w_track()]);
+    let said = |hex: &str| {
+        let out = desk.typed("x", hex).check("x").out;
+        let line = out.lines().find_map(|line| line.strip_prefix("x: not proved: "));
+        line.unwrap_or_default().to_string()
+    };
+    assert_eq!(said(&OF_W.replace("18 49", "18 94")), "byte 5: 94 read as 49 makes it this film's slip");
+    assert_eq!(said(&OF_W.replace("84 07 46", "84 07 64")), "byte 12: 64 read as 46 makes it this film's slip");
+    assert_eq!(said(&OF_W.replace("CC 08", "08 CC")), "bytes 7 and 8: 08 CC read as CC 08 makes it this film's slip");
+    assert_eq!(said(&OF_W.replace("01 01 D8", "01 07 D8")), "byte 1: 07 read as 01 makes it this film's slip");
+    // Nothing is said of a good slip, nor where no change of one byte mends it, nor where several would.
+    for hex in [OF_W, &OF_W.replace("49 02", "48 01"), &OF_W.replace("84 07 46", ""), &OF_W.replace("18 49", "18 10")] {
+        assert_eq!(said(hex), "", "{hex}");
+    }
+    let json = desk.typed("x", &OF_W.replace("18 49", "18 94")).check("x --json").out;
+    let words = "\"retyped\":{\"words\":\"byte 5: 94 read as 49 makes it this film's slip\",\"proved\":false}";
+    assert!(json.contains(words), "{json}");
+}
+
+/// Arguments in each other's place are told apart.
+#[test]
+fn a_film_in_the_place_of_a_slip() {
+    let desk = Desk::of_tracks("swapped", vec![w_track()]);
+    desk.slip("w.slip", 1, 0, 120).typed("hex.slip", OF_W);
+    desk.says("film.mov", 1, "not good: this is a film, not a slip");
+    for slip in ["w.slip", "hex.slip"] {
+        let ran = run_in(&desk.0, &format!("check {slip} film.mov"));
+        let hint = "chaldoref: hint: this is a slip, not a film; the film stands first\n";
+        assert!(ran.err.ends_with(hint) && ran.status == 1, "{}", ran.err);
+    }
+    let ran = run_in(&desk.0, "read-slip film.mov");
+    assert!(ran.err.ends_with("chaldoref: hint: this is a film, not a slip\n"), "{}", ran.err);
 }

@@ -20,14 +20,15 @@ fn questions_refused() {
     refuses("features films/w.mov 2", "chaldoref: films/w.mov: refused 14: no track has that ID\n");
     refuses("profile films/w.mov 2", "chaldoref: films/w.mov: refused 14: no track has that ID\n");
     refuses("check-profile films/w.mov 0", "chaldoref: films/w.mov: refused 14: no track has that ID\n");
-    let features = |code, hint| {
+    let features = |code, hint: &str| {
         let said = format!("chaldoref: films/w.mov: refused 18: the feature cannot be computed\n{hint}");
         refuses(&format!("features films/w.mov 1 {code}"), &said);
     };
     features("avab", "chaldoref: hint: avab is only for sound tracks\n");
     features("mabr", "chaldoref: hint: mabr is only for sound tracks\n");
-    features("vfmt", "");
-    features("0x00000000", "");
+    let codes = "there are avvb, avab, tvsz, vfps, mvbr, mabr";
+    features("vfmt", &format!("chaldoref: hint: there is no feature vfmt; {codes}\n"));
+    features("0x00000000", &format!("chaldoref: hint: there is no feature 0x00000000; {codes}\n"));
     refuses(
         "read-slip films/w.mov",
         "chaldoref: films/w.mov: refused 17: a slip is malformed\n   \
@@ -35,7 +36,8 @@ fn questions_refused() {
                ^^\n  \
            16  00 00 00 00 00 00 00 00 00 00 00 00 00 00 02 58\n  \
            32  00 00 00 78 00 00 00 00 00 00 00 00 00 00 00 00\n\
-         place 0, form: it is 0, and must be 1 or 2\n",
+         place 0, form: it is 0, and must be 1 or 2\n\
+         chaldoref: hint: this is a film, not a slip\n",
     );
 }
 
@@ -43,7 +45,7 @@ fn questions_refused() {
 fn a_refusal_is_a_document_too() {
     let expected = Ran {
         out: "{\"format\":1,\"file\":\"films/w.mov\",\"refused\":14,\"reason\":\"no track has that ID\",\
-             \"explanation\":null}\n"
+             \"explanation\":null,\"hint\":null}\n"
             .into(),
         err: "chaldoref: films/w.mov: refused 14: no track has that ID\n".into(),
         status: 1,
@@ -61,10 +63,15 @@ fn films_refused() {
         assert_eq!((ran.out.as_str(), ran.status, ran.err.lines().next()), ("", 1, Some(first.as_str())), "{name}");
         let (_, words) = reference::movie::explain(&film.bytes()).unwrap();
         assert_eq!(ran.err.lines().nth(1), Some(format!("chaldoref: not proved: {words}").as_str()));
-        let hinted = number == 4 || number == 13;
-        assert_eq!(ran.err.lines().count(), if hinted { 3 } else { 2 }, "{}", ran.err);
+        let hints = ran.err.lines().filter(|line| line.starts_with("chaldoref: hint: ")).count();
+        assert!(hints == 1 || ![4, 12, 13, 19].contains(&number), "{}", ran.err);
+        assert_eq!(ran.err.lines().count(), 2 + hints, "{}", ran.err);
     }
 }
+
+/// The hint of a document about a stored duration.
+const HINT: &str =
+    "\"hint\":{\"words\":\"track 1 stores the duration 121, and its samples total 120\",\"proved\":false}";
 
 #[test]
 fn only_a_slip_is_refused_for_a_stored_duration() {
@@ -87,8 +94,9 @@ fn only_a_slip_is_refused_for_a_stored_duration() {
         let expected = Ran { out: String::new(), err: format!("{said}{hint}"), status: 1 };
         assert_eq!(run_on(&other, &words(line)), expected, "{line}");
     }
-    let document =
-        format!("{{\"format\":1,\"file\":\"-\",\"refused\":11,\"reason\":\"{reason}\",\"explanation\":\"{why}\"}}\n");
+    let document = format!(
+        "{{\"format\":1,\"file\":\"-\",\"refused\":11,\"reason\":\"{reason}\",\"explanation\":\"{why}\",{HINT}}}\n"
+    );
     assert_eq!(run_on(&other, &words("slip - 1 24 73 --json")).out, document);
     // Of two faults the slip writer tells the one that it judges first, and the other questions the one that they judge.
     let both = film(|track| (track.duration, track.stco[1]) = (121, 4027));
@@ -102,11 +110,13 @@ fn a_refused_film_is_explained() {
     let second = Track { id: 2, stts: vec![(5, 24)], ..w_track() };
     let film = Movie { tracks: vec![w_track(), second], ..w_movie() }.file_of(4096).bytes();
     let words = "track 2 (ID 2), stts at byte 800: counts 5 samples, stsz 4";
+    let hint = "with --leave-out track=2 the rest of the film is read. Keep the film as it is.";
     let expected = Ran {
         out: format!("{{\"format\":1,\"file\":\"-\",\"refused\":9,\"reason\":\"sample tables contradict each other\",\
-             \"explanation\":\"{words}\"}}\n"),
+             \"explanation\":\"{words}\",\"hint\":{{\"words\":\"{hint}\",\"proved\":false}}}}\n"),
         err: format!(
-            "chaldoref: standard input: refused 9: sample tables contradict each other\nchaldoref: not proved: {words}\n"
+            "chaldoref: standard input: refused 9: sample tables contradict each other\nchaldoref: not proved: {words}\n\
+             chaldoref: hint: {hint}\n"
         ),
         status: 1,
     };
@@ -131,7 +141,9 @@ fn a_film_kept_in_another_file_is_told_by_track_and_reference() {
             1,
             "chaldoref: standard input: refused 19: a description names data elsewhere, or no such data reference\n\
              chaldoref: not proved: track 2 (ID 2), stsd at byte 772: description 1 names data reference 2, of type 'alis', \
-             which is another file\n"
+             which is another file\n\
+             chaldoref: hint: some of this film's data are in another file. The film is not damaged. Keep it as it is; \
+             read it with --leave-out track=2, or ask the camera's maker for films that hold all their data.\n"
         )
     );
 }
@@ -146,31 +158,6 @@ fn a_film_cut_short() {
     assert_eq!(err.lines().nth(1), Some(format!("chaldoref: not proved: {words}").as_str()));
 }
 
-#[test]
-fn hints() {
-    let film_of = |track| Movie { tracks: vec![track], ..w_movie() }.file_of(4096);
-    let said = |wanted| {
-        let films = spoiled(&w_track(), film_of);
-        let (_, _, film) = films.into_iter().find(|(number, _, _)| *number == wanted).unwrap();
-        run_on(&film.bytes(), &["tracks", "-"]).err
-    };
-    assert_eq!(
-        said(13),
-        "chaldoref: standard input: refused 13: an edit list is wrong\n\
-         chaldoref: not proved: track 1 (ID 1), elst at byte 224: entry 2 has media time 61 and duration 60 and reaches \
-         media time 120, the samples end at 120\n\
-         chaldoref: hint: for films with B-frames ffmpeg writes an edit list that ends past their samples; \
-         with -use_editlist 0 it writes none\n"
-    );
-    assert_eq!(
-        said(4),
-        "chaldoref: standard input: refused 4: a read leaf has a body whose first byte is not 0\n\
-         chaldoref: not proved: track 1 (ID 1), stsd at byte 340: has version 1, and must have 0\n\
-         chaldoref: hint: atoms are read in version 0 alone; ffmpeg writes a ctts of version 1 with \
-         -movflags negative_cts_offsets\n"
-    );
-}
-
 /// Bad usage writes nothing to standard output, and says what is wrong and what the command takes.
 #[track_caller]
 fn bad_usage(line: &str, wrong: &str, usage: &str) {
@@ -182,8 +169,8 @@ fn bad_usage(line: &str, wrong: &str, usage: &str) {
 fn usage() {
     let all = "COMMAND FILE ...\n       chaldoref --help\n\
                commands: tracks, sample, samples, at, map, edits, stretch, slip, read-slip,\n\
-               check, features, profile, check-profile, check-quay, film-return, completion,\n\
-               help";
+               check, features, profile, check-profile, check-quay, film-return, compact,\n\
+               rates, report, completion, help, version";
     bad_usage("", "no command is named", all);
     for line in ["track films/w.mov", "help track"] {
         bad_usage(line, "there is no command 'track'; did you mean tracks?", all);
@@ -195,26 +182,37 @@ fn usage() {
     for line in ["help tracks x", "help help x", "--help -h x", "--version x", "completion bash x"] {
         bad_usage(line, "'x' is one argument too many", all);
     }
-    bad_usage("completion", "the shell is missing", "completion bash");
-    bad_usage("completion zsh", "there is no completion for 'zsh'", "completion bash");
-    bad_usage("tracks", "FILE is missing", "tracks FILE... [--json]");
-    bad_usage("profile a 1 b", "'b' is one argument too many", "profile FILE [TRACK] [--json]");
-    bad_usage("check-profile a", "TRACK is missing", "check-profile FILE... TRACK [--json]");
-    bad_usage("tracks a --bytes", "tracks has no option '--bytes'", "tracks FILE... [--json]");
-    bad_usage("sample a 1", "N is missing", "sample FILE TRACK N [--bytes] [--json]");
-    let samples = "samples FILE TRACK [FROM [TO]] [--json] [--csv]";
+    bad_usage("completion", "the shell is missing", "completion bash|zsh|fish");
+    bad_usage("completion csh", "there is no completion for 'csh'", "completion bash|zsh|fish");
+    let tracks = "tracks FILE... [--json] [--leave-out PART]";
+    bad_usage("tracks", "FILE is missing", tracks);
+    bad_usage("profile a 1 b", "'b' is one argument too many", "profile FILE [TRACK] [--json] [--leave-out PART]");
+    bad_usage("tracks a --bytes", "tracks has no option '--bytes'", tracks);
+    bad_usage("tracks a --jsno", "tracks has no option '--jsno'; did you mean --json?", tracks);
+    bad_usage("tracks a --leaveout edits", "tracks has no option '--leaveout'; did you mean --leave-out?", tracks);
+    for part in ["edit", "track=", "track=x", "2"] {
+        let wrong = format!("--leave-out takes edits, or track=ID as in track=2, and not '{part}'");
+        bad_usage(&format!("tracks a --leave-out {part}"), &wrong, tracks);
+    }
+    bad_usage("tracks a --leave-out", "--leave-out needs PART", tracks);
+    bad_usage("sample a 1", "N is missing", "sample FILE TRACK N [--bytes] [--json] [--leave-out PART]");
+    let samples = "samples FILE TRACK [FROM [TO]] [--json] [--csv]\n    [--leave-out PART]";
     bad_usage("samples a", "TRACK is missing", samples);
     bad_usage("samples a 1 2 3 4", "'4' is one argument too many", samples);
     bad_usage("samples a 1 2 -3", "TO is a number from 0 to 4294967295, and not '-3'", samples);
-    bad_usage("slip a 1 0 1 -o", "-o needs OUT", "slip FILE TRACK [A B] [-o OUT] [--json]");
-    bad_usage("check", "FILE is missing", "check FILE SLIP... [--json]");
-    bad_usage("check a", "SLIP is missing", "check FILE SLIP... [--json]");
-    bad_usage("check a b --hex", "check has no option '--hex'", "check FILE SLIP... [--json]");
+    let slip = "slip FILE TRACK [A B] [-o OUT] [--sha256] [--json]\n    [--leave-out PART]";
+    bad_usage("slip a 1 0 1 -o", "-o needs OUT", slip);
+    for line in ["slip a 1 --sha256", "slip a 1 --sha256 -o -"] {
+        bad_usage(line, "--sha256 goes with -o OUT, beside which it is kept, or with --json", slip);
+    }
+    let check = "check FILE [SLIP...] [--json] [--leave-out PART]";
+    bad_usage("check", "FILE is missing", check);
+    bad_usage("check a b --hex", "check has no option '--hex'", check);
     for line in ["check - -", "check a - -", "check - a -"] {
-        bad_usage(line, "standard input can be one file only", "check FILE SLIP... [--json]");
+        bad_usage(line, "standard input can be one file only", check);
     }
     let codes = "CODE is four characters, or a number after 0x, and not 'avv'";
-    bad_usage("features a 1 avv", codes, "features FILE... TRACK [CODE] [--json]");
+    bad_usage("features a 1 avv", codes, "features FILE... [TRACK [CODE]] [--json] [--leave-out PART]");
 }
 
 /// With --json bad usage and an unreadable file are documents too; standard error has the same as without.
@@ -228,15 +226,14 @@ fn what_fails_is_a_document_too() {
     fails("--json", "\"error\":\"there is no command '--json'\"");
     fails("tracks --json", "\"error\":\"FILE is missing\"");
     fails("at --json films/w.mov", "\"error\":\"TRACK is missing\"");
-    fails("features films/w.mov --json", "\"error\":\"TRACK is missing\"");
     let both = "\"error\":\"--json goes with neither --bytes nor -o\"";
     fails("sample a 1 1 --json --bytes", both);
     fails("slip a 1 0 1 --json -o b", both);
     fails("samples a 1 --csv --json", "\"error\":\"--json does not go with --csv\"");
-    let none = "\"error\":\"No such file or directory (os error 2)\"";
+    let none = "\"error\":\"No such file or directory\"";
     fails("tracks none.mov --json", &format!("\"file\":\"none.mov\",{none}"));
     fails("check none.mov none.slip --json", &format!("\"file\":\"none.mov\",{none}"));
-    fails("features films 1 --json", "\"file\":\"films\",\"error\":\"Is a directory (os error 21)\"");
+    fails("features films 1 --json", "\"file\":\"films\",\"error\":\"Is a directory\"");
     fails(
         "read-slip --hex films/w.mov --json",
         &format!("\"file\":\"{W}\",\"error\":\"line 1, column 1: not a pair of hex digits\""),
@@ -246,7 +243,10 @@ fn what_fails_is_a_document_too() {
 }
 
 /// What a media time is.
-const TIME: &str = "a number of units from 0 to 4294967295, or as 12.5s, 00:01:02.250 or end";
+const TIME: &str = "a number of units from 0 to 4294967295, or as 12.5s, 1:02, 00:01:02.250, start or end";
+
+/// What a movie time is.
+const MOVIE_TIME: &str = "a number of units from 0 to 4294967295, or as 12.5s, 1:02, 00:01:02.250 or start";
 
 #[test]
 fn numbers() {
@@ -254,7 +254,7 @@ fn numbers() {
     let lines = [
         ("at a X 0", "TRACK", number),
         ("at a 0 X", "MEDIA-TIME", TIME),
-        ("map a 0 X", "MOVIE-TIME", number),
+        ("map a 0 X", "MOVIE-TIME", MOVIE_TIME),
         ("stretch a 0 X 0", "A", TIME),
         ("slip a 0 0 X", "B", TIME),
     ];
@@ -272,14 +272,15 @@ fn numbers() {
 #[test]
 fn numbers_with_a_sign() {
     let time = format!("MEDIA-TIME is {TIME}, and not '-1'");
-    bad_usage("at films/w.mov 1 -1", &time, "at FILE TRACK MEDIA-TIME [--json]");
-    bad_usage("at -- films/w.mov 1 -1", &time, "at FILE TRACK MEDIA-TIME [--json]");
+    let at = "at FILE TRACK MEDIA-TIME [--json] [--leave-out PART]";
+    bad_usage("at films/w.mov 1 -1", &time, at);
+    bad_usage("at -- films/w.mov 1 -1", &time, at);
     let track = "TRACK is a number from 0 to 4294967295, and not '-0x1'";
-    bad_usage("profile films/w.mov -0x1", track, "profile FILE [TRACK] [--json]");
+    bad_usage("profile films/w.mov -0x1", track, "profile FILE [TRACK] [--json] [--leave-out PART]");
     let surplus = "'-1' is one argument too many";
-    bad_usage("at films/w.mov 1 0 -1", surplus, "at FILE TRACK MEDIA-TIME [--json]");
+    bad_usage("at films/w.mov 1 0 -1", surplus, at);
     // Where a file is named, it looks like an option.
-    bad_usage("tracks -1", "tracks has no option '-1'", "tracks FILE... [--json]");
+    bad_usage("tracks -1", "tracks has no option '-1'", "tracks FILE... [--json] [--leave-out PART]");
     bad_usage("read-slip a -1", "read-slip has no option '-1'", "read-slip FILE... [--hex] [--json]");
 }
 
@@ -287,16 +288,18 @@ fn numbers_with_a_sign() {
 fn unreadable_files() {
     let failed =
         |name: &str, reason: &str| Ran { out: String::new(), err: format!("chaldoref: {name}: {reason}\n"), status: 2 };
-    assert_eq!(run(&["tracks", "films/none.mov"]), failed("films/none.mov", "No such file or directory (os error 2)"));
-    assert_eq!(run(&["tracks", ""]), failed("an empty name", "No such file or directory (os error 2)"));
-    let nameless = run(&["slip", W, "1", "0", "1", "-o", ""]);
-    assert_eq!(nameless, failed("an empty name", "No such file or directory (os error 2)"));
-    assert_eq!(run(&["tracks", "films"]), failed("films", "Is a directory (os error 21)"));
+    assert_eq!(run(&["tracks", "films/none.mov"]), failed("films/none.mov", "No such file or directory"));
+    assert_eq!(run(&["tracks", ""]), failed("an empty name", "No such file or directory"));
+    // What a slip is of is told before it is written.
+    let last = |ran: Ran| Ran { err: format!("{}\n", ran.err.lines().last().unwrap()), ..ran };
+    let nameless = last(run(&["slip", W, "1", "0", "24", "-o", ""]));
+    assert_eq!(nameless, failed("an empty name", "No such file or directory"));
+    assert_eq!(run(&["tracks", "films"]), failed("films", "Is a directory"));
     assert_eq!(run(&["read-slip", "--hex", HOSES]), failed(HOSES, "line 1, column 1: not a pair of hex digits"));
     let typed = run_on(b"01 01 D8\n04 1B 4", &["read-slip", "-"]);
     assert_eq!(typed, failed("standard input", "line 2, column 7: not a pair of hex digits"));
-    let slip = run(&["slip", W, "1", "0", "1", "-o", "films/none/w.slip"]);
-    assert_eq!(slip, failed("films/none/w.slip", "No such file or directory (os error 2)"));
+    let slip = last(run(&["slip", W, "1", "0", "24", "-o", "films/none/w.slip"]));
+    assert_eq!(slip, failed("films/none/w.slip", "No such file or directory"));
 }
 
 #[test]
@@ -307,7 +310,8 @@ fn the_film_is_not_overwritten() {
     std::os::unix::fs::symlink(&film, &link).unwrap();
     let (film_name, link_name) = (film.to_str().unwrap(), link.to_str().unwrap());
     let ran = run(&["slip", film_name, "1", "0", "1", "-o", link_name]);
-    assert_eq!((ran.err, ran.status), (format!("chaldoref: {link_name}: this is the film itself\n"), 2));
+    let last = format!("chaldoref: {link_name}: this is the film itself");
+    assert_eq!((ran.err.lines().last(), ran.status), (Some(last.as_str()), 2));
     // A refused question leaves what was there.
     assert_eq!(run(&["slip", W, "1", "0", "121", "-o", film_name]).status, 1);
     assert_eq!(std::fs::read(&film).unwrap(), w().bytes());
@@ -320,7 +324,7 @@ fn a_long_file_of_zeros() {
     let path = folder.path("long.mov");
     File::create(&path).unwrap().set_len(5_000_000_000).unwrap();
     let ran = run(&["tracks".as_ref(), path.as_os_str()]);
-    assert!(ran.err.ends_with(": refused 3: an atom is absent or occurs too often\n"), "{}", ran.err);
+    assert!(ran.err.contains(": refused 3: an atom is absent or occurs too often\n"), "{}", ran.err);
     assert_eq!((ran.out.as_str(), ran.status), ("", 1));
 }
 
@@ -348,7 +352,7 @@ fn output_that_cannot_be_written() {
     for line in ["tracks films/w.mov", "sample films/two-hoses.mov 1 1 --bytes", "--help"] {
         let output = program(&words(line)).stdout(full()).output().unwrap();
         let err = String::from_utf8(output.stderr).unwrap();
-        assert_eq!(err, "chaldoref: standard output: No space left on device (os error 28)\n");
+        assert_eq!(err, "chaldoref: standard output: No space left on device\n");
         assert_eq!(output.status.code(), Some(2));
     }
 }

@@ -10,6 +10,11 @@ use std::path::Path;
 /// The whole of film W as a slip.
 const SLIP: [u8; 14] = [0x01, 0x01, 0xd8, 0x04, 0x00, 0x78, 0x02, 0xe8, 0x07, 0x96, 0x01, 0x84, 0x07, 0x46];
 
+/// The last line of standard error; those before it say what a slip is of.
+fn last(err: &str) -> String {
+    err.lines().last().unwrap_or_default().into()
+}
+
 /// The names in the folder that a file is in.
 fn names_beside(path: &Path) -> Vec<String> {
     let mut names: Vec<String> = fs::read_dir(path.parent().unwrap())
@@ -31,7 +36,7 @@ fn a_film_from_standard_input_is_not_overwritten() {
         let name = name.to_str().unwrap();
         let mut slip = program(&["slip", "-", "1", "0", "120", "-o", name]);
         let ran = Ran::new(slip.stdin(File::open(&film).unwrap()).output().unwrap());
-        assert_eq!((ran.err, ran.status), (format!("chaldoref: {name}: this is the film itself\n"), 2));
+        assert_eq!((last(&ran.err), ran.status), (format!("chaldoref: {name}: this is the film itself"), 2));
         assert_eq!(fs::read(&film).unwrap(), w().bytes());
     }
     assert_eq!(names_beside(&film), ["link.mov", "other.mov", "x.mov"]);
@@ -46,7 +51,7 @@ fn a_slip_is_replaced_as_a_whole() {
     symlink("new.slip", folder.path("dangling")).unwrap();
     for name in ["w.slip", "link", "dangling"] {
         let ran = run(&["slip", W, "1", "0", "120", "-o", folder.path(name).to_str().unwrap()]);
-        assert_eq!(ran, Ran { out: String::new(), err: String::new(), status: 0 });
+        assert_eq!((ran.out.as_str(), ran.status), ("", 0), "{}", ran.err);
         assert_eq!(fs::read(folder.path(name)).unwrap(), SLIP);
     }
     assert_eq!(fs::metadata(&slip).unwrap().permissions().mode() & 0o777, 0o640);
@@ -58,13 +63,13 @@ fn a_slip_is_replaced_as_a_whole() {
 #[test]
 fn what_is_no_file_is_written_where_it_is() {
     let full = run(&["slip", W, "1", "0", "120", "-o", "/dev/full"]);
-    assert_eq!((full.err.as_str(), full.status), ("chaldoref: /dev/full: No space left on device (os error 28)\n", 2));
+    assert_eq!((last(&full.err), full.status), ("chaldoref: /dev/full: No space left on device".into(), 2));
     let out = program(&["slip", W, "1", "0", "120", "-o", "/dev/stdout"]).output().unwrap();
     assert_eq!((out.stdout, out.status.code()), (SLIP.to_vec(), Some(0)));
     let folder = Folder::new("no-file");
     let name = folder.path("").to_str().unwrap().to_string();
     let ran = run(&["slip", W, "1", "0", "120", "-o", &name]);
-    assert_eq!((ran.err, ran.status), (format!("chaldoref: {name}: Is a directory (os error 21)\n"), 2));
+    assert_eq!((last(&ran.err), ran.status), (format!("chaldoref: {name}: Is a directory"), 2));
 }
 
 /// A limit on the size of files stands for a disk that is full.
@@ -76,7 +81,7 @@ fn a_full_disk_leaves_the_earlier_slip() {
         let name = name.to_str().unwrap();
         let line = ["slip", W, "1", "0", "120", "-o", name];
         let ran = Ran::new(program_after("trap '' XFSZ; ulimit -f 0", &line, "").output().unwrap());
-        assert_eq!((ran.err, ran.status), (format!("chaldoref: {name}: File too large (os error 27)\n"), 2));
+        assert_eq!((last(&ran.err), ran.status), (format!("chaldoref: {name}: File too large"), 2));
     }
     assert_eq!(fs::read(&earlier).unwrap(), b"an earlier slip");
     assert_eq!(names_beside(&earlier), ["w.slip"]);
@@ -110,8 +115,10 @@ fn tells_of_memory(command: &str, file: &Path, rest: &str, status: i32) -> usize
         .map(|n| with(least + n * 256, &line))
         .take_while(|output| output.status.code() != Some(status))
         .map(|output| {
-            let ran = (String::from_utf8(output.stderr).unwrap(), output.status.code());
-            assert_eq!(ran, (format!("chaldoref: {file}: out of memory\n"), Some(2)), "{line:?}");
+            // What a stretch is may have been told before.
+            let told = String::from_utf8(output.stderr).unwrap();
+            let last = (told.lines().last().unwrap_or_default(), output.status.code());
+            assert_eq!(last, (&*format!("chaldoref: {file}: out of memory"), Some(2)), "{line:?}");
         })
         .count();
     assert!((1..400).contains(&told), "{line:?}: {told}");
@@ -144,13 +151,14 @@ fn lack_of_memory() {
 
 #[test]
 fn standard_output_that_is_closed() {
-    let closed = Ran { out: String::new(), err: "chaldoref: standard output: it is closed\n".into(), status: 2 };
+    let closed = ("", "chaldoref: standard output: it is closed".to_string(), 2);
     for line in ["tracks films/w.mov", "stretch films/w.mov 1 0 120 --bytes", "slip films/w.mov 1 0 1 -o -", "--help"] {
-        assert_eq!(Ran::new(program_after("", &words(line), ">&-").output().unwrap()), closed, "{line}");
+        let ran = Ran::new(program_after("", &words(line), ">&-").output().unwrap());
+        assert_eq!((ran.out.as_str(), last(&ran.err), ran.status), closed, "{line}");
     }
     // One that can only be read is as good as closed.
     let read_only = Ran::new(program_after("", &words("tracks films/w.mov"), "1<films/w.mov").output().unwrap());
-    assert_eq!(read_only.err, "chaldoref: standard output: Bad file descriptor (os error 9)\n");
+    assert_eq!(read_only.err, "chaldoref: standard output: Bad file descriptor\n");
     assert_eq!(read_only.status, 2);
     // Without anyone to tell the status tells.
     let alone = program_after("", &words("tracks films/w.mov"), ">&- 2>&-").output().unwrap();

@@ -82,12 +82,12 @@ fn a_malformed_slip_is_a_document_too() {
     assert_eq!(
         document(&SLIP[..12]),
         "{\"format\":1,\"file\":\"-\",\"refused\":17,\"reason\":\"a slip is malformed\",\"place\":12,\
-         \"number\":\"length of pair 2\",\"rule\":\"the slip ends before it\"}\n"
+         \"number\":\"length of pair 2\",\"rule\":\"the slip ends before it\",\"hint\":null}\n"
     );
     assert_eq!(
         document(&[&SLIP[..], &[0x00, 0x00]].concat()),
         "{\"format\":1,\"file\":\"-\",\"refused\":17,\"reason\":\"a slip is malformed\",\"place\":13,\
-         \"number\":null,\"rule\":\"2 bytes follow the last number\"}\n"
+         \"number\":null,\"rule\":\"2 bytes follow the last number\",\"hint\":null}\n"
     );
 }
 

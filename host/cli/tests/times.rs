@@ -61,10 +61,38 @@ fn the_units_are_told() {
     let bytes = run(&words(&format!("stretch {HOSES} 2 0.04s 0.08s --bytes")));
     let part = "chaldoref: track 2, media time 24 to 48 (00:00:00.040 to 00:00:00.080), film time 24 (00:00:00.040)\n";
     assert_eq!(bytes, Ran { out: "hose 2 picture 2".into(), err: part.into(), status: 0 });
-    // Plain units are known to whoever gave them, and documents have them.
-    for line in ["slip films/w.mov 1 0 120", "slip films/w.mov 1 --json", "stretch films/w.mov 1"] {
+    // Whoever gave units may have meant seconds, so that they are told too.
+    assert_eq!(run(&words("slip films/w.mov 1 0 120")).err, whole);
+    // Answers and documents have them.
+    for line in ["slip films/w.mov 1 --json", "stretch films/w.mov 1"] {
         assert_eq!(run(&words(line)).err, "", "{line}");
     }
+}
+
+/// A stretch that is shorter than its first sample is a warning, in documents too.
+#[test]
+fn tiny_stretches() {
+    let warning = "this is 1 unit, 1/600 of a second, and one sample lasts 24; seconds are written as 1s 2s";
+    for line in ["slip films/w.mov 1 1 2", "slip films/w.mov 1 1 2 --json", "stretch films/w.mov 1 1 2"] {
+        let ran = run(&words(line));
+        assert!(ran.err.ends_with(&format!("chaldoref: warning: {warning}\n")), "{}", ran.err);
+        assert_eq!((ran.status, ran.out.contains(warning)), (0, line.ends_with("--json")));
+    }
+    for line in ["slip films/w.mov 1 0 24", "stretch films/w.mov 1 24 73"] {
+        assert!(!run(&words(line)).err.contains("warning"), "{line}");
+    }
+    let several = run(&words("stretch films/w.mov 1 72 119")).err;
+    assert!(several.contains("this is 47 units, 47/600 of a second, and one sample lasts 48"), "{several}");
+}
+
+/// Minutes and seconds, and the start.
+#[test]
+fn more_times() {
+    let units = run(&words("stretch films/w.mov 1 0 120"));
+    for times in ["start end", "0:00 end", "start 0:00.2", "00:00:00 0:0.2"] {
+        assert_eq!(run(&words(&format!("stretch films/w.mov 1 {times}"))), units, "{times}");
+    }
+    assert_eq!(run(&words("at films/w.mov 1 start")), run(&words("at films/w.mov 1 0")));
 }
 
 #[test]
@@ -78,8 +106,15 @@ fn times_that_lie_outside() {
     refused("stretch films/w.mov 1 0 0.202s", "0 to 121");
     refused("slip films/w.mov 1 end end", "120 to 120");
     refused("slip films/w.mov 1 0.1s 12", "60 to 12");
-    for line in ["at films/w.mov 1 7158279s", "stretch films/w.mov 1 0 7158279s", "slip films/w.mov 1 4294967295:0:0 1"]
-    {
+    for line in [
+        "at films/w.mov 1 7158279s",
+        "at films/w.mov 1 4294967295s",
+        "at films/w.mov 1 4294967296s",
+        "at films/w.mov 1 99999999999999999999999s",
+        "stretch films/w.mov 1 0 7158279s",
+        "slip films/w.mov 1 4294967295:0:0 1",
+        "slip films/w.mov 1 4294967296:0:0 1",
+    ] {
         let hint = "that time is over 4294967295 units of the track's scale 600";
         refuses(line, &format!("chaldoref: films/w.mov: refused 15: {OUTSIDE}\nchaldoref: hint: {hint}\n"));
     }
@@ -115,17 +150,27 @@ fn the_longest_track() {
     assert_eq!(run_on(&film, &["stretch", "-", "1", "0", "1193046:28:16"]).status, 1);
 }
 
-/// The library does not tell the movie's time scale.
+/// A movie time counts in the movie's scale.
 #[test]
-fn movie_times_are_plain_units() {
-    for time in ["12.5s", "00:01:02.250", "end"] {
-        let ran = run(&["map", W, "1", time]);
-        let wrong = format!(
-            "MOVIE-TIME is taken in plain units only, and not as '{time}': the movie's time scale is not known here"
-        );
-        let err = format!("chaldoref: {wrong}\nusage: chaldoref map FILE TRACK MOVIE-TIME [--json]\n");
-        assert_eq!(ran, Ran { out: String::new(), err, status: 2 });
+fn movie_times() {
+    let mut movie = Movie { tracks: vec![w_with(|_| ())], ..w_movie() };
+    movie.scale = 1200;
+    let film = movie.file_of(4096).bytes();
+    let units = run_on(&film, &["map", "-", "1", "120"]);
+    assert_eq!((units.status, units.out.lines().count()), (0, 2));
+    for time in ["0.1s", "0:00.1", "00:00:00.100", "0.10004s"] {
+        assert_eq!(run_on(&film, &["map", "-", "1", time]), units, "{time}");
     }
+    assert_eq!(run(&["map", W, "1", "start"]), run(&["map", W, "1", "0"]));
+    refuses(
+        "map films/w.mov 1 2s",
+        &format!("chaldoref: films/w.mov: refused 15: {OUTSIDE}\nchaldoref: hint: movie time 1200 was asked\n"),
+    );
+    let late = "that time is over 4294967295 units of the movie's scale 600";
+    let said = format!("chaldoref: films/w.mov: refused 15: {OUTSIDE}\nchaldoref: hint: {late}\n");
+    refuses("map films/w.mov 1 4294967296s", &said);
+    // Where the movie ends is not told.
+    assert_eq!(run(&["map", W, "1", "end"]).status, 2);
 }
 
 #[test]

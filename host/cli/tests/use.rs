@@ -9,7 +9,7 @@ use std::fs::File;
 use std::os::unix::ffi::OsStringExt;
 use std::process::{Command, Stdio};
 
-const COMMANDS: [&str; 15] = [
+const COMMANDS: [&str; 18] = [
     "tracks",
     "sample",
     "samples",
@@ -25,11 +25,14 @@ const COMMANDS: [&str; 15] = [
     "check-profile",
     "check-quay",
     "film-return",
+    "compact",
+    "rates",
+    "report",
 ];
 
 #[test]
 fn version() {
-    for flag in ["--version", "-V"] {
+    for flag in ["--version", "-V", "version"] {
         answers(flag, &format!("chaldoref {}\n", env!("CARGO_PKG_VERSION")));
     }
 }
@@ -77,12 +80,12 @@ fn offered(words: &[&str]) -> Vec<String> {
 
 #[test]
 fn completion() {
-    let others = ["completion", "help", "--help", "--version"];
+    let others = ["completion", "help", "version", "--help", "--version"];
     assert_eq!(offered(&["chaldoref", ""]), [&COMMANDS[..], &others].concat());
     assert_eq!(offered(&["chaldoref", "s"]), ["sample", "samples", "stretch", "slip"]);
     assert_eq!(offered(&["chaldoref", "help", ""]), COMMANDS);
     assert_eq!(offered(&["chaldoref", "completion", "b"]), ["bash"]);
-    assert_eq!(offered(&["chaldoref", "slip", "-"]), ["-o", "--json", "--help"]);
+    assert_eq!(offered(&["chaldoref", "slip", "-"]), ["-o", "--sha256", "--json", "--leave-out", "--help"]);
     assert_eq!(offered(&["chaldoref", "sample", W, "1", "--b"]), ["--bytes"]);
     // Each option that a command takes is in its help, and is offered.
     for name in COMMANDS {
@@ -105,19 +108,59 @@ fn completion() {
 fn one_help_in_full() {
     answers(
         "slip --help",
-        "usage: chaldoref slip FILE TRACK [A B] [-o OUT] [--json]\n\n\
+        "usage: chaldoref slip FILE TRACK [A B] [-o OUT] [--sha256] [--json]\n    [--leave-out PART]\n\n\
          Prints the slip of a track, from media time A up to B, in hex.\n\n  \
-           -o OUT    write raw bytes to OUT; - is standard output\n  \
-           --json    print one JSON document\n\n\
-         FILE is a whole film, and for read-slip a slip; - is standard input. SLIP is a\n\
-         slip. A slip is raw bytes or hex text. TRACK is a track ID. Numbers are decimal,\n\
-         or hex after 0x, and below 2^32. CODE is four characters, or hex after 0x.\n\
-         MEDIA-TIME, A and B are units of the track's own time scale, or seconds as\n\
-         12.5s, or hours, minutes and seconds as 00:01:02.250, rounded down to units, or\n\
-         end, where the track ends. Without A and B the whole track is taken. MOVIE-TIME\n\
-         is in units of the movie's time scale only. N, FROM and TO are numbers of\n\
-         samples, from 1; without FROM a track is listed from 1, without TO to its end.\n",
+           -o OUT            write raw bytes to OUT; - is standard output\n  \
+           --sha256          keep the sha256 of the film's bytes in OUT.sha256\n  \
+           --json            print one JSON document\n  \
+           --leave-out PART  read the film without its edits, or without track=ID\n\n\
+         FILE is a film, and for read-slip a slip; - is standard input.\n\
+         TRACK is a track ID. Numbers are decimal, or hex after 0x, and below 2^32.\n\
+         MEDIA-TIME, A and B are units of the track's own time scale; or seconds as\n\
+         12.5s, minutes and seconds as 1:02, hours too as 00:01:02.250, rounded down to\n\
+         units; or start, or end, where the track ends.\n\
+         Without A and B the whole track is taken.\n\
+         PART is edits, for the edit lists of all tracks, or track=ID; --leave-out may be\n\
+         given several times. The film itself stays as it is, and each answer says what\n\
+         was left out.\n\n\
+         Example:\n\n  chaldoref slip films/two-hoses.mov 2 0.04s end -o 2.slip --sha256\n",
     );
+}
+
+/// Each command has an example of its own, which begins with its name, and no line of its help twice.
+#[test]
+fn examples() {
+    let mut seen = Vec::new();
+    for name in COMMANDS {
+        let help = run(&[name, "--help"]).out;
+        let example = help.lines().last().unwrap().to_string();
+        assert!(example.starts_with(&format!("  chaldoref {name} ")), "{help}");
+        assert!(!seen.contains(&example), "{example}");
+        seen.push(example);
+        let lines: Vec<&str> = help.lines().filter(|line| !line.is_empty()).collect();
+        assert!(lines.iter().enumerate().all(|(i, line)| !lines[..i].contains(line)), "{help}");
+    }
+}
+
+/// The scripts for the other shells name every command and every option.
+#[test]
+fn other_shells() {
+    for shell in ["zsh", "fish"] {
+        let script = run(&["completion", shell]);
+        assert_eq!((script.err.as_str(), script.status), ("", 0));
+        for name in COMMANDS {
+            assert!(script.out.contains(&format!(" {name} ")) || script.out.contains(&format!(" {name}'")), "{name}");
+            for option in offered(&["chaldoref", name, W, "-"]) {
+                let long = option.trim_start_matches('-');
+                let line = script.out.lines().any(|line| line.contains(name) && line.contains(long));
+                assert!(line || option == "--help", "{shell} {name} {option}");
+            }
+        }
+        // Where the shell is there, it reads its script.
+        if let Ok(checked) = Command::new(shell).args(["-n", "-c", &script.out]).output() {
+            assert_eq!(String::from_utf8(checked.stderr).unwrap(), "");
+        }
+    }
 }
 
 #[test]
@@ -157,6 +200,16 @@ fn names_of_any_bytes() {
         .output()
         .unwrap();
     assert_eq!(inside.status.code(), Some(0));
+    // Documents have the bytes of a name that is no text, so that it can be told apart.
+    let hex: String = path.as_os_str().as_encoded_bytes().iter().map(|byte| format!("{byte:02x}")).collect();
+    let document = run(&["tracks".as_ref(), path.as_os_str(), "--json".as_ref()]).out;
+    assert!(document.contains(&format!(",\"file_hex\":\"{hex}\",\"movie\":")), "{document}");
+    let other = OsString::from_vec(b"none \xff".to_vec());
+    let skipped = run(&["film-return".as_ref(), other.as_os_str(), "b".as_ref(), "--json".as_ref()]).out;
+    assert!(
+        skipped.contains("\"skipped\":[\"none \u{fffd}\",\"b\"],\"skipped_hex\":[\"6e6f6e6520ff\",\"62\"],"),
+        "{skipped}"
+    );
     // Messages show the name without what could act on a terminal.
     let refused = run(&["at".as_ref(), path.as_os_str(), "9".as_ref(), "0".as_ref()]);
     assert!(
@@ -173,6 +226,8 @@ fn standard_input() {
     assert_eq!(common::run_on(&w().bytes(), &["tracks", "-"]), run(&["tracks", W]));
     let empty = program(&["tracks", "-"]).stdin(Stdio::null()).output().unwrap();
     let said = "chaldoref: standard input: refused 3: an atom is absent or occurs too often\n\
-                chaldoref: not proved: this is no QuickTime movie: the file is empty\n";
+                chaldoref: not proved: this is no QuickTime movie: the file is empty\n\
+                chaldoref: hint: there are no tables (moov) in this file: it is no movie, or its recording or copying was \
+                broken off; copy it again\n";
     assert_eq!(String::from_utf8(empty.stderr).unwrap(), said);
 }

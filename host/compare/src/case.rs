@@ -95,7 +95,7 @@ fn shown<T: std::fmt::Debug>(list: &[T]) -> String {
 
 fn lending(question: Question, way: Way, lengths: Lengths) -> Lending {
     let (numbers, bytes) = match question {
-        Question::WriteSlip { .. } => (0, lengths.room),
+        Question::WriteSlip { .. } | Question::Compact => (0, lengths.room),
         Question::TrackList
         | Question::Stretch { .. }
         | Question::Edits { .. }

@@ -190,5 +190,7 @@ pub fn questions(random: &mut Random, film: &Result<Movie, u32>) -> Vec<Question
         Question::Feature { id: id(random, track), code: code(random, track) },
         Question::Peak { id: id(random, track), code: code(random, track) },
         Question::WriteSlip { id: id(random, track), a: y.0, b: y.1 },
+        Question::Compact,
+        Question::Fragments,
     ]
 }

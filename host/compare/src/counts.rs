@@ -29,10 +29,20 @@ pub struct Counts {
     profiles: [u64; 2],
     /// Films by the rule of the quay film profile that they break, 0 for none.
     quay: [u64; QUAY_RULES + 1],
+    /// Films that were asked everything again with compact tables, by which of their tables were wasteful.
+    compacted: [u64; WASTEFUL.len()],
+    /// Films by their fragments.
+    fragments: [u64; FRAGMENTS.len()],
 }
 
 /// The rules of the quay film profile.
 const QUAY_RULES: usize = 9;
+
+/// Which atoms of fragments a film has.
+const FRAGMENTS: [&str; 4] = ["none", "mvex", "moof", "both"];
+
+/// Which tables of a film have more entries than they need.
+const WASTEFUL: [&str; 4] = ["none", "stts", "stsc", "both"];
 
 impl Default for Counts {
     fn default() -> Counts {
@@ -45,6 +55,8 @@ impl Default for Counts {
             faults: [[0; FAULTS.len()]; 2],
             profiles: [0; 2],
             quay: [0; QUAY_RULES + 1],
+            compacted: [0; WASTEFUL.len()],
+            fragments: [0; FRAGMENTS.len()],
         }
     }
 }
@@ -60,8 +72,19 @@ fn is_of_slip(kind: &str) -> bool {
 }
 
 /// The questions that ask for no number in a track.
-const WITHOUT_15: [&str; 9] =
-    ["track_list", "movie", "edits", "profile", "check_profile", "check_quay", "feature", "peak", "open"];
+const WITHOUT_15: [&str; 11] = [
+    "track_list",
+    "movie",
+    "edits",
+    "profile",
+    "check_profile",
+    "check_quay",
+    "feature",
+    "peak",
+    "open",
+    "compact",
+    "fragments",
+];
 
 /// Whether include/chaldoref.h names that number for that question.
 fn can_meet(number: usize, kind: &str) -> bool {
@@ -81,7 +104,7 @@ fn can_meet(number: usize, kind: &str) -> bool {
         17 => reads,
         _ if reads => false,
         11 => kind == "write_slip",
-        14 => !["track_list", "movie", "check_quay"].contains(&kind),
+        14 => !["track_list", "movie", "check_quay", "compact", "fragments"].contains(&kind),
         15 => !WITHOUT_15.contains(&kind),
         18 => ["feature", "peak"].contains(&kind),
         20 | 21 => false,
@@ -122,6 +145,16 @@ impl Counts {
     /// The rule of the quay film profile that a film breaks, 0 for none.
     pub fn quay(&mut self, rule: u64) {
         self.quay[usize::try_from(rule).unwrap()] += 1;
+    }
+
+    /// A film that was asked everything again with compact tables: whether its stts, and its stsc, had more entries than they need.
+    pub fn compacted(&mut self, stts: bool, stsc: bool) {
+        self.compacted[usize::from(stts) + 2 * usize::from(stsc)] += 1;
+    }
+
+    /// A film by its fragments: whether its moov has an mvex, and the file a moof.
+    pub fn fragments(&mut self, [mvex, moof]: [bool; 2]) {
+        self.fragments[usize::from(mvex) + 2 * usize::from(moof)] += 1;
     }
 
     pub fn question(&mut self, kind: usize, number: u32) {
@@ -173,14 +206,21 @@ impl Counts {
         WAYS.iter().zip(&self.strict).map(line).collect::<Vec<_>>().join("\n")
     }
 
-    /// The verdicts on profiles, and on films by the quay film profile.
+    /// The verdicts on profiles, and on films by the quay film profile, and how many films were asked again with compact tables.
     pub fn verdict_lines(&self) -> String {
         let [good, bad] = self.profiles;
         let quay: Vec<String> = self.quay.iter().map(u64::to_string).collect();
         format!(
             "profiles that are true: {good}, with a record at fault: {bad}\n\
-             films that keep the quay film profile, and that break rule 1 to 9 of it: {}",
-            quay.join(", ")
+             films that keep the quay film profile, and that break rule 1 to 9 of it: {}\n\
+             films asked again with compact tables, by which were wasteful: {}",
+            quay.join(", "),
+            WASTEFUL
+                .iter()
+                .zip(self.compacted)
+                .map(|(name, count)| format!("{name} {count}"))
+                .collect::<Vec<_>>()
+                .join(", ")
         )
     }
 
@@ -219,6 +259,10 @@ impl Counts {
         all.extend(never.map(|(verdict, _)| format!("no profile was {verdict}")));
         let never = self.quay.iter().enumerate().filter(|(_, count)| **count == 0);
         all.extend(never.map(|(rule, _)| format!("no film met rule {rule} of the quay film profile")));
+        let never = FRAGMENTS.iter().zip(self.fragments).filter(|(_, count)| *count == 0);
+        all.extend(never.map(|(name, _)| format!("no film had these atoms of fragments: {name}")));
+        let never = WASTEFUL.iter().zip(self.compacted).filter(|(_, count)| *count == 0);
+        all.extend(never.map(|(name, _)| format!("no film with wasteful tables ({name}) was asked again")));
         for (form, faults) in self.faults.iter().enumerate() {
             let of = ["slip of form 1", "slip of form 2"][form];
             let never = FAULTS.iter().zip(faults).filter(|(_, count)| **count == 0);
@@ -252,6 +296,10 @@ mod tests {
         (0..KINDS.len()).for_each(|kind| counts.strict(kind, 0));
         [true, false].into_iter().for_each(|verdict| counts.profile(verdict));
         (0..=9).for_each(|rule| counts.quay(rule));
+        for (stts, stsc) in [(false, false), (false, true), (true, false), (true, true)] {
+            counts.compacted(stts, stsc);
+            counts.fragments([stts, stsc]);
+        }
         for slip in [[1], [2]] {
             (0..FAULTS.len()).for_each(|kind| counts.slip(&slip, Some(kind)));
         }
@@ -274,6 +322,8 @@ mod tests {
         counts.faults[1][4] = 0;
         counts.profiles[0] = 0;
         counts.quay[8] = 0;
+        counts.compacted[2] = 0;
+        counts.fragments[1] = 0;
         let expected = [
             "sample never met 15",
             "of whole files none was refused 7",
@@ -282,6 +332,8 @@ mod tests {
             "stretch was never answered of a film that is refused 11 strictly",
             "no profile was true",
             "no film met rule 8 of the quay film profile",
+            "no film had these atoms of fragments: mvex",
+            "no film with wasteful tables (stsc) was asked again",
             "no slip of form 2 was malformed at: b",
         ];
         assert_eq!(counts.complaints(), expected);

@@ -8,6 +8,9 @@ use crate::steps::{self, Kept};
 use reference::maker::Random;
 use reference::movie::MoovAlone;
 
+/// One film in so many is asked everything again with compact tables.
+const COMPACT_EVERY: usize = 8;
+
 /// The comparison so far.
 #[derive(Default)]
 pub struct Comparison {
@@ -64,14 +67,14 @@ fn other(question: Question, way: Way, lengths: Lengths, fault: &str) -> Box<Dif
 }
 
 /// A film as it is lent, and as the reference reads it.
-struct Asked<'a> {
-    bytes: &'a Bytes<'a>,
-    way: Way,
-    film: Film,
+pub struct Asked<'a> {
+    pub bytes: &'a Bytes<'a>,
+    pub way: Way,
+    pub film: Film,
 }
 
 impl<'a> Asked<'a> {
-    fn of(bytes: &'a Bytes, way: Way) -> Asked<'a> {
+    pub fn of(bytes: &'a Bytes, way: Way) -> Asked<'a> {
         let film = match way {
             Way::Whole => Film::of(bytes.lent()),
             Way::Moov(length) => Film::of(&MoovAlone { moov: bytes.lent(), length }),
@@ -149,22 +152,35 @@ impl Comparison {
         }
     }
 
-    /// Puts so many rounds of every question about a film, and once the questions about the highest rates of each track; then its tracks are stepped
-    /// through, opened and indexed.
+    /// Asks everything about a film, and of one film in so many everything again with compact tables.
     pub fn film(&mut self, random: &mut Random, bytes: &Bytes, way: Way, rounds: usize) -> Result<(), Box<Difference>> {
         let asked = Asked::of(bytes, way);
-        let film = &asked.film;
-        self.counts.film(way, film.number(), film.strict);
+        self.counts.film(way, asked.film.number(), asked.film.strict);
+        if asked.film.movie.is_ok() {
+            self.counts.fragments(asked.film.fragments);
+        }
+        self.everything(random, &asked, rounds)?;
+        if matches!(bytes, Bytes::Copy { .. }) && random.once_in(COMPACT_EVERY) {
+            self.compacted(random, &asked, rounds)?;
+        }
+        Ok(())
+    }
+
+    /// Puts so many rounds of every question about a film, and once the questions about the highest rates of each track; then its tracks are stepped
+    /// through, opened and indexed.
+    pub fn everything(&mut self, random: &mut Random, asked: &Asked, rounds: usize) -> Result<(), Box<Difference>> {
+        let Asked { bytes, way, film } = asked;
+        let way = *way;
         // Another round for a refused film would ask the same.
         let rounds = if film.movie.is_ok() { rounds } else { 1 };
         let is_offered = |question: &Question| way == Way::Whole || question.is_of_moov();
         for _ in 0..rounds {
             for question in questions(random, &film.movie).into_iter().filter(is_offered) {
-                self.question(random, &asked, question)?;
+                self.question(random, asked, question)?;
             }
         }
         for question in peaks(&film.movie) {
-            self.question(random, &asked, question)?;
+            self.question(random, asked, question)?;
         }
         self.returns(random, bytes.lent(), way, film)?;
         self.steps(random, bytes.lent(), way, film)?;

@@ -4,7 +4,7 @@ use crate::lent::Lent;
 use crate::question::{Question, Way};
 use chaldoref::raw::*;
 
-/// What a question is asked with: lists go to numbers, slips to bytes, and the answer's own numbers to places.
+/// What a question is asked with: lists go to numbers, slips and a moov to bytes, and the answer's own numbers to places.
 pub struct Lending {
     pub numbers: Lent<u32>,
     pub wide: Lent<u64>,
@@ -48,6 +48,8 @@ fn ask_whole(file: &[u8], question: Question, lending: &mut Lending) -> u32 {
             Question::WriteSlip { id, a, b } => {
                 chaldoref_write_slip(f, len, id, a, b, out, out_len, places, places_len)
             }
+            Question::Fragments => chaldoref_fragments(f, len, places, places_len),
+            Question::Compact => chaldoref_compact(f, len, out, out_len, places, places_len),
         }
     }
 }
@@ -80,6 +82,8 @@ fn ask_moov(moov: &[u8], length: u64, question: Question, lending: &mut Lending)
             Question::WriteSlip { id, a, b } => {
                 chaldoref_moov_write_slip(m, len, length, id, a, b, out, out_len, places, places_len)
             }
+            Question::Fragments => chaldoref_moov_fragments(m, len, length, places, places_len),
+            Question::Compact => chaldoref_moov_compact(m, len, length, out, out_len, places, places_len),
             Question::SampleBytes { .. } | Question::ReadSlip | Question::ReadAnySlip => {
                 unreachable!("not offered of a moov alone")
             }

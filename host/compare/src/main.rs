@@ -4,6 +4,7 @@
 mod big;
 mod case;
 mod choose;
+mod compacted;
 mod counts;
 mod faults;
 mod films;

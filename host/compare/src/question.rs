@@ -1,4 +1,5 @@
 //! The questions, and what the reference answers.
+use reference::movie::fragments::has_fragments;
 use reference::movie::refusals::read;
 use reference::movie::tables::{Movie, Sample};
 use reference::movie::{strict_refusal, Film as Lendable};
@@ -23,6 +24,8 @@ pub enum Question {
     ReadSlip,
     ReadAnySlip,
     WriteSlip { id: u32, a: u32, b: u32 },
+    Compact,
+    Fragments,
 }
 
 /// How a film is lent: its whole file, or its moov alone with the length of its file.
@@ -33,7 +36,7 @@ pub enum Way {
 }
 
 /// How the functions are called, in the order of `Question::place`, and how many places each fills.
-const FUNCTIONS: [(&str, usize); 16] = [
+const FUNCTIONS: [(&str, usize); 18] = [
     ("track_list", 1),
     ("sample", 8),
     ("sample_bytes", 2),
@@ -50,6 +53,8 @@ const FUNCTIONS: [(&str, usize); 16] = [
     ("edits", 1),
     ("check_profile", 1),
     ("check_quay", 2),
+    ("compact", 1),
+    ("fragments", 2),
 ];
 
 /// Every function of include/chaldoref.h but the step at top level: those of a whole file and of slips, then those of a moov alone, then the film
@@ -71,6 +76,8 @@ pub const KINDS: [&str; 2 * FUNCTIONS.len() - 3 + 16] = [
     "edits",
     "check_profile",
     "check_quay",
+    "compact",
+    "fragments",
     "moov_track_list",
     "moov_sample",
     "moov_sample_at",
@@ -84,6 +91,8 @@ pub const KINDS: [&str; 2 * FUNCTIONS.len() - 3 + 16] = [
     "moov_edits",
     "moov_check_profile",
     "moov_check_quay",
+    "moov_compact",
+    "moov_fragments",
     "film_return",
     "moov_film_return",
     "step_start",
@@ -113,11 +122,18 @@ pub struct Film {
     pub movie: Result<Movie, u32>,
     /// The number with which it is refused where strict reading is asked for, 0 for none.
     pub strict: u32,
+    /// Its moov with compact tables; nothing where it is refused.
+    pub compact_moov: Vec<u8>,
+    /// Whether its moov has an mvex, and the file a moof at top level; no where it is refused.
+    pub fragments: [bool; 2],
 }
 
 impl Film {
     pub fn of(film: &(impl Lendable + ?Sized)) -> Film {
-        Film { movie: read(film), strict: strict_refusal(film) }
+        let movie = read(film);
+        let compact_moov = movie.as_ref().map_or_else(|_| Vec::new(), |movie| movie.compact_moov(film.lent().bytes));
+        let fragments = movie.as_ref().map_or([false; 2], |_| has_fragments(film));
+        Film { movie, strict: strict_refusal(film), compact_moov, fragments }
     }
 
     /// The number with which it is refused by default, 0 for none.
@@ -174,6 +190,8 @@ impl Question {
             Question::Edits { .. } => 13,
             Question::CheckProfile { .. } => 14,
             Question::CheckQuay => 15,
+            Question::Compact => 16,
+            Question::Fragments => 17,
         }
     }
 
@@ -247,10 +265,9 @@ impl Question {
                 let (first, samples) = movie.peak(id, code)?;
                 only(&[first, samples])
             }
-            Question::WriteSlip { id, a, b } => {
-                let bytes = movie.slip(id, a, b)?;
-                Answer { bytes: bytes.clone(), ..only(&[long(bytes.len())]) }
-            }
+            Question::WriteSlip { id, a, b } => written(movie.slip(id, a, b)?),
+            Question::Compact => written(film.compact_moov.clone()),
+            Question::Fragments => only(&film.fragments.map(u64::from)),
             Question::ReadSlip | Question::ReadAnySlip => unreachable!("a slip is no film"),
         })
     }
@@ -259,6 +276,11 @@ impl Question {
 /// An answer without a list.
 fn only(places: &[u64]) -> Answer {
     Answer { places: places.to_vec(), ..Answer::default() }
+}
+
+/// Bytes, with their number.
+fn written(bytes: Vec<u8>) -> Answer {
+    Answer { places: vec![long(bytes.len())], bytes, ..Answer::default() }
 }
 
 /// A list, with the number of rows.

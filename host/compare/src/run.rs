@@ -75,6 +75,8 @@ impl Run {
             let (claiming, near) = (claims::claiming(&mut random), quay::quay(&mut random));
             self.both_ways(&mut random, &format!("film {index} with profiles"), &claiming, ROUNDS)?;
             self.both_ways(&mut random, &format!("film {index} by the quay's rules"), &near, ROUNDS)?;
+            let fragmented = maker::fragmented(&mut random);
+            self.both_ways(&mut random, &format!("film {index} with fragments"), &fragmented, ROUNDS)?;
         }
         let MoovAlone { moov, length } = alone::film(&mut random);
         let film = MoovAlone { moov: &moov[..], length };

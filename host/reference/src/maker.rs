@@ -15,7 +15,7 @@ pub mod random;
 pub mod slips;
 pub mod tables;
 
-use crate::film::Node;
+use crate::film::{atom, Node};
 use crate::made::{spoiled, w_with, SMALL};
 use faults::{leaves, offsets, tables as faulty, tree};
 use layout::film_of;
@@ -84,6 +84,21 @@ fn near_w(random: &mut Random) -> Node {
 /// A film that is accepted.
 pub fn valid(random: &mut Random) -> Vec<u8> {
     tables_with(random, &Faults::default()).bytes()
+}
+
+/// A film that is accepted, with an mvex in its moov and fragments at its end, or one of the two, or neither.
+pub fn fragmented(random: &mut Random) -> Vec<u8> {
+    let mut film = tables_with(random, &Faults::default());
+    if random.once_in(2) {
+        film.push("moov", atom("mvex", &[0; 3]));
+    }
+    // After an atom that runs to the end of the file no other can stand.
+    let is_open = film.children.last().is_some_and(|last| last.bytes().starts_with(&[0; 4]));
+    for _ in 0..if is_open { 0 } else { random.below(3) } {
+        film.push("", atom("moof", &[0; 9]));
+        film.push("", atom("mdat", &[0; 20]));
+    }
+    film.bytes()
 }
 
 /// A few bytes that are hardly a film.

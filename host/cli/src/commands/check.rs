@@ -1,59 +1,106 @@
 //! The regulator's third question: whether the film time that slips file adds up.
 use super::ranges::time_fields;
-use super::{Answer, CLOCK};
+use super::{unproved_words, Answer, CLOCK};
 use crate::checked::Checked;
 use crate::failure::{worse, Failure};
 use crate::filed::Filed;
+use crate::film::{Film, Fragments};
 use crate::input;
 use crate::json::Object;
 use crate::table::{self, number, text};
 use crate::time::{clock, clock_of, stretch_in_words};
-use chaldoref::{AnySlip, MediaTime, Movie, Track};
+use crate::warnings;
+use chaldoref::{AnySlip, LeaveOut, MediaTime, Movie, Track, TrackId};
 use std::ffi::OsString;
 use std::io::{self, Write};
 use std::ops::Range;
 
 /// What the good slips file of a track.
-struct Account<'m> {
-    track: &'m Track,
-    filed: Filed,
+pub(super) struct Account<'m> {
+    pub track: &'m Track,
+    pub filed: Filed,
+    /// Whether the film has fragments, so that more of the track may be in them.
+    fragmented: bool,
 }
 
-struct Report<'a> {
-    slips: Vec<Checked<'a>>,
-    accounts: Vec<Account<'a>>,
+impl Account<'_> {
+    pub fn adds_up(&self) -> bool {
+        self.filed.adds_up() && !self.fragmented
+    }
+
+    pub fn verdict(&self) -> &'static str {
+        if self.adds_up() && self.track.total == MediaTime(0) {
+            "nothing to file"
+        } else if self.adds_up() {
+            "adds up"
+        } else {
+            "does not add up"
+        }
+    }
+}
+
+pub(super) struct Report<'a> {
+    pub slips: Vec<Checked<'a>>,
+    pub accounts: Vec<Account<'a>>,
+    /// What was left out of the film, in words.
+    left_out: Option<String>,
+    /// The video tracks that were left out, whose film may be unfiled.
+    left_out_videos: Vec<TrackId>,
+    /// The film in fragments, which is not read.
+    fragments: Option<Fragments>,
+    pub warnings: Vec<String>,
 }
 
 /// Compares each slip with the film, and adds up what the good ones file of each track.
-pub fn check(movie: &Movie, names: &[OsString], to: Answer) -> Result<(), Failure> {
-    let slips: Vec<Checked> = names.iter().map(|name| Checked::of(movie, name)).collect();
-    let accounts = movie.tracks().iter().map(|track| account(track, &slips)).collect();
-    let report = Report { slips, accounts };
+pub fn check(film: &Film, movie: &Movie, names: &[OsString], to: Answer) -> Result<(), Failure> {
+    let slips = names.iter().map(|name| Checked::of(film, movie, name)).collect::<Result<Vec<Checked>, Failure>>()?;
+    let report = Report::of(film, movie, slips, to.left_out, to.fragments);
+    to.tell(&report.warnings);
     let printed = if to.json { report.document(to) } else { report.print(to.out).map_err(Failure::from) };
     worse(report.outcome(), printed)
 }
 
-fn account<'m>(track: &'m Track, slips: &[Checked]) -> Account<'m> {
+fn account<'m>(track: &'m Track, slips: &[Checked], fragmented: bool) -> Account<'m> {
     let own = slips.iter().filter_map(Checked::good).filter(|slip| is_of(slip, track));
     // A good slip has times of the track.
-    Account { track, filed: Filed::of(own.filter_map(AnySlip::time).collect(), track.total) }
+    Account { track, filed: Filed::of(own.filter_map(AnySlip::time).collect(), track.total), fragmented }
 }
 
-fn is_of(slip: &AnySlip, track: &Track) -> bool {
+pub(super) fn is_of(slip: &AnySlip, track: &Track) -> bool {
     slip.id == u64::from(track.id.0)
 }
 
-impl Report<'_> {
+impl<'a> Report<'a> {
+    /// What some slips file of a film, which is read without some parts.
+    pub fn of(
+        film: &Film,
+        movie: &'a Movie,
+        slips: Vec<Checked<'a>>,
+        left_out: &[LeaveOut],
+        fragments: Option<Fragments>,
+    ) -> Report<'a> {
+        let accounts = movie.tracks().iter().map(|track| account(track, &slips, fragments.is_some())).collect();
+        let is_filed = |track: &&Track| slips.iter().filter_map(Checked::good).any(|slip| is_of(slip, track));
+        let filed = movie.tracks().iter().filter(is_filed);
+        let mut warnings = warnings::of_fragments(fragments);
+        warnings.extend(filed.flat_map(|track| warnings::of_ctts(movie, track.id, "its slips are of decode time")));
+        let left_out_videos = film.left_out_videos().to_vec();
+        Report { slips, accounts, left_out: warnings::left_out(left_out), left_out_videos, fragments, warnings }
+    }
+
     fn bad_slips(&self) -> usize {
         self.slips.iter().filter(|slip| slip.wrong.is_some()).count()
     }
 
-    fn open_accounts(&self) -> usize {
-        self.accounts.iter().filter(|account| !account.filed.adds_up()).count()
+    pub fn open_accounts(&self) -> usize {
+        self.accounts.iter().filter(|account| !account.adds_up()).count()
     }
 
     fn is_all_good(&self) -> bool {
-        self.bad_slips() == 0 && self.open_accounts() == 0
+        self.bad_slips() == 0
+            && self.open_accounts() == 0
+            && self.fragments.is_none()
+            && self.left_out_videos.is_empty()
     }
 
     fn outcome(&self) -> Result<(), Failure> {
@@ -64,10 +111,17 @@ impl Report<'_> {
     }
 
     fn print(&self, out: &mut dyn Write) -> io::Result<()> {
-        print_slips(&self.slips, out)?;
-        writeln!(out)?;
+        if !self.slips.is_empty() {
+            print_slips(&self.slips, out)?;
+            for slip in &self.slips {
+                if let Some(words) = &slip.retyped {
+                    writeln!(out, "{}: not proved: {words}", input::called(slip.name))?;
+                }
+            }
+            writeln!(out)?;
+        }
         print_accounts(&self.accounts, out)?;
-        for Account { track, filed } in &self.accounts {
+        for Account { track, filed, .. } in &self.accounts {
             for time in &filed.gaps {
                 writeln!(out, "{}", part("gap", track, time))?;
             }
@@ -75,27 +129,60 @@ impl Report<'_> {
                 writeln!(out, "{}, filed by {}", part("overlap", track, time), self.filed_by(track, time))?;
             }
         }
+        if let Some(parts) = &self.left_out {
+            writeln!(out, "the film was read without {parts}")?;
+        }
+        writeln!(out, "{}", self.bytes_in_words())?;
         writeln!(out, "{}, and {}", self.slips_in_words(), self.tracks_in_words())
     }
 
     /// The names of the good slips that file some of that time of a track.
-    fn filed_by(&self, track: &Track, time: &Range<MediaTime>) -> String {
+    pub fn filed_by(&self, track: &Track, time: &Range<MediaTime>) -> String {
         let (a, b) = (u64::from(time.start.0), u64::from(time.end.0));
         let files = |slip: &AnySlip| is_of(slip, track) && slip.a < b && a < slip.b;
         let some = self.slips.iter().filter(|checked| checked.good().is_some_and(files));
         some.map(|checked| input::called(checked.name)).collect::<Vec<_>>().join(", ")
     }
 
-    fn slips_in_words(&self) -> String {
+    /// What the good slips say of the pictures themselves.
+    pub fn bytes_in_words(&self) -> &'static str {
+        let mut good = self.slips.iter().filter(|slip| slip.good().is_some()).peekable();
+        if good.peek().is_some() && good.all(|slip| slip.hashed) {
+            "the pictures' bytes have the sha256 that is kept beside each good slip"
+        } else {
+            "slips say where the film lies and do not vouch for the pictures' bytes; slip --sha256 keeps their hash"
+        }
+    }
+
+    pub fn slips_in_words(&self) -> String {
         match self.bad_slips() {
+            _ if self.slips.is_empty() => "no slip is given".into(),
             0 => "every slip is good".into(),
             1 => "1 slip is not good".into(),
             n => format!("{n} slips are not good"),
         }
     }
 
-    fn tracks_in_words(&self) -> String {
+    /// Why the film does not add up whatever its slips file, if some of it was not read.
+    pub fn not_whole(&self) -> Option<String> {
+        (self.fragments.is_some() || !self.left_out_videos.is_empty()).then(|| self.tracks_in_words())
+    }
+
+    pub fn tracks_in_words(&self) -> String {
+        match self.fragments {
+            Some(Fragments { count: 0, .. }) => {
+                return "the film does not add up: it announces fragments, and none is in this file".into();
+            }
+            Some(Fragments { bytes, .. }) => {
+                return format!("the film does not add up: {bytes} bytes of film in fragments are not read");
+            }
+            None => (),
+        }
+        if let Some(track) = self.left_out_videos.first() {
+            return format!("the film does not add up: track {track} was left out");
+        }
         match self.open_accounts() {
+            0 if self.left_out.is_some() => "every track that was read adds up".into(),
             0 => "every track adds up".into(),
             1 => "1 track does not add up".into(),
             n => format!("{n} tracks do not add up"),
@@ -105,9 +192,18 @@ impl Report<'_> {
     fn document(&self, to: Answer) -> Result<(), Failure> {
         to.document(|o| {
             o.list("slips", &self.slips, slip_fields)?.list("tracks", &self.accounts, account_fields)?;
-            o.put("all_good", self.is_all_good()).map(drop)
+            if let Some(Fragments { bytes, .. }) = self.fragments {
+                o.put("unread_bytes", bytes)?;
+            }
+            o.put("all_good", self.is_all_good())?.texts("warnings", &self.warnings).map(drop)
         })
     }
+}
+
+/// Whether a slip is good, in words.
+pub(super) fn slip_verdict(checked: &Checked) -> String {
+    let good = if checked.hashed { "good, and so is its sha256" } else { "good" };
+    checked.wrong.as_ref().map_or(good.into(), |wrong| format!("not good: {}", wrong.reason))
 }
 
 fn print_slips(slips: &[Checked], out: &mut dyn Write) -> io::Result<()> {
@@ -130,8 +226,7 @@ fn print_slips(slips: &[Checked], out: &mut dyn Write) -> io::Result<()> {
             }
             None => ["-"; 6].map(String::from),
         };
-        let verdict = checked.wrong.as_ref().map_or("good".into(), |wrong| format!("not good: {}", wrong.reason));
-        [input::called(checked.name), track, scale, a, b, time, length, verdict]
+        [input::called(checked.name), track, scale, a, b, time, length, slip_verdict(checked)]
     };
     table::write(out, columns, slips, row)
 }
@@ -139,47 +234,39 @@ fn print_slips(slips: &[Checked], out: &mut dyn Write) -> io::Result<()> {
 fn print_accounts(accounts: &[Account], out: &mut dyn Write) -> io::Result<()> {
     let columns =
         [number("track"), number("scale"), number("filed"), CLOCK, number("movie has"), CLOCK, text("verdict")];
-    let row = |Account { track, filed }: &Account| {
+    let row = |account: &Account| {
+        let Account { track, filed, .. } = account;
         let [id, scale, units, total] = [track.id.0, track.scale, filed.units, track.total.0].map(|n| n.to_string());
         let [filed_time, whole_time] = [MediaTime(filed.units), track.total].map(|time| clock(time, track.scale));
-        [id, scale, units, filed_time, total, whole_time, verdict(track, filed).into()]
+        [id, scale, units, filed_time, total, whole_time, account.verdict().into()]
     };
     table::write(out, columns, accounts, row)
 }
 
-fn verdict(track: &Track, filed: &Filed) -> &'static str {
-    if track.total == MediaTime(0) {
-        "nothing to file"
-    } else if filed.adds_up() {
-        "adds up"
-    } else {
-        "does not add up"
-    }
-}
-
 /// A part of a track that is filed by no slip, or by more than one.
-fn part(what: &str, track: &Track, time: &Range<MediaTime>) -> String {
+pub(super) fn part(what: &str, track: &Track, time: &Range<MediaTime>) -> String {
     format!("track {}: {what} from {}", track.id, stretch_in_words(time, track.scale))
 }
 
 fn slip_fields(o: &mut Object, checked: &Checked) -> io::Result<()> {
     let (slip, wrong) = (checked.slip.as_ref(), checked.wrong.as_ref());
-    o.put("file", checked.name.to_string_lossy().into_owned())?;
-    o.put("track", slip.map(|slip| slip.id))?.put("scale", slip.map(|slip| slip.scale))?;
+    o.name("file", checked.name)?.put("track", slip.map(|slip| slip.id))?.put("scale", slip.map(|slip| slip.scale))?;
     match slip {
         Some(slip) => o.time("a", slip.a, slip.scale)?.time("b", slip.b, slip.scale).map(drop)?,
         None => o.no_time("a")?.no_time("b").map(drop)?,
     }
     o.put("good", wrong.is_none())?.put("fault", wrong.map(|wrong| wrong.kind.name().to_string()))?;
     let place = wrong.and_then(|wrong| wrong.place).and_then(|place| u64::try_from(place).ok());
-    o.put("place", place)?.put("reason", wrong.map(|wrong| wrong.reason.clone())).map(drop)
+    o.put("place", place)?.put("reason", wrong.map(|wrong| wrong.reason.clone()))?.put("sha256", checked.hashed)?;
+    unproved_words(o, "retyped", checked.retyped.as_deref())
 }
 
-fn account_fields(o: &mut Object, Account { track, filed }: &Account) -> io::Result<()> {
+fn account_fields(o: &mut Object, account: &Account) -> io::Result<()> {
+    let Account { track, filed, .. } = account;
     let scale = track.scale;
     let times = |o: &mut Object, time: &Range<MediaTime>| time_fields(o, time, scale);
     o.put("id", track.id.0)?.put("scale", scale)?;
     o.time("filed", filed.units, scale)?.time("total", track.total.0, scale)?;
     o.list("gaps", &filed.gaps, times)?.list("overlaps", &filed.overlaps, times)?;
-    o.put("adds_up", filed.adds_up()).map(drop)
+    o.put("adds_up", account.adds_up()).map(drop)
 }

@@ -8,9 +8,9 @@ use chaldoref::{Edit, Header, Movie, MovieTime, TrackId};
 use std::io;
 
 /// An entry, and the movie time at which it begins.
-struct Entry {
-    start: u64,
-    edit: Edit,
+pub(super) struct Entry {
+    pub start: u64,
+    pub edit: Edit,
 }
 
 /// The entries of a track's edit list.
@@ -64,7 +64,7 @@ pub fn header_fields(o: &mut Object, header: &Header) -> io::Result<()> {
 }
 
 /// Each entry begins where the one before it ends.
-fn placed(edits: &[Edit]) -> Vec<Entry> {
+pub(super) fn placed(edits: &[Edit]) -> Vec<Entry> {
     let mut start = 0;
     let place = |edit: &Edit| {
         let entry = Entry { start, edit: *edit };
@@ -75,12 +75,12 @@ fn placed(edits: &[Edit]) -> Vec<Entry> {
 }
 
 /// A duration, which is never negative.
-fn units(duration: i64) -> u64 {
+pub(super) fn units(duration: i64) -> u64 {
     u64::try_from(duration).unwrap_or(0)
 }
 
 /// The durations of a track's edits total less than 2^32, so that each is a movie time.
-fn movie_time(time: u64, scale: u32) -> String {
+pub(super) fn movie_time(time: u64, scale: u32) -> String {
     movie_clock(MovieTime(u32::try_from(time).unwrap_or(u32::MAX)), scale)
 }
 

@@ -1,7 +1,7 @@
 //! Features, and which second of a track has the highest bit rate.
 use super::ranges::time_fields;
-use super::Answer;
-use crate::failure::{hint, Failure};
+use super::{of_each, Answer};
+use crate::failure::Failure;
 use crate::json::Object;
 use crate::table::{self, number, text};
 use crate::time::clock;
@@ -17,22 +17,43 @@ struct Found {
     peak: Option<Peak>,
 }
 
-/// All six features; that one of them cannot be computed is an answer here.
-pub fn features(movie: &Movie, track: TrackId, to: Answer) -> Result<(), Failure> {
-    let track = movie.track(track).ok_or(Refusal::NoTrack)?;
-    let found: Vec<Found> = Feature::ALL.iter().map(|feature| found(movie, track, feature.code())).collect();
-    print(track, &found, to)
+/// All six features of a track, or of each; that one of them cannot be computed is an answer here.
+pub fn features(movie: &Movie, track: Option<TrackId>, to: Answer) -> Result<(), Failure> {
+    let all = of_each(movie, track, |track| {
+        let found = Feature::ALL.iter().map(|feature| found(movie, track, feature.code())).collect::<Vec<Found>>();
+        Ok((track, found))
+    })?;
+    match (track, &all[..]) {
+        (Some(_), [(track, found)]) => print(track, found, to),
+        _ if to.json => {
+            to.document(|o| o.list("tracks", &all, |o, (track, found)| track_fields(o, track, found)).map(drop))
+        }
+        (_, []) => Ok(writeln!(to.out, "the film has no tracks")?),
+        _ => all.iter().try_for_each(|(track, found)| {
+            writeln!(to.out, "track {}:", track.id)?;
+            Ok(print_table(track, found, to.out)?)
+        }),
+    }
 }
 
 /// The feature of one code; then a refusal is the command's.
 pub fn feature(movie: &Movie, track: TrackId, code: FourCC, to: Answer) -> Result<(), Failure> {
     let track = movie.track(track).ok_or(Refusal::NoTrack)?;
     let found = found(movie, track, code);
-    match (found.value, only_for(track, code)) {
-        (Err(refusal), Some(words)) => Err(Failure::Refused(refusal, hint(&format!("{code} is {words}")))),
-        (Err(refusal), None) => Err(refusal.into()),
-        (Ok(_), _) => print(track, &[found], to),
+    match found.value {
+        Err(refusal @ Refusal::NotComputed) => Err(Failure::Refused(refusal, why_not(track, code))),
+        Err(refusal) => Err(refusal.into()),
+        Ok(_) => print(track, &[found], to),
     }
+}
+
+/// Why a feature cannot be computed, where its code or the track's subtype says it.
+fn why_not(track: &Track, code: FourCC) -> Option<String> {
+    if Feature::from_code(code).is_none() {
+        let codes: Vec<String> = Feature::ALL.iter().map(|feature| feature.code().to_string()).collect();
+        return Some(format!("there is no feature {code}; there are {}", codes.join(", ")));
+    }
+    only_for(track, code).map(|words| format!("{code} is {words}"))
 }
 
 fn found(movie: &Movie, track: &Track, code: FourCC) -> Found {
@@ -54,11 +75,16 @@ fn only_for(track: &Track, code: FourCC) -> Option<&'static str> {
 
 fn print(track: &Track, all: &[Found], to: Answer) -> Result<(), Failure> {
     if to.json {
-        return to.document(|o| {
-            let fields = |o: &mut Object, found: &Found| fields(o, found, track);
-            o.put("track", track.id.0)?.list("features", all, fields).map(drop)
-        });
+        return to.document(|o| track_fields(o, track, all));
     }
+    Ok(print_table(track, all, to.out)?)
+}
+
+fn track_fields(o: &mut Object, track: &Track, all: &[Found]) -> io::Result<()> {
+    o.put("track", track.id.0)?.list("features", all, |o, found| fields(o, found, track)).map(drop)
+}
+
+fn print_table(track: &Track, all: &[Found], out: &mut dyn Write) -> io::Result<()> {
     let columns = [text("code"), text("name"), number("value"), text("meaning")];
     let row = |found: &Found| {
         let [value, meaning] = match found.value {
@@ -67,23 +93,23 @@ fn print(track: &Track, all: &[Found], to: Answer) -> Result<(), Failure> {
         };
         [found.code.to_string(), name(found.code), value, meaning]
     };
-    table::write(to.out, columns, all, row)?;
+    table::write(out, columns, all, row)?;
     for found in all {
         if let Some(peak) = &found.peak {
-            print_peak(track, found.code, peak, to.out)?;
+            writeln!(out, "peak of {}: {}", found.code, peak_in_words(track, peak))?;
         }
     }
     Ok(())
 }
 
 /// Where the peak second begins and ends.
-fn print_peak(track: &Track, code: FourCC, peak: &Peak, out: &mut dyn Write) -> io::Result<()> {
+pub(super) fn peak_in_words(track: &Track, peak: &Peak) -> String {
     let (first, last) = (peak.samples.start(), peak.samples.end());
     let (a, b) = (peak.time.start, peak.time.end);
     let [begin, end] = [a, b].map(|time| clock(time, track.scale));
     // Less than a second of media time.
     let whole = if track.total.0 < track.scale { ", the whole track" } else { "" };
-    writeln!(out, "peak of {code}: samples {first} to {last}, media time {a} to {b} ({begin} to {end}){whole}")
+    format!("samples {first} to {last}, media time {a} to {b} ({begin} to {end}){whole}")
 }
 
 fn fields(o: &mut Object, found: &Found, track: &Track) -> io::Result<()> {

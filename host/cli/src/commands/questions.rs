@@ -1,22 +1,24 @@
 //! Tracks, samples, times and profiles.
 use super::edits::{header_fields, header_in_words};
-use super::{scale, Answer, CLOCK};
+use super::{of_each, part_in_words, scale, Answer, CLOCK};
 use crate::failure::Failure;
 use crate::film::Film;
 use crate::json::{Object, Value};
 use crate::table::{self, number, text};
 use crate::time::{clock, Time};
+use crate::unproved;
 use crate::warnings;
-use chaldoref::{Movie, MovieTime, ProfileRecord, Shown, Track, TrackId};
-use std::io;
+use chaldoref::{Movie, MovieTime, ProfileRecord, Refusal, Shown, Track, TrackId};
+use std::io::{self, Write};
 
-pub fn tracks(film: &Film, movie: &Movie, to: Answer) -> Result<(), Failure> {
-    let warnings = warnings::of_tracks(film, movie);
+pub fn tracks(movie: &Movie, to: Answer) -> Result<(), Failure> {
+    let warnings = warnings::of_tracks(movie, to.fragments);
     to.tell(&warnings);
     if to.json {
         return to.document(|o| {
             o.object("movie", Some(&movie.header()), header_fields)?;
-            o.list("tracks", movie.tracks(), track_fields)?.texts("warnings", &warnings).map(drop)
+            o.list("tracks", movie.tracks(), track_fields)?.texts("warnings", &warnings)?;
+            o.object("unproved", Some(movie), unproved::fields).map(drop)
         });
     }
     let columns = [
@@ -37,7 +39,8 @@ pub fn tracks(film: &Film, movie: &Movie, to: Answer) -> Result<(), Failure> {
         [t.id.to_string(), subtype, scale, total, clock(t.total, t.scale), samples, chunks, edits, stored]
     };
     table::write(to.out, columns, movie.tracks(), row)?;
-    Ok(writeln!(to.out, "{}", header_in_words(&movie.header()))?)
+    writeln!(to.out, "{}", header_in_words(&movie.header()))?;
+    Ok(unproved::print(movie, to.out)?)
 }
 
 fn track_fields(o: &mut Object, t: &Track) -> io::Result<()> {
@@ -54,11 +57,13 @@ pub fn at(movie: &Movie, track: TrackId, time: &Time, to: Answer) -> Result<(), 
     let (time, at) = time.ask(movie, track, |time| movie.sample_at(track, time))?;
     let sample = movie.sample(track, at.sample)?;
     let scale = scale(movie, track)?;
+    let warnings = warnings::of_ctts(movie, track, "the sample is the one at that decode time");
+    to.tell(&warnings);
     if to.json {
         return to.document(|o| {
             o.put("track", track.0)?.time("media_time", time.0, scale)?.put("sample", at.sample)?;
             o.time("decode", sample.decode.0, scale)?.time("duration", sample.duration, scale)?;
-            o.put("entry", at.entry).map(drop)
+            o.put("entry", at.entry)?.texts("warnings", &warnings).map(drop)
         });
     }
     let numbers = [at.sample, sample.decode.0, sample.duration, at.entry].map(|n| n.to_string());
@@ -69,8 +74,10 @@ pub fn at(movie: &Movie, track: TrackId, time: &Time, to: Answer) -> Result<(), 
     Ok(table::write(to.out, columns, &[row], |row| row.clone())?)
 }
 
-pub fn map(movie: &Movie, track: TrackId, time: MovieTime, to: Answer) -> Result<(), Failure> {
-    let media = match movie.media_time(track, time)? {
+pub fn map(movie: &Movie, track: TrackId, asked: &Time, to: Answer) -> Result<(), Failure> {
+    let time = asked.of_movie(movie)?;
+    let shown = movie.media_time(track, time).map_err(|refusal| outside(asked, time, refusal))?;
+    let media = match shown {
         Shown::At(media) => Some(media),
         Shown::Nothing => None,
     };
@@ -93,21 +100,70 @@ pub fn map(movie: &Movie, track: TrackId, time: MovieTime, to: Answer) -> Result
     Ok(table::write(to.out, columns, &[[time.to_string(), shown, start]], |row| row.clone())?)
 }
 
+/// The refusal of a movie time; it says the units, if no one gave them.
+fn outside(asked: &Time, time: MovieTime, refusal: Refusal) -> Failure {
+    match refusal {
+        Refusal::Outside if !asked.is_plain() => {
+            Failure::Refused(refusal, Some(format!("movie time {time} was asked")))
+        }
+        other => other.into(),
+    }
+}
+
+/// A stored profile: the movie's, or a track's.
+struct Profile {
+    track: Option<TrackId>,
+    records: Vec<ProfileRecord>,
+}
+
+/// The profile of a track, or all that the film has.
 pub fn profile(movie: &Movie, track: Option<TrackId>, to: Answer) -> Result<(), Failure> {
-    let records = match track {
+    let first = match track {
         Some(track) => movie.profile(track)?,
         None => movie.movie_profile(),
     };
+    let tracks = match track {
+        Some(_) => Vec::new(),
+        None => of_each(movie, None, |track| Ok(Profile { track: Some(track.id), records: movie.profile(track.id)? }))?,
+    };
+    let first = Profile { track, records: first };
     if to.json {
         return to.document(|o| {
-            let track = track.map_or(Value::Null, |track| track.0.into());
-            o.put("track", track)?.list("records", &records, record_fields).map(drop)
+            profile_fields(o, &first)?;
+            if track.is_none() {
+                o.list("tracks", &tracks, profile_fields)?;
+            }
+            Ok(())
         });
     }
-    let columns = [number("part"), text("code"), number("value"), text("hex")];
-    let row =
-        |r: &ProfileRecord| [r.part.to_string(), r.code.to_string(), r.value.to_string(), format!("{:#010x}", r.value)];
-    Ok(table::write(to.out, columns, &records, row)?)
+    let all: Vec<Profile> = [first].into_iter().chain(tracks).collect();
+    Ok(print_profiles(&all, track, to.out)?)
+}
+
+/// Each profile that has records, under its name where several may be there; that there is none is said.
+fn print_profiles(all: &[Profile], asked: Option<TrackId>, out: &mut dyn Write) -> io::Result<()> {
+    let mut there = all.iter().filter(|profile| !profile.records.is_empty()).peekable();
+    let of =
+        |track: Option<TrackId>| track.filter(|id| id.0 > 0).map_or("the movie".into(), |id| format!("track {id}"));
+    if there.peek().is_none() {
+        let whose = asked.map_or("the film".into(), |track| of(Some(track)));
+        return writeln!(out, "{whose} has no profile");
+    }
+    let columns = [text("part"), text("code"), number("value"), text("hex")];
+    let row = |r: &ProfileRecord| {
+        [part_in_words(r.part), r.code.to_string(), r.value.to_string(), format!("{:#010x}", r.value)]
+    };
+    there.try_for_each(|profile| {
+        if asked.is_none() {
+            writeln!(out, "{}:", of(profile.track))?;
+        }
+        table::write(out, columns, &profile.records, row)
+    })
+}
+
+fn profile_fields(o: &mut Object, profile: &Profile) -> io::Result<()> {
+    let track = profile.track.map_or(Value::Null, |track| track.0.into());
+    o.put("track", track)?.list("records", &profile.records, record_fields).map(drop)
 }
 
 fn record_fields(o: &mut Object, r: &ProfileRecord) -> io::Result<()> {

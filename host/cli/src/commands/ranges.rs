@@ -1,24 +1,24 @@
 //! Stretches of film as byte ranges, and the slips written of them.
-use super::{scale, Answer};
+use super::{same_file, scale, Answer};
 use crate::failure::Failure;
 use crate::film::Film;
 use crate::input::{self, STANDARD};
 use crate::json::{Object, Value};
 use crate::output;
+use crate::sha256;
 use crate::table::{self, number};
 use crate::time::{stretch_in_words, Span};
 use crate::warnings;
 use chaldoref::{ByteRange, MediaTime, Movie, TrackId};
-use std::ffi::OsStr;
-use std::fs;
+use std::ffi::{OsStr, OsString};
 use std::io::{self, Write};
 use std::ops::Range;
-use std::os::unix::fs::MetadataExt;
+use std::path::Path;
 
 pub fn stretch(movie: &Movie, track: TrackId, span: &Span, to: Answer) -> Result<(), Failure> {
     let (time, stretch) = span.ask(movie, track, |time| movie.stretch(track, time))?;
     let scale = scale(movie, track)?;
-    let warnings = warnings::of_stretch(movie, track);
+    let warnings = warnings::of_stretch(movie, track, &time);
     warnings::tell(&warnings);
     if to.json {
         return to.document(|o| {
@@ -34,31 +34,73 @@ pub fn stretch(movie: &Movie, track: TrackId, span: &Span, to: Answer) -> Result
 /// The film's own bytes, range after range.
 pub fn stretch_bytes(film: &Film, movie: &Movie, track: TrackId, span: &Span, to: Answer) -> Result<(), Failure> {
     let (time, stretch) = span.ask(movie, track, |time| movie.stretch(track, time))?;
-    tell_units(movie, track, span, &time)?;
-    warnings::tell(&warnings::of_stretch(movie, track));
+    tell_units(movie, track, &time)?;
+    warnings::tell(&warnings::of_stretch(movie, track, &time));
     film.copy(&stretch.pairs, to.out)
 }
 
-pub fn slip(film: &Film, movie: &Movie, track: TrackId, span: &Span, to: Answer) -> Result<(), Failure> {
+pub fn slip(film: &Film, movie: &Movie, track: TrackId, span: &Span, hashed: bool, to: Answer) -> Result<(), Failure> {
     if to.json {
-        return slip_document(film, movie, track, span, to);
+        return slip_document(film, movie, track, span, hashed, to);
     }
-    let slip = slip_of(film, movie, track, span)?;
+    let (_, slip) = slip_of(film, movie, track, span)?;
     for (i, byte) in slip.iter().enumerate() {
         write!(to.out, "{}{byte:02X}", if i > 0 { " " } else { "" })?;
     }
     Ok(to.out.write_all(b"\n")?)
 }
 
-fn slip_document(film: &Film, movie: &Movie, track: TrackId, span: &Span, to: Answer) -> Result<(), Failure> {
+fn slip_document(
+    film: &Film,
+    movie: &Movie,
+    track: TrackId,
+    span: &Span,
+    hashed: bool,
+    to: Answer,
+) -> Result<(), Failure> {
     let (time, slip) = written(film, movie, track, span)?;
-    let warnings = warnings::of_stretch(movie, track);
+    let warnings = warnings::of_stretch(movie, track, &time);
     warnings::tell(&warnings);
     let scale = scale(movie, track)?;
+    let hash = hashed.then(|| film.hash(&movie.stretch(track, time.clone())?.pairs)).transpose()?;
     to.document(|o| {
         time_fields(o.put("track", track.0)?, &time, scale)?;
-        o.put("slip", Value::Hex(slip))?.texts("warnings", &warnings).map(drop)
+        o.put("slip", Value::Hex(slip))?.texts("warnings", &warnings)?;
+        hash.map_or(Ok(()), |hash| o.put("sha256", hash).map(drop))
     })
+}
+
+/// Writes the slip to the file of that name, and beside it the hash of the film's bytes, if that is asked for.
+pub fn file_slip(
+    film: &Film,
+    movie: &Movie,
+    (track, span): (TrackId, &Span),
+    (name, hashed): (&OsStr, bool),
+    to: Answer,
+) -> Result<(), Failure> {
+    let (time, slip) = slip_of(film, movie, track, span)?;
+    let (beside, film_name) = (hash_name(name), to.file);
+    if !hashed {
+        write_out(&slip, name, film_name, to)?;
+        if name != STANDARD && Path::new(&beside).exists() {
+            let words = "is of an earlier slip: write it anew with --sha256, or remove it";
+            warnings::tell(&[format!("{} {words}", input::named(&beside))]);
+        }
+        return Ok(());
+    }
+    let hash = film.hash(&movie.stretch(track, time)?.pairs)?;
+    // The hash goes first, so that no slip is left beside the hash of an earlier one.
+    put(&beside, film_name, sha256::line(&hash).as_bytes())?;
+    put(name, film_name, &slip)?;
+    warnings::say(&format!("the sha256 of the film's bytes is in {}", input::named(&beside)));
+    Ok(())
+}
+
+/// The file beside a slip that has the hash of the film's bytes.
+pub fn hash_name(slip: &OsStr) -> OsString {
+    let mut name = slip.to_owned();
+    name.push(".sha256");
+    name
 }
 
 /// The stretch that a slip is of, and the slip's bytes.
@@ -67,42 +109,39 @@ fn written(film: &Film, movie: &Movie, track: TrackId, span: &Span) -> Result<(R
     written.map_err(|failure| film.slip_refused(movie, failure))
 }
 
-/// The bytes of the slip, and on standard error what people must know of it.
-pub fn slip_of(film: &Film, movie: &Movie, track: TrackId, span: &Span) -> Result<Vec<u8>, Failure> {
+/// The stretch and the bytes of the slip, and on standard error what people must know of it.
+fn slip_of(film: &Film, movie: &Movie, track: TrackId, span: &Span) -> Result<(Range<MediaTime>, Vec<u8>), Failure> {
     let (time, slip) = written(film, movie, track, span)?;
-    tell_units(movie, track, span, &time)?;
-    warnings::tell(&warnings::of_stretch(movie, track));
-    Ok(slip)
+    tell_units(movie, track, &time)?;
+    warnings::tell(&warnings::of_stretch(movie, track, &time));
+    Ok((time, slip))
 }
 
-/// Tells the units on standard error, where they were not given and standard output has other things.
-fn tell_units(movie: &Movie, track: TrackId, span: &Span, time: &Range<MediaTime>) -> Result<(), Failure> {
-    if !span.is_plain() {
-        let words = stretch_in_words(time, scale(movie, track)?);
-        // Where standard error cannot be written, nothing is left to tell it on.
-        let _ = io::stderr().write_all(format!("chaldoref: track {track}, {words}\n").as_bytes());
-    }
+/// Tells the units and what they are by the clock on standard error, since standard output has other things.
+fn tell_units(movie: &Movie, track: TrackId, time: &Range<MediaTime>) -> Result<(), Failure> {
+    warnings::say(&format!("track {track}, {}", stretch_in_words(time, scale(movie, track)?)));
     Ok(())
 }
 
 /// Writes a slip's bytes to the file of that name, which must not be the film.
-pub fn write_out(slip: &[u8], name: &OsStr, film: &OsStr, to: Answer) -> Result<(), Failure> {
+fn write_out(slip: &[u8], name: &OsStr, film: &OsStr, to: Answer) -> Result<(), Failure> {
     if name == STANDARD {
         return Ok(to.out.write_all(slip)?);
     }
-    let written = if same_file(name, film) {
-        Err(io::Error::new(io::ErrorKind::AlreadyExists, "this is the film itself"))
-    } else {
-        output::replace(name.as_ref(), slip)
-    };
-    written.map_err(|error| Failure::NotWritten(name.to_owned(), error))
+    put(name, film, slip)
 }
 
-/// Whether a name is one of the film's, which may be standard input. A file that is not there yet is no other's.
-fn same_file(name: &OsStr, film: &OsStr) -> bool {
-    let place = |file: fs::Metadata| (file.dev(), file.ino());
-    let (one, other) = (fs::metadata(name).map(place), input::metadata(film).map(place));
-    matches!((one, other), (Ok(one), Ok(other)) if one == other)
+/// Writes a file that must not be the film, nor another film.
+fn put(name: &OsStr, film: &OsStr, bytes: &[u8]) -> Result<(), Failure> {
+    let kept = |words: &str| Err(io::Error::new(io::ErrorKind::AlreadyExists, words));
+    let written = if same_file(name, film) {
+        kept("this is the film itself")
+    } else if output::is_film(name.as_ref()) {
+        kept("this is a film, and no slip is written over it; name another OUT")
+    } else {
+        output::replace(name.as_ref(), bytes)
+    };
+    written.map_err(|error| Failure::NotWritten(name.to_owned(), error))
 }
 
 /// From where a stretch lasts, and up to where.

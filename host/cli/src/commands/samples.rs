@@ -1,6 +1,6 @@
 //! Samples of a track: one of them, or one after the other.
 use super::{scale, Answer, CLOCK};
-use crate::failure::{hint, Failure};
+use crate::failure::Failure;
 use crate::json::{document, Object};
 use crate::table::{number, text, Column, Streamed};
 use crate::time::clock;
@@ -66,7 +66,7 @@ pub fn samples(
         movie.sample(id, last).map_err(outside)?;
         if last < from {
             let words = format!("sample {from}, the first, is past sample {last}, the last");
-            return Err(Failure::Refused(Refusal::Outside, hint(&words)));
+            return Err(Failure::Refused(Refusal::Outside, Some(words)));
         }
     }
     let count = last.map_or(track.samples, |last| last - (from - 1)) as usize;
@@ -88,7 +88,7 @@ fn outside(track: &Track, refusal: Refusal) -> Failure {
         last => format!("track {} has the samples 1 to {last}", track.id),
     };
     match refusal {
-        Refusal::Outside => Failure::Refused(refusal, hint(&words)),
+        Refusal::Outside => Failure::Refused(refusal, Some(words)),
         other => other.into(),
     }
 }
@@ -126,8 +126,9 @@ fn lines(numbered: impl Iterator<Item = (u32, Sample)>, out: &mut dyn Write) -> 
 
 /// A document for each sample, the same as that of one sample.
 fn documents(track: &Track, numbered: impl Iterator<Item = (u32, Sample)>, to: Answer) -> io::Result<()> {
+    let of = to.subject();
     for (n, s) in numbered {
-        document(to.out, Some(to.file), |o| fields(o, track.id, n, &s, track.scale))?;
+        document(to.out, of, |o| fields(o, track.id, n, &s, track.scale))?;
     }
     Ok(())
 }

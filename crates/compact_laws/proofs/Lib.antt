@@ -1,0 +1,16 @@
+pub mod Sizes
+pub mod Rewritten
+pub mod Numbers
+pub mod Tables
+pub mod Bodies
+pub mod Children
+pub mod Stbl
+pub mod Everywhere
+pub mod Presence
+pub mod Leaves
+pub mod File
+pub mod Sound
+pub mod Runs
+pub mod Deals
+pub mod Fewest
+pub mod Twice

@@ -1,0 +1,1 @@
+// What compaction keeps: laws, no code.
