@@ -57,7 +57,7 @@ module _ (wide : Bool) (t : List ℕ) (r : track.Right wide t) where
 
   elsewhere-same : dataElsewhere (track.compactTrak t) ≡ dataElsewhere t
   unfolding dataElsewhere
-  elsewhere-same = rw (track.dref-same wide t h, track.stsd-same wide t r)
+  elsewhere-same = rw (track.track-same wide t r)
 
   past-same : (len : ℕ) → chunkPastEnd len (track.compactTrak t) ≡ chunkPastEnd len t
   unfolding chunkPastEnd

@@ -13,6 +13,7 @@ use rates::rate;
 use runs::least_duration;
 use track::media_total;
 use track::scale_in;
+use track::subtype_in;
 use words::all_bytes;
 ghost use mathlib.Core.Path.{_≡_};
 ghost use Prim.Native.Nat.{_<_, _^_};
@@ -39,14 +40,6 @@ pub const MVBR: u32 = 0x6d766272;
 pub const MABR: u32 = 0x6d616272;
 
 pub const SOUN: u32 = 0x736f756e;
-
-// The component subtype.
-pub fn subtype_in(trak: &[u8], p: Parts) -> u32
-    requires { ⌜ AreParts (now trak) p ⌝ }
-    ensures { λ r. ⌜ r ≡ subtypeOf (now (trak .entry)) ⌝ }
-{
-    u32_at(part_of(trak, p.hdlr), 16)
-}
 
 // The average rate of the whole media, in bits a second.
 fn whole_average(trak: &[u8], p: Parts) -> Feature

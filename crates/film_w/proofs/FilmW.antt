@@ -49,7 +49,7 @@ length-w = refl
 
 -- unfoldable only so that the lines below, by naming it, open all that it opens
 unfoldable pub accepted-w : filmRefusal bytes wholeFile ≡ 0
-unfolding beAt container piecesAfter total filledBy fitting headerOf bodyOf sizeInside sizeTop sizeIn ofKind all everywhere one atMostOne oneOffsets tables present formOf skipped versionOk holdsEntries sizeEntry filledWith sizedEntries sizeOk leafOk firstBefore ofVersion0 profileIn profileOk mdiaOf minfOf stblOf tableOf offsetTable elstOf drefOf idOf scaleOf durationOf subtypeOf profileOf moovOf movieScale movieProfile overLimits tooMany some first orElse wrongVersion wrongSize shortVideoDescription wrongTrackSize fileTooLong oneMoov wrongAtoms wrongCounts fileRows rowsOf entries runsOf perSample numbersIn wordsAfter sizes offsetWidth chunkOffsets syncs syncsAgree deals perChunk dealsContradict edits editTotal editsOk miscounted contradicts totalIn totalTooLarge otherDuration isThisFile namesThisFile allInThisFile dataElsewhere chunkPastEnd wrongEdits sameIds idIsZero movieScaleIsZero scaleIsZero moovRows moovRefusal lengthOf filmRefusal
+unfolding beAt container piecesAfter total filledBy fitting headerOf bodyOf sizeInside sizeTop sizeIn ofKind all everywhere one atMostOne oneOffsets tables present formOf skipped versionOk holdsEntries sizeEntry filledWith sizedEntries sizeOk leafOk firstBefore ofVersion0 profileIn profileOk mdiaOf minfOf stblOf tableOf offsetTable elstOf drefOf idOf scaleOf durationOf subtypeOf profileOf moovOf movieScale movieProfile overLimits tooMany some first orElse wrongVersion wrongSize shortVideoDescription wrongTrackSize fileTooLong oneMoov wrongAtoms wrongCounts fileRows rowsOf entries runsOf perSample numbersIn wordsAfter sizes offsetWidth chunkOffsets syncs syncsAgree deals perChunk dealsContradict edits editTotal editsOk miscounted contradicts totalIn totalTooLarge otherDuration isThisFile namesThisFile allInThisFile leastSize trackOf dataElsewhere chunkPastEnd wrongEdits sameIds idIsZero movieScaleIsZero scaleIsZero moovRows moovRefusal lengthOf filmRefusal
 accepted-w = refl
 
 -- the track with ID 1: that there is one, its samples, total and scale, and its lists

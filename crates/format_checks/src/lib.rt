@@ -4,17 +4,18 @@ use bigendian::after;
 use bigendian::u32_at;
 use feature_checks::is_universal;
 use features::SOUN;
-use features::subtype_in;
 use leaves::entry_size;
 use places::part_of;
 use places::trak::Parts;
+use track::least_size;
+use track::subtype_in;
 ghost use mathlib.Core.Path.{_≡_};
 ghost use mathlib.Core.Bool.{_&&_};
 ghost use lib.Dec.{eqb};
 ghost use Rattle.words.specs.Words.{listed};
 ghost use Rattle.descriptions.specs.Descriptions.{descriptions};
 ghost use Rattle.places.specs.Places.{AreParts};
-ghost use Rattle.track.specs.Track.{leastSize, trackOf};
+ghost use Rattle.track.specs.Track.{trackOf};
 ghost use Rattle.profiles.specs.Profiles.{keptOf};
 ghost use Rattle.feature_checks.specs.Records.{recordValue};
 ghost use Rattle.format_checks.specs.Formats.{namesFormat, formats, formatValues, lacksOne, isMissing, formatFault};
@@ -61,21 +62,6 @@ fn is_named(subtype: u32, profile: &[u8], format: u32) -> bool
         t = &t[16..];
     }
     false
-}
-
-// The least size of a description, and that of one of pictures.
-const LEAST_SIZE: usize = 16;
-
-const LEAST_VIDE_SIZE: usize = 36;
-
-fn least_size(subtype: u32) -> usize
-    ensures { λ r. ⌜ r ≡ leastSize subtype ⌝ }
-{
-    if subtype == kinds::VIDE {
-        LEAST_VIDE_SIZE
-    } else {
-        LEAST_SIZE
-    }
 }
 
 // Whether a description has that format.

@@ -9,7 +9,6 @@ use Rattle.bigendian.specs.BigEndian.{u16At}
 use Rattle.atoms.specs.Pieces.{pieces}
 use Rattle.atoms.specs.Tree.{all}
 use Rattle.leaves.specs.Leaves.{sizeEntry}
-use Rattle.descriptions.specs.Descriptions.{descriptions}
 
 -- "count at 12, then entries of size at least 12, type, version and flags, filling it exactly": what follows the first 16 bytes, cut by
 -- the sizes that it states. An absent dref is no bytes and has none
@@ -29,6 +28,6 @@ indexOf d = u16At d 14
 unfoldable pub namesThisFile : List (List ℕ) → ℕ → Bool
 namesThisFile rs k = not (eqb k 0) && isThisFile (getD rs (k - 1) [])
 
--- the same of every description of an stsd, used or not. In a track of pictures refusal 5 has asked for 36 bytes, so the cut is the same
-unfoldable pub allInThisFile : List ℕ → List ℕ → Bool
-allInThisFile dref stsd = all (λ d. namesThisFile (references dref) (indexOf d)) (descriptions 16 stsd)
+-- the same of every description, used or not
+unfoldable pub allInThisFile : List (List ℕ) → List (List ℕ) → Bool
+allInThisFile rs ds = all (λ d. namesThisFile rs (indexOf d)) ds

@@ -6,6 +6,7 @@ use leaves::entry_size;
 ghost use mathlib.Core.Path.{_≡_};
 ghost use mathlib.Core.List.{[]};
 ghost use lib.ListN.{getD};
+ghost use Rattle.descriptions.specs.Descriptions.{descriptions};
 ghost use Rattle.references.specs.References.{references, isThisFile, namesThisFile, allInThisFile};
 
 // The data reference at i, counted from 0; empty where there are no more than i.
@@ -45,14 +46,14 @@ fn names_this_file(dref: &[u8], index: u16) -> bool
     is_this_file(reference_at(dref, index as usize - 1))
 }
 
-// Whether every description names a data reference that means this file.
-pub fn all_in_this_file(dref: &[u8], stsd: &[u8]) -> bool
-    ensures { λ r. ⌜ r ≡ allInThisFile (now (dref .entry)) (now (stsd .entry)) ⌝ }
+// Whether every description, each of at least so many bytes, names a data reference that means this file.
+pub fn all_in_this_file(dref: &[u8], stsd: &[u8], least: usize) -> bool
+    ensures { λ r. ⌜ r ≡ allInThisFile (references (now (dref .entry))) (descriptions least (now (stsd .entry))) ⌝ }
 {
     let part = after(stsd, 16);
     let mut t = part;
     loop {
-        let z = entry_size(t, 16);
+        let z = entry_size(t, least);
         if z == 0 {
             return true;
         }

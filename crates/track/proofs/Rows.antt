@@ -21,9 +21,11 @@ use Rattle.runs.specs.Runs.{perSample}
 use Rattle.words.specs.Words.{sizes, chunkOffsets}
 use Rattle.chunks.specs.Chunks.{perChunk, endWithin}
 use Rattle.structure.specs.declared.source.Source.{Source}
-use Rattle.structure.specs.Track.{idOf, scaleOf, durationOf, mdiaOf, tableOf, offsetTable, elstOf, drefOf}
+use Rattle.structure.specs.Track.{idOf, subtypeOf, scaleOf, durationOf, mdiaOf, tableOf, offsetTable, elstOf, drefOf}
 use Rattle.edits.specs.Edits.{editTotal, editsOk}
-use Rattle.references.specs.References.{allInThisFile}
+use Rattle.descriptions.specs.Descriptions.{descriptions}
+use Rattle.references.specs.References.{references, allInThisFile}
+use Rattle.track.specs.Track.{leastSize, trackOf}
 use Rattle.track.specs.Refusals.{contradicts, totalIn, totalTooLarge, otherDuration, dataElsewhere, chunkPastEnd, wrongEdits}
 use Rattle.track.specs.TrackRows.{timedRows, trackRows}
 
@@ -119,9 +121,10 @@ pub other-by : (w : Source) (t : List ℕ) (stored total : ℕ) → stored ≡ d
 unfolding otherDuration
 other-by w t stored total es et = rw (es, et)
 
-pub elsewhere-by : (t d s : List ℕ) (r : Bool) → d ≡ drefOf t → s ≡ tableOf stsd t → r ≡ allInThisFile d s → not r ≡ dataElsewhere t
-unfolding dataElsewhere
-elsewhere-by t d s r ed es e = rw (e, ed, es)
+pub elsewhere-by : (t d s : List ℕ) (least : ℕ) (r : Bool) → d ≡ drefOf t → s ≡ tableOf stsd t → least ≡ leastSize (subtypeOf t)
+    → r ≡ allInThisFile (references d) (descriptions least s) → not r ≡ dataElsewhere t
+unfolding dataElsewhere trackOf
+elsewhere-by t d s least r ed es el e = rw (e, ed, es, el)
 
 pub chunk-past-end-by : (len : ℕ) (t x z o : List ℕ) (r : Bool) → x ≡ tableOf stsc t → z ≡ tableOf stsz t → o ≡ offsetTable t
     → r ≡ endWithin len (perChunk x (u32At o 12)) (chunkOffsets o) (sizes z) → not r ≡ chunkPastEnd len t

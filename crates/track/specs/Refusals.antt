@@ -4,15 +4,16 @@ use mathlib.Core.List.{List, [], _∷_}
 use mathlib.Core.Bool.{Bool, false, not, _&&_, _||_}
 use lib.ListN.{length}
 use lib.Dec.{ltb, eqb}
-use Rattle.atoms.specs.Kinds.{stts, ctts, stsc, stsz, stss, stsd}
+use Rattle.atoms.specs.Kinds.{stts, ctts, stsc, stsz, stss}
 use Rattle.structure.specs.declared.source.Source.{Source}
-use Rattle.structure.specs.Track.{scaleOf, durationOf, tableOf, offsetTable, elstOf, drefOf, samplesOf, chunksOf, descriptionsOf}
+use Rattle.structure.specs.Track.{scaleOf, durationOf, tableOf, offsetTable, elstOf, samplesOf, chunksOf, descriptionsOf}
 use Rattle.lists.specs.Lists.{sum, Run}
 use Rattle.runs.specs.Runs.{runsOf, perSample}
 use Rattle.words.specs.Words.{sizes, chunkOffsets, syncsAgree}
 use Rattle.chunks.specs.Chunks.{perChunk, dealsContradict, endWithin}
 use Rattle.edits.specs.Edits.{editTotal, editsOk}
 use Rattle.references.specs.References.{allInThisFile}
+use Rattle.track.specs.Track.{trackOf}
 
 abbrev pub anyEmpty : List Run → Bool
 anyEmpty [] = false
@@ -50,9 +51,10 @@ totalTooLarge t = ltb 4294967295 (totalIn t) || ltb 4294967295 (editTotal (elstO
 unfoldable pub otherDuration : Source → List ℕ → Bool
 otherDuration w t = w .strict && not (eqb (durationOf t) (totalIn t))
 
--- 19, document 02: "data elsewhere or no such entry", "judged after 11 and before 12"
+-- 19, document 02: "data elsewhere or no such entry", "judged after 11 and before 12": of the descriptions and data references that the
+-- track's record holds
 unfoldable pub dataElsewhere : List ℕ → Bool
-dataElsewhere t = not (allInThisFile (drefOf t) (tableOf stsd t))
+dataElsewhere t = not (allInThisFile (trackOf t .references) (trackOf t .descriptions))
 
 -- 12: "a chunk's offset plus the sizes of its samples passes the file's end"
 unfoldable pub chunkPastEnd : ℕ → List ℕ → Bool

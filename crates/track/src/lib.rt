@@ -1,4 +1,5 @@
 // The refusals of a track, 7 to 13 and 19, from the body of its trak.
+use atoms::kinds;
 use bigendian::u32_at;
 use chunk_checks::deals_samples;
 use chunk_ends::chunks_end_within;
@@ -21,11 +22,12 @@ ghost use lib.ListN.{length};
 ghost use lib.Dec.{ltb, eqb};
 ghost use Rattle.structure.specs.ByTracks.{ofTrack};
 ghost use Rattle.atoms.specs.Kinds.{stts};
-ghost use Rattle.structure.specs.Track.{idOf, scaleOf, tableOf, samplesOf};
+ghost use Rattle.structure.specs.Track.{idOf, subtypeOf, scaleOf, tableOf, samplesOf};
 ghost use Rattle.places.specs.Places.{AreParts};
 ghost use Rattle.runs.specs.Runs.{runsOf};
 ghost use Rattle.runs.specs.Computed.{counting};
 ghost use Rattle.edits.specs.Edits.{editTotal};
+ghost use Rattle.track.specs.Track.{leastSize};
 ghost use Rattle.track.specs.Refusals.{contradicts, totalIn, otherDuration, dataElsewhere};
 ghost use Rattle.track.specs.TrackRows.{timedRows, trackRows};
 
@@ -90,6 +92,30 @@ pub fn scale_in(trak: &[u8], p: Parts) -> u32
     u32_at(part_of(trak, p.mdhd), 20)
 }
 
+// The component subtype.
+pub fn subtype_in(trak: &[u8], p: Parts) -> u32
+    requires { ⌜ AreParts (now trak) p ⌝ }
+    ensures { λ r. ⌜ r ≡ subtypeOf (now (trak .entry)) ⌝ }
+{
+    u32_at(part_of(trak, p.hdlr), 16)
+}
+
+// The least size of a description, and that of one of pictures.
+const LEAST_SIZE: usize = 16;
+
+const LEAST_VIDE_SIZE: usize = 36;
+
+// The least size of a description in a track of that subtype.
+pub fn least_size(subtype: u32) -> usize
+    ensures { λ r. ⌜ r ≡ leastSize subtype ⌝ }
+{
+    if subtype == kinds::VIDE {
+        LEAST_VIDE_SIZE
+    } else {
+        LEAST_SIZE
+    }
+}
+
 // Whether mdhd states another duration than the total, where that is asked for.
 fn has_other_duration(trak: &[u8], p: Parts, total: u32, source: Source) -> bool
     requires { ⌜ (AreParts (now trak) p) × (total ≡ totalIn (now trak)) ⌝ }
@@ -104,8 +130,9 @@ fn has_data_elsewhere(trak: &[u8], p: Parts) -> bool
     requires { ⌜ AreParts (now trak) p ⌝ }
     ensures { λ r. ⌜ r ≡ dataElsewhere (now (trak .entry)) ⌝ }
 {
+    let least = least_size(subtype_in(trak, p));
     let dref = part_of(trak, p.dref);
-    !all_in_this_file(dref, part_of(trak, p.stsd))
+    !all_in_this_file(dref, part_of(trak, p.stsd), least)
 }
 
 // 10 to 13 and 19, in the order of judging, of a track whose durations total `total`.

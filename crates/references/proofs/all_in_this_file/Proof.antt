@@ -14,6 +14,7 @@ use Rattle.bigendian.proofs.Parts.{rest}
 use Rattle.atoms.specs.Pieces.{pieces}
 use Rattle.atoms.specs.Tree.{all}
 use Rattle.leaves.specs.Leaves.{sizeEntry}
+use Rattle.descriptions.specs.Descriptions.{descriptions}
 use Rattle.references.specs.References.{references, indexOf, namesThisFile, allInThisFile}
 use Rattle.references.proofs.Cut.{all-none, all-next, all-stop}
 use Rattle.references.proofs.all_in_this_file.Statement.{statement}
@@ -24,17 +25,17 @@ abbrev Names : List ℕ → List ℕ → Bool
 Names dref d = namesThisFile (references dref) (indexOf d)
 
 abbrev Inv-loop : tie.InvT-loop
-Inv-loop dref stsd t₀ t = all (Names dref) (pieces (sizeEntry 16) t) ≡ allInThisFile dref stsd
+Inv-loop dref stsd least t₀ t = all (Names dref) (pieces (sizeEntry least) t) ≡ allInThisFile (references dref) (descriptions least stsd)
 
 abbrev μ-loop : tie.MeasureT-loop
-μ-loop dref stsd t₀ t = length t
+μ-loop dref stsd least t₀ t = length t
 
 after-requires : tie.Need-after-requires Inv-loop μ-loop
 after-requires c κs = tt
 
 loop-holds : tie.Need-loop-holds Inv-loop μ-loop
 unfolding allInThisFile
-loop-holds c = ap (λ t. all (Names (now (c .before .before .before .args .dref))) (pieces (sizeEntry 16) t)) (c .after .ensures)
+loop-holds c = ap (λ t. all (Names (now (c .before .before .before .args .dref))) (pieces (sizeEntry (c .before .before .before .args .least)) t)) (c .after .ensures)
 
 entry-size-requires : tie.Need-entry-size-requires Inv-loop μ-loop
 entry-size-requires c κs = tt
@@ -42,7 +43,7 @@ entry-size-requires c κs = tt
 returns : tie.Need-returns Inv-loop μ-loop
 returns c =
     let l = c .before .before .loop in
-    sym (all-none (sizeEntry 16) (now (l .t)) (c .before .entry-size .ensures .0) _ (c .if1 .taken)) ∙ l .inv
+    sym (all-none (sizeEntry _) (now (l .t)) (c .before .entry-size .ensures .0) _ (c .if1 .taken)) ∙ l .inv
 
 slice-aggregate-d : tie.Need-slice-aggregate-d Inv-loop μ-loop
 slice-aggregate-d c = sym (length-take-le _ _ (c .before .before .entry-size .ensures .1))
@@ -60,7 +61,7 @@ returns-2 c =
     let l = b .before .before .loop in
     let d = b .before .entry-size in
     let n = c .before .names-this-file .ensures ∙ ap (namesThisFile _) (u .u16-at .ensures) in
-    sym (all-stop (sizeEntry 16) (now (l .t)) (d .ensures .0) _ (b .if1 .left) (d .ensures .1) (sym n ∙ not-true _ (c .if2 .taken))) ∙ l .inv
+    sym (all-stop (sizeEntry _) (now (l .t)) (d .ensures .0) _ (b .if1 .left) (d .ensures .1) (sym n ∙ not-true _ (c .if2 .taken))) ∙ l .inv
 
 sub-t : tie.Need-sub-t Inv-loop μ-loop
 sub-t c = search needs
@@ -88,7 +89,7 @@ loop-again c =
     let t = now (l .t) in
     let n = k .before .names-this-file .ensures ∙ ap (namesThisFile _) (u .u16-at .ensures) in
     rw (rest (d .result) t)
-    (sym (all-next (sizeEntry 16) t (d .ensures .0) _ (b .if1 .left) (d .ensures .1) (sym n ∙ not-false _ (k .if2 .left))) ∙ l .inv)
+    (sym (all-next (sizeEntry _) t (d .ensures .0) _ (b .if1 .left) (d .ensures .1) (sym n ∙ not-false _ (k .if2 .left))) ∙ l .inv)
 
 pub all-in-this-file-spec : {M : Type 1} → statement M
 all-in-this-file-spec =

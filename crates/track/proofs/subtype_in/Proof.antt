@@ -1,12 +1,12 @@
--- `features::subtype_in` meets its contract, by what the calls ensure.
+-- `track::subtype_in` meets its contract, by what the calls ensure.
 -- Assumes nothing.
 use Prim.Native.Nat.{ℕ}
 use mathlib.Core.Path.{ap, _∙_}
 use mathlib.Core.List.{List}
 use Rattle.bigendian.specs.BigEndian.{u32At}
 use Rattle.structure.specs.Track.{subtypeOf}
-use Rattle.features.proofs.subtype_in.Statement.{statement}
-use Rattle.features.proofs.subtype_in.Tie as tie
+use Rattle.track.proofs.subtype_in.Statement.{statement}
+use Rattle.track.proofs.subtype_in.Tie as tie
 
 part-of-requires : tie.Need-part-of-requires
 part-of-requires c κs = tt

@@ -1,9 +1,9 @@
--- `format_checks::least_size` meets its contract: the test is the one of the definition.
+-- `track::least_size` meets its contract: the test is the one of the definition.
 -- Assumes nothing.
 use borrow.Author.Tests.{ne-eqb}
 use Rattle.track.specs.Track.{leastSize}
-use Rattle.format_checks.proofs.least_size.Statement.{statement}
-use Rattle.format_checks.proofs.least_size.Tie as tie
+use Rattle.track.proofs.least_size.Statement.{statement}
+use Rattle.track.proofs.least_size.Tie as tie
 
 returns : tie.Need-returns
 unfolding leastSize
