@@ -2,7 +2,6 @@
 pub mod parts;
 
 use bigendian::u32_at;
-use chunks::ChunkCursor;
 use parts::start_in;
 use places::part_of;
 use places::tables::Tables;
@@ -16,7 +15,8 @@ use step_moves::step_in;
 use structure::source::Source;
 ghost use Rattle.stepping.specs.Stepping.{Starts, Steps};
 
-// The tables of the track, the number of its samples, and the places before the next of them.
+// The tables of the track, the number of its samples, and the places before the next of them. The sizes of headers and entries by which a step goes are
+// associated constants of the position (`Moving`) and of its cursors (`RunCursor`, `ChunkCursor`).
 pub struct Stepper {
     pub tables: Tables,
     pub samples: u32,
@@ -36,20 +36,6 @@ pub enum Step {
 }
 
 impl Stepper {
-    // Document 01: "header and entry sizes as associated constants": the head of every table but stsz, and that of stsz; an entry of stts or ctts, of
-    // stsc, of stsz, stco or stss, and of co64. They are those of the crates that step through the tables.
-    pub const HEAD: usize = Moving::HEAD;
-
-    pub const SIZES_HEAD: usize = words::SIZES_HEAD;
-
-    pub const RUN: usize = Moving::RUN;
-
-    pub const DEAL: usize = ChunkCursor::ENTRY;
-
-    pub const WORD: usize = Moving::WORD;
-
-    pub const LONG: usize = words::LONG;
-
     // Before sample n of a track, numbered from 1.
     pub fn at(lent: &[u8], source: Source, id: u32, n: u32) -> Start
         ensures { λ r. ⌜ Starts (now (lent .entry)) source id n r ⌝ }
