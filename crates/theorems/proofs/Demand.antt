@@ -22,15 +22,17 @@ use Rattle.track.specs.Track.{trackOf}
 use Rattle.track.proofs.Agreed.{agreed-tables}
 use Rattle.questions.specs.Asked.{askRefusal, trackAsked}
 use Rattle.questions.proofs.Asking.{asked}
-use Rattle.questions.specs.Samples.{sampleOf, sampleAnswer}
+use Rattle.movie.proofs.Answers.{gives}
+use Rattle.questions.specs.Samples.{sampleOf, sampleRefusal, sampleAsked, sampleAnswer, sampleZeros, sampleNumbers, Samples}
 use Rattle.time_questions.specs.Times.{atEntry, atAnswer}
 use Rattle.pairs.proofs.Counting.{touched-length}
 use Rattle.stretch.specs.Stretches.{firstIn, pastIn, pairsIn, bytesIn, stretchPairs}
 use Rattle.questions.specs.declared.samples.Sample.{Sample}
-use Rattle.questions.specs.declared.samples.SampleAnswer.the-variants.{Found}
+use Rattle.questions.specs.declared.samples.SampleAnswer.{SampleAnswer}
+use Rattle.questions.specs.declared.samples.SampleAnswer.the-variants.{Found, Refused}
 use Rattle.time_questions.specs.declared.NumberAnswer.the-variants as number
 use Rattle.theorems.specs.Entries.{mediaTotal}
-use Rattle.theorems.specs.Demand.{HasTime, partIn, sizeAnswered, howMany, added, NoZeroDuration, OfTrack, Demand3}
+use Rattle.theorems.specs.Demand.{HasTime, partIn, sizeAnswered, howMany, AllSamples, added, NoZeroDuration, OfTrack, Demand3}
 use Rattle.theorems.proofs.Added.{sizes-added, parts-added, cut-at}
 use Rattle.chunks.proofs.Dealt.{first-chunk, first-offset, next-offset}
 use Rattle.theorems.proofs.Dealt.{gets-of, gets-only, first-low}
@@ -72,11 +74,18 @@ has-of : (s : List ℕ) (id i t : ℕ) → Holds (tablesAsked s id .durations) t
 unfolding sampleOf
 has-of s id i t h = record { from = h .from; to = h .to }
 
+-- the sample with an index keeps the promise of the question
+found-kept : (s : List ℕ) (source : Source) (id : ℕ) (e : askRefusal s source id ≡ 0) (i : ℕ) → i < samplesOf (trackAsked s id)
+    → Samples s source id (suc i) (Found (sampleOf (tablesAsked s id) i))
+unfolding sampleNumbers
+found-kept s source id e i h =
+    gives sampleNumbers sampleZeros Refused (λ k. refl) (sampleAsked s id (suc i)) (sampleRefusal s source id (suc i)) _ (sym (found-is s source id e (suc i) i refl h))
+
 -- the duration of an index is not zero where it stands at m and no answer there is of zero duration
 lasting : (s : List ℕ) (source : Source) (id m : ℕ) (e : askRefusal s source id ≡ 0) (i : ℕ) → i < samplesOf (trackAsked s id) → NoZeroDuration s source id m → before (tablesAsked s id .durations) i ≡ m
     → 0 < getD (tablesAsked s id .durations) i 0
 unfolding sampleOf
-lasting s source id m e i h all w = omega (arith, all (suc i) (sampleOf (tablesAsked s id) i) (found-is s source id e (suc i) i refl h) w)
+lasting s source id m e i h all w = omega (arith, all (suc i) (sampleOf (tablesAsked s id) i) (found-kept s source id e i h) w)
 
 -- ---- stretches
 
@@ -123,10 +132,12 @@ module _ (s : List ℕ) (source : Source) (id : ℕ) (e : askRefusal s source id
     each : (j : ℕ) → j < r .n → sampleAnswer s source id (first + j) ≡ Found (sampleOf (tablesAsked s id) (r .i + j))
     each j h = found-is s source id e (first + j) (r .i + j) (omega (arith, r .begin)) (omega (arith, r .few))
 
-    sizes-fit : bytesIn (tablesAsked s id) a b ≡ added s source id sizeAnswered first last
+    sizes-fit : (rs : ℕ → SampleAnswer) → AllSamples s source id rs first last → bytesIn (tablesAsked s id) a b ≡ added rs sizeAnswered first last
     unfolding sampleOf bytesIn firstIn pastIn
-    sizes-fit = rw (r .count, ← r .here, ← r .there)
-        (sym (sizes-added (tablesAsked s id .sizes) (λ j. sizeAnswered (sampleAnswer s source id (first + j))) (r .i) (r .n) (λ j h. ap sizeAnswered (each j h))))
+    sizes-fit rs keep =
+        rw (r .count, ← r .here, ← r .there)
+        (sym (sizes-added (tablesAsked s id .sizes) (λ j. sizeAnswered (rs (first + j))) (r .i) (r .n)
+        (λ j h. ap sizeAnswered (keep (first + j) (omega arith) (omega (arith, r .count)) .answer ∙ each j h))))
 
 -- a stretch cut at the start of the sample with index i
 cut-fits : (s : List ℕ) (id : ℕ) (a m b : MediaTime) (i : ℕ)
@@ -154,14 +165,14 @@ pairs-fit s id l a b h =
 
 -- the parts of all samples
 all-parts : (s : List ℕ) (source : Source) (id : ℕ) → askRefusal s source id ≡ 0 → Listed s id → (a b : ℕ) → a < b → b ≤ sum (tablesAsked s id .durations)
-    → added s source id (partIn a b) 1 (samplesOf (trackAsked s id)) ≡ b - a
+    → (rs : ℕ → SampleAnswer) → AllSamples s source id rs 1 (samplesOf (trackAsked s id)) → added rs (partIn a b) 1 (samplesOf (trackAsked s id)) ≡ b - a
 unfolding sampleOf
-all-parts s source id e l a b o w =
+all-parts s source id e l a b o w rs keep =
     let n = samplesOf (trackAsked s id) in
     let c : suc n - 1 ≡ n = omega arith in
     rw c
-    (parts-added (tablesAsked s id .durations) (λ j. partIn a b (sampleAnswer s source id (1 + j))) a b n (omega arith) w (l .timed)
-    (λ j h. ap (partIn a b) (found-is s source id e (1 + j) j (omega arith) h)))
+    (parts-added (tablesAsked s id .durations) (λ j. partIn a b (rs (1 + j))) a b n (omega arith) w (l .timed)
+    (λ j h. ap (partIn a b) (keep (1 + j) (omega arith) (omega arith) .answer ∙ found-is s source id e (1 + j) j (omega arith) h)))
 
 -- ---- the claim
 
@@ -209,27 +220,27 @@ module _ (s t : List ℕ) (source : Source) (e : askRefusal s source (idOf t) �
       record {
         asked = e;
         itself = itself;
-        found = λ n lo hi. (sampleOf (tablesAsked s id) (n - 1), found-is s source id e n (n - 1) (omega arith) (omega (arith, many)));
-        none = none-is s source id e;
-        past = λ n h. past-is s source id e n (omega (arith, many));
+        found = λ n lo hi r q. (sampleOf (tablesAsked s id) (n - 1), q .answer ∙ found-is s source id e n (n - 1) (omega arith) (omega (arith, many)));
+        none = λ r q. q .answer ∙ none-is s source id e;
+        past = λ n h r q. q .answer ∙ past-is s source id e n (omega (arith, many));
         counted = sym (count-is t shape) ∙ ap length (sym durations-are) ∙ l .timed ∙ many;
         starts = λ x q.
-            let u = found-known s source id e 1 x q in
+            let u = found-known s source id e 1 x (sym (q .answer)) in
             let v : u .index ≡ 0 = omega (arith, u .number) in
             omega (arith, decode-is s id 1 x u, ap (before ds) v);
         follows = λ n x y p q.
-            let u = found-known s source id e n x p in
-            let v = found-known s source id e (suc n) y q in
+            let u = found-known s source id e n x (sym (p .answer)) in
+            let v = found-known s source id e (suc n) y (sym (q .answer)) in
             let w : v .index ≡ suc (u .index) = omega (arith, u .number, v .number) in
             omega (arith, decode-is s id n x u, duration-is s id n x u, decode-is s id (suc n) y v, ap (before ds) w, places.before-suc ds (u .index));
         lasts = λ n x q.
-            let u = found-known s source id e n x q in
+            let u = found-known s source id e n x (sym (q .answer)) in
             let k = entry-counts t shape n (u .index) (u .number) (omega (arith, u .low, l .timed, ap length durations-are)) in
             (k .0, k .1, duration-is s id n x u ∙ ap (λ (y : List ℕ). getD y (u .index) 0) durations-are ∙ k .2);
         sized = λ n x q.
-            let u = found-known s source id e n x q in
+            let u = found-known s source id e n x (sym (q .answer)) in
             size-is s id n x u ∙ ap (λ (y : List ℕ). getD y (u .index) 0) sizes-are ∙ size-at t shape n (u .index) (u .number) (omega (arith, u .low, many));
-        named = λ time h.
+        named = λ time h r kept.
             let i = holder ds (time .0) in
             let k = places.holder-holds ds (time .0) (omega (arith, total)) in
             let low : i < samplesOf (trackAsked s id) = omega (arith, places.holds-below ds (time .0) i k .1, l .timed) in
@@ -238,19 +249,17 @@ module _ (s t : List ℕ) (source : Source) (e : askRefusal s source (idOf t) �
             let g : atEntry s id time ≡ suc (c .0) = entry-is s id time ∙ ap (λ u. entryOf (runsOf (tableOf stts u)) i) itself ∙ c .3 in (
               suc i,
               c .0,
-              sampleOf (tablesAsked s id) i,
-              at-is s source id e time (omega (arith, total)) ∙ ap (number.Number (suc i)) g,
+              kept .answer ∙ at-is s source id e time (omega (arith, total)) ∙ ap (number.Number (suc i)) g,
               c .1,
-              f,
-              has-of s id i (time .0) k,
+              λ q v. (sampleOf (tablesAsked s id) i, v .answer ∙ f, has-of s id i (time .0) k),
               λ m y q w.
-                  let u = found-known s source id e m y q in
+                  let u = found-known s source id e m y (sym (q .answer)) in
                   u .number ∙ ap suc (places.holder-only ds (time .0) (u .index) (holds-known s id m y u (time .0) w)),
             );
         outside = λ time h. (
-          at-outside s source id e time (omega (arith, total)),
+          λ r v. v .answer ∙ at-outside s source id e time (omega (arith, total)),
           λ m y q w.
-              let u = found-known s source id e m y q in
+              let u = found-known s source id e m y (sym (q .answer)) in
               omega (arith, total, places.holds-below ds (time .0) (u .index) (holds-known s id m y u (time .0) w) .0),
         );
         perChunk = ps;
@@ -262,27 +271,27 @@ module _ (s t : List ℕ) (source : Source) (e : askRefusal s source (idOf t) �
           all = l .dealt ∙ many;
         };
         in-chunk = λ n x q.
-            let u = found-known s source id e n x q in
+            let u = found-known s source id e n x (sym (q .answer)) in
             gets-of ps (u .index) (holder ps (u .index)) (x .chunk) n (chunk-is s id n x u) (u .number) (places.holder-holds ps (u .index) (omega (arith, u .low, l .dealt)));
-        gets = λ c n g.
+        gets = λ c n g r v.
             let o : n ≡ suc (n - 1) = omega (arith, g .after) in
             let f = found-is s source id e n (n - 1) o (omega (arith, g .after, g .upto, places.before-le ps c, l .dealt)) in
             let u = found-known s source id e n (sampleOf (tablesAsked s id) (n - 1)) f in
-            (sampleOf (tablesAsked s id) (n - 1), f, chunk-is s id n (sampleOf (tablesAsked s id) (n - 1)) u ∙ sym (gets-only ps (u .index) c n (u .number) g));
-        first-in = λ c lo hi.
+            (sampleOf (tablesAsked s id) (n - 1), v .answer ∙ f, chunk-is s id n (sampleOf (tablesAsked s id) (n - 1)) u ∙ sym (gets-only ps (u .index) c n (u .number) g));
+        first-in = λ c lo hi r q.
             let k = l .some (c - 1) (omega (arith, l .chunks, chunked)) in
             let i = before ps (c - 1) in
             let f = found-is s source id e (suc i) i refl (omega (arith, first-low ps (c - 1) k, l .dealt)) in
             let u = found-known s source id e (suc i) (sampleOf (tablesAsked s id) i) f in
             let v : u .index ≡ i = omega (arith, u .number) in (
               sampleOf (tablesAsked s id) i,
-              f,
+              q .answer ∙ f,
               chunk-is s id (suc i) (sampleOf (tablesAsked s id) i) u ∙ rw v (omega (arith, first-chunk ps (c - 1) k)),
               offset-is s id (suc i) (sampleOf (tablesAsked s id) i) u ∙ rw v (first-offset ps (c - 1) k cs zs) ∙ ap (λ (y : List ℕ). getD y (c - 1) 0) offsets-are ∙ offset-at t shape c lo hi,
             );
         next-in = λ n x y p q same.
-            let u = found-known s source id e n x p in
-            let v = found-known s source id e (suc n) y q in
+            let u = found-known s source id e n x (sym (p .answer)) in
+            let v = found-known s source id e (suc n) y (sym (q .answer)) in
             let w : v .index ≡ suc (u .index) = omega (arith, u .number, v .number) in
             let g : holder ps (u .index) ≡ holder ps (suc (u .index)) = omega (arith, same, chunk-is s id n x u, chunk-is s id (suc n) y v, ap (holder ps) w) in
             omega (
@@ -293,21 +302,22 @@ module _ (s t : List ℕ) (source : Source) (e : askRefusal s source (idOf t) �
               ap (offsetOf ps cs zs) w,
               next-offset ps cs zs (u .index) (omega (arith, u .low, l .dealt)) (sym g),
             );
-        parts = λ a b o w. ap (added s source id (partIn a b) 1) (sym many) ∙ all-parts s source id e l a b o (omega (arith, total));
+        parts = λ a b o w rs keep.
+            ap (added rs (partIn a b) 1) (sym many) ∙ all-parts s source id e l a b o (omega (arith, total)) rs (λ n lo hi. keep n lo (omega (arith, many)));
         answered = λ a b o w. (
           length (stretchPairs s id a b),
           bytesIn (tablesAsked s id) a b,
-          λ room h. pairs-is s source id e a b room o (omega (arith, total)) (omega (arith, flat-length (stretchPairs s id a b))),
-          λ room h. short-is s source id e a b room o (omega (arith, total)) (omega (arith, flat-length (stretchPairs s id a b))),
+          λ room h r after v. v .answer ∙ pairs-is s source id e a b room o (omega (arith, total)) (omega (arith, flat-length (stretchPairs s id a b))),
+          λ room h r after v. v .answer ∙ short-is s source id e a b room o (omega (arith, total)) (omega (arith, flat-length (stretchPairs s id a b))),
         );
-        refused = λ a b n room. no-stretch s source id e a b (λ w. n (w .0, omega (arith, w .1, total))) room;
-        pairs = λ a b z room k total′ first last i j x y g d p q f h.
-            let r = pairs-known s source id a b room k total′ g in
-            let v = at-known s source id e a first i p in
-            let w = at-known s source id e z last j q in
+        refused = λ a b n room r after v. v .answer ∙ no-stretch s source id e a b (λ w. n (w .0, omega (arith, w .1, total))) room;
+        pairs = λ a b z room after k total′ first last i j x y g d p q f h.
+            let r = pairs-known s source id a b room k total′ (sym (g .answer)) in
+            let v = at-known s source id e a first i (sym (p .answer)) in
+            let w = at-known s source id e z last j (sym (q .answer)) in
             let t : holder ds (z .0) ≡ holder ds (b .0 - 1) = ap (holder ds) d in
-            let u₁ = found-known s source id e first x f in
-            let u₂ = found-known s source id e last y h in
+            let u₁ = found-known s source id e first x (sym (f .answer)) in
+            let u₂ = found-known s source id e last y (sym (h .answer)) in
             let i₁ : u₁ .index ≡ holder ds (a .0) = omega (arith, u₁ .number, v .1) in
             let i₂ : u₂ .index ≡ holder ds (b .0 - 1) = omega (arith, u₂ .number, w .1, t) in
             omega (
@@ -319,20 +329,21 @@ module _ (s t : List ℕ) (source : Source) (e : askRefusal s source (idOf t) �
               chunk-is s id last y u₂,
               ap (holder ps) i₂,
             );
-        bytes = λ a b z room k total first last i j g d p q.
-            let r = pairs-known s source id a b room k total g in
-            r .total ∙ sizes-fit s source id e l a b first last (run-of s source id e l a b z first last i j (r .span .order) (r .span .within) d p q);
-        cut = λ a m b pos n x f d o w room₁ room₂ room k₁ k₂ k bytes₁ bytes₂ bytes p q r.
-            let u = found-known s source id e n x f in
+        bytes = λ a b z room after k total first last i j g d p q rs keep.
+            let r = pairs-known s source id a b room k total (sym (g .answer)) in
+            let m = run-of s source id e l a b z first last i j (r .span .order) (r .span .within) d (sym (p .answer)) (sym (q .answer)) in
+            r .total ∙ sizes-fit s source id e l a b first last m rs keep;
+        cut = λ a m b pos n x f d o w room₁ room₂ room after₁ after₂ after k₁ k₂ k bytes₁ bytes₂ bytes p q r.
+            let u = found-known s source id e n x (sym (f .answer)) in
             let all : (i : ℕ) → i < length ds → before ds i ≡ before ds (u .index) → 0 < getD ds i 0 = λ i h q′.
             lasting s source id (m .0) e i (omega (arith, l .timed)) pos (q′ ∙ sym (d ∙ decode-is s id n x u)) in
             let c = cut-fits s id a m b (u .index) all (omega (arith, u .low, l .timed)) (d ∙ decode-is s id n x u) o w in
             omega (
               arith,
               c,
-              pairs-known s source id a m room₁ k₁ bytes₁ p .total,
-              pairs-known s source id m b room₂ k₂ bytes₂ q .total,
-              pairs-known s source id a b room k bytes r .total,
+              pairs-known s source id a m room₁ k₁ bytes₁ (sym (p .answer)) .total,
+              pairs-known s source id m b room₂ k₂ bytes₂ (sym (q .answer)) .total,
+              pairs-known s source id a b room k bytes (sym (r .answer)) .total,
             );
       }
 

@@ -1,4 +1,6 @@
--- Demand 3 as one claim, of the answers that the questions give of every track of a film that is not refused; w is the source of the film s.
+-- Demand 3 as one claim, of every track of a film that is not refused; w is the source of the film s. It speaks of any results that keep the
+-- promises of the questions: `Samples` of the sample question, `SampleAt` of the time question, `Stretches` of the stretch question. Those are the
+-- contracts of the functions, so the claim holds of what the functions return.
 use Prim.Native.Nat.{ℕ, suc, _+_, _*_, _-_, _≤_, _<_}
 use mathlib.Core.Path.{_≡_}
 use mathlib.Core.List.{List, [], map}
@@ -10,13 +12,15 @@ use Rattle.structure.specs.Track.{idOf, samplesOf, chunksOf}
 use Rattle.structure.specs.Movie.{moovOf, tracksOf}
 use Rattle.movie.specs.Refusals.{filmRefusal}
 use Rattle.questions.specs.Asked.{askRefusal, trackAsked}
-use Rattle.questions.specs.Samples.{sampleAnswer}
-use Rattle.time_questions.specs.Times.{atAnswer}
-use Rattle.stretch.specs.Stretches.{stretchAnswer}
+use Rattle.questions.specs.Samples.{Samples}
+use Rattle.time_questions.specs.Times.{SampleAt}
+use Rattle.stretch.specs.Stretches.{Stretches}
 use Rattle.questions.specs.declared.samples.Sample.{Sample}
 use Rattle.questions.specs.declared.samples.SampleAnswer.{SampleAnswer}
 use Rattle.questions.specs.declared.samples.SampleAnswer.the-variants.{Found, Refused}
+use Rattle.time_questions.specs.declared.NumberAnswer.{NumberAnswer}
 use Rattle.time_questions.specs.declared.NumberAnswer.the-variants as number
+use Rattle.stretch.specs.declared.StretchAnswer.{StretchAnswer}
 use Rattle.stretch.specs.declared.StretchAnswer.the-variants as stretch
 use Rattle.theorems.specs.Entries.{sttsEntries, sampleDuration, countedBy, mediaTotal, stscEntries, firstChunk, samplesPerChunk}
 use Rattle.theorems.specs.Entries.{chunkOffset, sampleSize}
@@ -68,13 +72,17 @@ sizeAnswered (Refused r) = 0
 abbrev pub howMany : ℕ → ℕ → ℕ
 howMany first last = suc last - first
 
--- what f takes from the answers of the samples with these numbers, added
-abbrev pub added : List ℕ → Source → ℕ → (SampleAnswer → ℕ) → ℕ → ℕ → ℕ
-added s w id f first last = sum (map (λ i. f (sampleAnswer s w id (first + i))) (upTo (howMany first last)))
+-- the result of each number from first to last keeps the promise of the sample question
+abbrev pub AllSamples : List ℕ → Source → ℕ → (ℕ → SampleAnswer) → ℕ → ℕ → Type 0
+AllSamples s w id rs first last = (n : ℕ) → first ≤ n → n ≤ last → Samples s w id n (rs n)
+
+-- what f takes from the results of these numbers, added
+abbrev pub added : (ℕ → SampleAnswer) → (SampleAnswer → ℕ) → ℕ → ℕ → ℕ
+added rs f first last = sum (map (λ i. f (rs (first + i))) (upTo (howMany first last)))
 
 -- no sample of zero duration stands at the time m
 abbrev pub NoZeroDuration : List ℕ → Source → ℕ → ℕ → Type 0
-NoZeroDuration s w id m = (n : ℕ) (x : Sample) → sampleAnswer s w id n ≡ Found x → x .decode ≡ m → 0 < x .duration
+NoZeroDuration s w id m = (n : ℕ) (x : Sample) → Samples s w id n (Found x) → x .decode ≡ m → 0 < x .duration
 
 -- ---- the claim, of the track whose trak has the body t
 
@@ -83,69 +91,72 @@ pub record OfTrack (s t : List ℕ) (w : Source) : Type 0 where
   pub asked : askRefusal s w (idOf t) ≡ 0
   pub itself : trackAsked s (idOf t) ≡ t
   -- the samples are those numbered 1 to N, and stts counts as many
-  pub found : (n : ℕ) → 1 ≤ n → n ≤ samplesOf t → (x : Sample) × (sampleAnswer s w (idOf t) n ≡ Found x)
-  pub none : sampleAnswer s w (idOf t) 0 ≡ Refused 15
-  pub past : (n : ℕ) → samplesOf t < n → sampleAnswer s w (idOf t) n ≡ Refused 15
+  pub found : (n : ℕ) → 1 ≤ n → n ≤ samplesOf t → (r : SampleAnswer) → Samples s w (idOf t) n r → (x : Sample) × (r ≡ Found x)
+  pub none : (r : SampleAnswer) → Samples s w (idOf t) 0 r → r ≡ Refused 15
+  pub past : (n : ℕ) → samplesOf t < n → (r : SampleAnswer) → Samples s w (idOf t) n r → r ≡ Refused 15
   pub counted : countedBy t (sttsEntries t) ≡ samplesOf t
   -- "decode time (sum of durations before it)": the first starts at 0, and each other one where the one before it ends
-  pub starts : (x : Sample) → sampleAnswer s w (idOf t) 1 ≡ Found x → x .decode ≡ 0
-  pub follows : (n : ℕ) (x y : Sample) → sampleAnswer s w (idOf t) n ≡ Found x → sampleAnswer s w (idOf t) (suc n) ≡ Found y
+  pub starts : (x : Sample) → Samples s w (idOf t) 1 (Found x) → x .decode ≡ 0
+  pub follows : (n : ℕ) (x y : Sample) → Samples s w (idOf t) n (Found x) → Samples s w (idOf t) (suc n) (Found y)
       → y .decode ≡ x .decode + x .duration
   -- each has the duration of the stts entry that counts it, and its size in stsz
-  pub lasts : (n : ℕ) (x : Sample) → sampleAnswer s w (idOf t) n ≡ Found x
+  pub lasts : (n : ℕ) (x : Sample) → Samples s w (idOf t) n (Found x)
       → (k : ℕ) × Counts t k n × (x .duration ≡ sampleDuration t k)
-  pub sized : (n : ℕ) (x : Sample) → sampleAnswer s w (idOf t) n ≡ Found x → x .size ≡ sampleSize t n
+  pub sized : (n : ℕ) (x : Sample) → Samples s w (idOf t) n (Found x) → x .size ≡ sampleSize t n
   -- "each media time below the total belongs to exactly one sample, and asked for it the reader names it", with "the position, from 1, of the entry
   -- that holds the answered sample, which is never above the number of stts entries"
-  pub named : (time : MediaTime) → time .0 < mediaTotal t
-      → (n : ℕ) × (k : ℕ) × (x : Sample) × (atAnswer s w (idOf t) time ≡ number.Number n (suc k)) × Counts t k n
-      × (sampleAnswer s w (idOf t) n ≡ Found x) × HasTime x (time .0)
-      × ((m : ℕ) (y : Sample) → sampleAnswer s w (idOf t) m ≡ Found y → HasTime y (time .0) → m ≡ n)
+  pub named : (time : MediaTime) → time .0 < mediaTotal t → (r : NumberAnswer) → SampleAt s w (idOf t) time r
+      → (n : ℕ) × (k : ℕ) × (r ≡ number.Number n (suc k)) × Counts t k n
+      × ((q : SampleAnswer) → Samples s w (idOf t) n q → (x : Sample) × (q ≡ Found x) × HasTime x (time .0))
+      × ((m : ℕ) (y : Sample) → Samples s w (idOf t) m (Found y) → HasTime y (time .0) → m ≡ n)
   -- any other belongs to none, and is refused
   pub outside : (time : MediaTime) → mediaTotal t ≤ time .0
-      → (atAnswer s w (idOf t) time ≡ number.Refused 15)
-      × ((m : ℕ) (y : Sample) → sampleAnswer s w (idOf t) m ≡ Found y → HasTime y (time .0) → ⊥)
+      → ((r : NumberAnswer) → SampleAt s w (idOf t) time r → r ≡ number.Refused 15)
+      × ((m : ℕ) (y : Sample) → Samples s w (idOf t) m (Found y) → HasTime y (time .0) → ⊥)
   -- "samples are dealt to chunks in order, none left over, none twice": each chunk gets as many as its stsc entry says, which fixes this list,
   pub perChunk : List ℕ
   pub deals : Deals t perChunk
   -- a sample is answered with the chunk that gets it,
-  pub in-chunk : (n : ℕ) (x : Sample) → sampleAnswer s w (idOf t) n ≡ Found x → DealtTo perChunk (x .chunk) n
+  pub in-chunk : (n : ℕ) (x : Sample) → Samples s w (idOf t) n (Found x) → DealtTo perChunk (x .chunk) n
   -- and what a chunk gets are samples, answered with that chunk and so with no other
-  pub gets : (c n : ℕ) → DealtTo perChunk c n → (x : Sample) × (sampleAnswer s w (idOf t) n ≡ Found x) × (x .chunk ≡ c)
+  pub gets : (c n : ℕ) → DealtTo perChunk c n → (r : SampleAnswer) → Samples s w (idOf t) n r → (x : Sample) × (r ≡ Found x) × (x .chunk ≡ c)
   -- "byte ranges in a chunk are contiguous from the chunk's offset": the first sample of a chunk begins where stco, or co64, says of it,
   pub first-in : (c : ℕ) → 1 ≤ c → c ≤ chunksOf t
-      → (x : Sample) × (sampleAnswer s w (idOf t) (suc (before perChunk (c - 1))) ≡ Found x) × (x .chunk ≡ c)
-      × (x .offset ≡ chunkOffset t c)
+      → (r : SampleAnswer) → Samples s w (idOf t) (suc (before perChunk (c - 1))) r
+      → (x : Sample) × (r ≡ Found x) × (x .chunk ≡ c) × (x .offset ≡ chunkOffset t c)
   -- and each other one where the one before it ends. "Its byte range begins at its offset and is as long as its size"
-  pub next-in : (n : ℕ) (x y : Sample) → sampleAnswer s w (idOf t) n ≡ Found x
-      → sampleAnswer s w (idOf t) (suc n) ≡ Found y → x .chunk ≡ y .chunk
+  pub next-in : (n : ℕ) (x y : Sample) → Samples s w (idOf t) n (Found x)
+      → Samples s w (idOf t) (suc n) (Found y) → x .chunk ≡ y .chunk
       → y .offset ≡ x .offset + x .size
   -- "the parts of the track's samples inside a stretch add up to its length": of all of them, 1 to N
-  pub parts : (a b : ℕ) → a < b → b ≤ mediaTotal t → added s w (idOf t) (partIn a b) 1 (samplesOf t) ≡ b - a
+  pub parts : (a b : ℕ) → a < b → b ≤ mediaTotal t → (rs : ℕ → SampleAnswer) → AllSamples s w (idOf t) rs 1 (samplesOf t)
+      → added rs (partIn a b) 1 (samplesOf t) ≡ b - a
   -- each stretch is answered in any room for its k pairs, and refused 16 in any less; what is none is refused 15
   pub answered : (a b : MediaTime) → a .0 < b .0 → b .0 ≤ mediaTotal t
       → (k : ℕ) × (bytes : ℕ)
-      × ((room : List ℕ) → 2 * k ≤ length room → stretchAnswer s w (idOf t) a b room ≡ stretch.Pairs k bytes)
-      × ((room : List ℕ) → length room < 2 * k → stretchAnswer s w (idOf t) a b room ≡ stretch.Refused 16)
+      × ((room : List ℕ) → 2 * k ≤ length room → (r : StretchAnswer) (after : List ℕ) → Stretches s w (idOf t) a b room r after
+      → r ≡ stretch.Pairs k bytes)
+      × ((room : List ℕ) → length room < 2 * k → (r : StretchAnswer) (after : List ℕ) → Stretches s w (idOf t) a b room r after
+      → r ≡ stretch.Refused 16)
   pub refused : (a b : MediaTime) → ((a .0 < b .0) × (b .0 ≤ mediaTotal t) → ⊥) → (room : List ℕ)
-      → stretchAnswer s w (idOf t) a b room ≡ stretch.Refused 15
+      → (r : StretchAnswer) (after : List ℕ) → Stretches s w (idOf t) a b room r after → r ≡ stretch.Refused 15
   -- "One pair (offset, length) for each chunk touched": from the chunk of the sample at a to that of the sample at b - 1
-  pub pairs : (a b z : MediaTime) (room : List ℕ) (k total first last i j : ℕ) (x y : Sample)
-      → stretchAnswer s w (idOf t) a b room ≡ stretch.Pairs k total
-      → z .0 ≡ b .0 - 1 → atAnswer s w (idOf t) a ≡ number.Number first i → atAnswer s w (idOf t) z ≡ number.Number last j
-      → sampleAnswer s w (idOf t) first ≡ Found x → sampleAnswer s w (idOf t) last ≡ Found y → k ≡ suc (y .chunk) - x .chunk
+  pub pairs : (a b z : MediaTime) (room after : List ℕ) (k total first last i j : ℕ) (x y : Sample)
+      → Stretches s w (idOf t) a b room (stretch.Pairs k total) after
+      → z .0 ≡ b .0 - 1 → SampleAt s w (idOf t) a (number.Number first i) → SampleAt s w (idOf t) z (number.Number last j)
+      → Samples s w (idOf t) first (Found x) → Samples s w (idOf t) last (Found y) → k ≡ suc (y .chunk) - x .chunk
   -- "The bytes of a stretch are its answered total: the sizes of all samples included, added", those "from the one at a to the one at b-1"
-  pub bytes : (a b z : MediaTime) (room : List ℕ) (k total first last i j : ℕ) → stretchAnswer s w (idOf t) a b room ≡ stretch.Pairs k total
-      → z .0 ≡ b .0 - 1 → atAnswer s w (idOf t) a ≡ number.Number first i → atAnswer s w (idOf t) z ≡ number.Number last j
-      → total ≡ added s w (idOf t) sizeAnswered first last
+  pub bytes : (a b z : MediaTime) (room after : List ℕ) (k total first last i j : ℕ) → Stretches s w (idOf t) a b room (stretch.Pairs k total) after
+      → z .0 ≡ b .0 - 1 → SampleAt s w (idOf t) a (number.Number first i) → SampleAt s w (idOf t) z (number.Number last j)
+      → (rs : ℕ → SampleAnswer) → AllSamples s w (idOf t) rs first last → total ≡ added rs sizeAnswered first last
   -- "a stretch cut at a sample's start gives bytes that add up": the cut m is the start of a sample, strictly inside, and each of the three has
   -- room. A sample of zero duration that stands at m would be in the whole and in neither part, so that there may be none there
   pub cut : (a m b : MediaTime) → NoZeroDuration s w (idOf t) (m .0) → (n : ℕ) (x : Sample)
-      → sampleAnswer s w (idOf t) n ≡ Found x → m .0 ≡ x .decode
-      → a .0 < m .0 → m .0 < b .0 → (room₁ room₂ room : List ℕ) (k₁ k₂ k bytes₁ bytes₂ bytes : ℕ)
-      → stretchAnswer s w (idOf t) a m room₁ ≡ stretch.Pairs k₁ bytes₁
-      → stretchAnswer s w (idOf t) m b room₂ ≡ stretch.Pairs k₂ bytes₂
-      → stretchAnswer s w (idOf t) a b room ≡ stretch.Pairs k bytes
+      → Samples s w (idOf t) n (Found x) → m .0 ≡ x .decode
+      → a .0 < m .0 → m .0 < b .0 → (room₁ room₂ room after₁ after₂ after : List ℕ) (k₁ k₂ k bytes₁ bytes₂ bytes : ℕ)
+      → Stretches s w (idOf t) a m room₁ (stretch.Pairs k₁ bytes₁) after₁
+      → Stretches s w (idOf t) m b room₂ (stretch.Pairs k₂ bytes₂) after₂
+      → Stretches s w (idOf t) a b room (stretch.Pairs k bytes) after
       → bytes ≡ bytes₁ + bytes₂
 
 -- "In every accepted track": "An accepted track is a track of a file not refused", the one at i of its traks, in file order from 0. "Demand 3
