@@ -15,7 +15,7 @@ use Rattle.questions.specs.Asked.{askRefusal, trackAsked}
 use Rattle.profile_faults.specs.Faults.{profileFault}
 use Rattle.profile_faults.proofs.Sentences.{true-exactly}
 use Rattle.profile_checks.specs.Checks.{toFault, checkAnswer}
-use Rattle.profile_checks.specs.Sentences.{AnsweredExactly}
+use Rattle.profile_checks.specs.Sentences.{AnsweredExactly, ChecksExactly}
 use Rattle.profile_checks.specs.declared.ProfileCheckAnswer.{ProfileCheckAnswer}
 use Rattle.profile_checks.specs.declared.ProfileCheckAnswer.the-variants.{Yes, Fault, Refused}
 
@@ -51,9 +51,9 @@ module _ (s : List ℕ) (w : Source) (id : ℕ) (z : askRefusal s w id ≡ 0) wh
   unfolding toFault
   no-fault q = answer-is ∙ rw q refl
 
-  pub answered-exactly : AnsweredExactly s w id
+  answered : AnsweredExactly s w id
   unfolding placeIn faults
-  answered-exactly =
+  answered =
       let e = true-exactly (movieScale (moovOf s)) (trackOf (trackAsked s id)) in
       record {
         accepted = λ k. no-fault (e .accepted k);
@@ -64,3 +64,6 @@ module _ (s : List ℕ) (w : Source) (id : ℕ) (z : askRefusal s w id ≡ 0) wh
             omega arith;
         computed = λ code. rw z refl;
       }
+
+pub answered-exactly : (s : List ℕ) (w : Source) (id : ℕ) → ChecksExactly s w id
+answered-exactly = answered

@@ -1,5 +1,4 @@
--- What the answer says, as sentences: a yes exactly if no rule is broken by the movie or by a track; else the rule is the lowest that is broken, and the
--- track named is the first that breaks it.
+-- What the answer says, as sentences.
 -- Assumes nothing.
 use Prim.Native.Nat.{ℕ, zero, suc, _+_, _≤_, _<_}
 use mathlib.Core.Path.{_≡_, refl, sym, ap, _∙_}
@@ -11,22 +10,29 @@ use native.Mathlib.Decide.{ℕ-discrete}
 use borrow.Author.Tests.{eq-eqb, ne-eqb}
 use lib.ListN.{length, getD}
 use Rattle.lists.proofs.Booleans.{or-left, or-right}
+use Rattle.structure.specs.declared.source.Source.{Source}
 use Rattle.structure.specs.Track.{idOf}
 use Rattle.structure.specs.Movie.{moovOf, movieScale, tracksOf}
 use Rattle.structure.specs.Rows.{Row, some, rank, ranksRise}
 use Rattle.structure.specs.ByTracks.{ofTrack, ofTracks}
 use Rattle.structure.proofs.Callers.{Clear, clear, some-none}
-use Rattle.quay_tracks.specs.Profile.{otherTracks, quayRules}
+use Rattle.rates.specs.declared.Feature.{Feature}
+use Rattle.rates.specs.declared.Feature.the-variants.{Value, NotComputed}
+use Rattle.track.specs.Track.{trackOf}
+use Rattle.movie.specs.Refusals.{filmRefusal}
+use Rattle.features.specs.Features.{vfps, featureOf}
+use Rattle.questions.specs.Asked.{trackAsked}
+use Rattle.questions.proofs.Own.{own-asked, own-itself}
+use Rattle.feature_questions.specs.Feature.{toValue, featureAnswer}
+use Rattle.quay_rules.specs.Rules.{tooFast}
+use Rattle.quay_tracks.specs.Profile.{otherTracks, tooManyFrames, quayRules}
 use Rattle.quay.specs.Quay.{breaks, firstBreaking, brokenRule, breakingTrack, quayVerdict}
+use Rattle.quay.specs.Sentences.{KeepsAll, FirstAt, Names, answeredTooFast, AnsweredExactly, QuayExactly}
 use Rattle.quay.specs.declared.QuayAnswer.the-variants.{Yes, Breaks}
 use Rattle.quay.proofs.Lowest.{own-broken, own-lowest, earlier-is, quay-rise}
 use Rattle.quay.proofs.Answers.{first-of-none, first-rule, later-rules}
 
 -- ---- no rule is broken
-
-pub record KeepsAll (m : List ℕ) : Type 0 where
-  pub movie : otherTracks m ≡ false
-  pub each : (i k : ℕ) → i < length (tracksOf m) → breaks (quayRules (movieScale m)) k (getD (tracksOf m) i []) ≡ false
 
 clear-each : (m : List ℕ) (ts : List (List ℕ)) (i k : ℕ) → i < length ts → (rs : List Row) → Clear (λ r. r .whole m || some (r .track) ts) rs → breaks rs k (getD ts i []) ≡ false
 unfolding breaks
@@ -61,11 +67,11 @@ none-if-keeps m k = later-rules m (k .movie) ∙ none-of-tracks 0 (quayRules (mo
 
 -- a yes
 module _ (s : List ℕ) where
-  pub yes-if : KeepsAll (moovOf s) → quayVerdict s ≡ Yes
+  yes-if : KeepsAll (moovOf s) → quayVerdict s ≡ Yes
   unfolding quayVerdict
   yes-if k = rw (eq-eqb (brokenRule (moovOf s)) 0 (none-if-keeps (moovOf s) k))
 
-  pub yes-only : quayVerdict s ≡ Yes → KeepsAll (moovOf s)
+  yes-only : quayVerdict s ≡ Yes → KeepsAll (moovOf s)
   unfolding quayVerdict
   yes-only e = elim (ℕ-discrete (brokenRule (moovOf s)) 0) [
     | yes z ↦ keeps-if-none (moovOf s) z
@@ -75,13 +81,6 @@ module _ (s : List ℕ) where
   ]
 
 -- ---- a rule is broken
-
--- the track at a place is the first of some that breaks rule k, and it has the ID
-pub record FirstAt (rs : List Row) (k : ℕ) (ts : List (List ℕ)) (id place : ℕ) : Type 0 where
-  pub within : place < length ts
-  pub breaking : breaks rs k (getD ts place []) ≡ true
-  pub named : id ≡ idOf (getD ts place [])
-  pub earlier-keep : (j : ℕ) → j < place → breaks rs k (getD ts j []) ≡ false
 
 module _ (n : ℕ) (rs : List Row) (h : ranksRise n rs ≡ true) where
   -- where one of some tracks breaks a rule, the first of them is named
@@ -140,13 +139,6 @@ by-number : (j k : ℕ) → (j ≡ 19 → ⊥) → (k ≡ 19 → ⊥) → rank k
 unfolding rank
 by-number j k a b l = let m : k + k ≤ j + j = rw (ne-eqb j 19 a, ne-eqb k 19 b) at l in omega arith
 
--- of a movie that keeps the first rule, rule k is the lowest that a track breaks, and the first track that breaks it has the ID
-pub record Names (m : List ℕ) (k id : ℕ) : Type 0 where
-  pub movie : otherTracks m ≡ false
-  pub place : ℕ
-  pub first : FirstAt (quayRules (movieScale m)) k (tracksOf m) id place
-  pub lowest : (i j : ℕ) → i < length (tracksOf m) → breaks (quayRules (movieScale m)) j (getD (tracksOf m) i []) ≡ true → k ≤ j
-
 names : (m : List ℕ) → otherTracks m ≡ false → (brokenRule m ≡ 0 → ⊥) → Names m (brokenRule m) (breakingTrack m)
 unfolding breakingTrack
 names m o z =
@@ -165,7 +157,7 @@ names m o z =
     }
 
 -- the first rule, with no track; or a later one, with the first track that breaks it
-pub broken-names : (s : List ℕ) (k id : ℕ) → quayVerdict s ≡ Breaks k id → ((k ≡ 1) × (id ≡ 0) × (otherTracks (moovOf s) ≡ true)) ⊎ Names (moovOf s) k id
+broken-names : (s : List ℕ) (k id : ℕ) → quayVerdict s ≡ Breaks k id → ((k ≡ 1) × (id ≡ 0) × (otherTracks (moovOf s) ≡ true)) ⊎ Names (moovOf s) k id
 unfolding quayVerdict breakingTrack
 broken-names s k id e = elim (ℕ-discrete (brokenRule (moovOf s)) 0) [
   | yes z ↦
@@ -184,3 +176,28 @@ broken-names s k id e = elim (ℕ-discrete (brokenRule (moovOf s)) 0) [
         let f = first-rule (moovOf s) o in
         inl (sym p ∙ f, sym q ∙ ap (λ (n : ℕ). firstBreaking (quayRules (movieScale (moovOf s))) n (tracksOf (moovOf s))) f ∙ first-of-none (movieScale (moovOf s)) (tracksOf (moovOf s)), o)
     by p q z false o = inr (rw (← p, ← q) (names (moovOf s) o z))
+
+-- ---- the ninth rule and the question for vfps
+
+too-fast : (f : Feature) → tooFast f ≡ answeredTooFast (toValue f)
+unfolding tooFast answeredTooFast toValue
+too-fast (Value v) = refl
+too-fast NotComputed = refl
+
+ninth-breaks : (movie : ℕ) (t : List ℕ) → breaks (quayRules movie) 9 t ≡ tooFast (featureOf movie (trackOf t) vfps)
+unfolding breaks quayRules tooManyFrames
+ninth-breaks movie t = refl
+
+pub quay-exactly : (s : List ℕ) (w : Source) → QuayExactly s w
+quay-exactly s w e =
+    record {
+      yes-if = λ k. rw e (yes-if s k);
+      yes-only = λ y. yes-only s (rw e at y);
+      names = λ k id y. broken-names s k id (rw e at y);
+      ninth = λ i h.
+          let t = getD (tracksOf (moovOf s)) i [] in
+          let m = movieScale (moovOf s) in
+          let f : featureAnswer s w (idOf t) vfps ≡ toValue (featureOf m (trackOf t) vfps) =
+          rw (own-asked s w e i h) (ap (λ u. toValue (featureOf m (trackOf u) vfps)) (own-itself s w e i h)) in
+          ninth-breaks m t ∙ too-fast (featureOf m (trackOf t) vfps) ∙ ap answeredTooFast (sym f);
+    }

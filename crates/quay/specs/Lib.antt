@@ -1,2 +1,3 @@
 pub mod Quay
 pub mod Walk
+pub mod Sentences

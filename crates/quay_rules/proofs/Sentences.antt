@@ -1,4 +1,4 @@
--- The fifth rule as a sentence on the samples' flags: sample 1 is sync, and after a sync sample the next sync one, or the end, comes within 250 samples.
+-- The fifth rule as a sentence on the samples' flags.
 -- Assumes nothing.
 use Prim.Native.Nat.{ℕ, zero, suc, _+_, _-_, _≤_, _<_}
 use mathlib.Core.Path.{_≡_, refl, sym, ap, _∙_}
@@ -12,14 +12,7 @@ use lib.ListN.{length, getD, drop, length-drop}
 use lib.Seq.{getD-drop}
 use Rattle.lists.proofs.Booleans.{or-left, or-right, or-neither}
 use Rattle.quay_rules.specs.Rules.{untilSync, groups, anyAbove, startsSync, lacksSyncs}
-
--- the sample with index i, from 0, is sync
-abbrev Sync : List Bool → ℕ → Type 0
-Sync bs i = getD bs i false ≡ true
-
-pub record Spaced (bs : List Bool) : Type 0 where
-  pub starts : Sync bs 0
-  pub next : (i : ℕ) → Sync bs i → i + 250 < length bs → (j : ℕ) × ((i < j) × ((j ≤ i + 250) × Sync bs j))
+use Rattle.quay_rules.specs.Sentences.{Sync, Spaced, SpacedExactly}
 
 not-both : (b : Bool) → b ≡ true → b ≡ false → ⊥
 not-both b p q = let z : _≡_ {A = ℕ} 0 1 = cc in omega arith
@@ -66,7 +59,7 @@ starts-first (b ∷ bs) = refl
 after : (bs : List Bool) (i k : ℕ) → getD (drop (suc i) bs) k false ≡ getD bs (suc i + k) false
 after bs i k = getD-drop (suc i) bs k false
 
-pub kept-spaced : (bs : List Bool) → lacksSyncs bs ≡ false → Spaced bs
+kept-spaced : (bs : List Bool) → lacksSyncs bs ≡ false → Spaced bs
 unfolding lacksSyncs
 kept-spaced bs e = record {
   starts = sym (starts-first bs) ∙ not-false (startsSync bs) (or-left (not (startsSync bs)) _ e);
@@ -77,7 +70,7 @@ kept-spaced bs e = record {
       (suc i + u, (omega arith, (omega arith, sym (after bs i u) ∙ until-sync (drop (suc i) bs) (omega arith))));
 }
 
-pub spaced-kept : (bs : List Bool) → Spaced bs → lacksSyncs bs ≡ false
+spaced-kept : (bs : List Bool) → Spaced bs → lacksSyncs bs ≡ false
 unfolding lacksSyncs
 spaced-kept bs w =
     or-neither (not (startsSync bs)) _ (ap not (starts-first bs ∙ w .starts)) (all-groups 250 bs (λ i s. short i s))
@@ -93,3 +86,6 @@ spaced-kept bs w =
           let q : suc i + k ≡ x .0 = omega (arith, x .1 .0) in
           absurd (not-both (getD bs (x .0) false) (x .1 .1 .1) (ap (λ (j : ℕ). getD bs j false) (sym q) ∙ sym (after bs i k) ∙ none-until (drop (suc i) bs) k (omega (arith, x .1 .0, x .1 .1 .0))))
     ]
+
+pub spaced-exactly : (bs : List Bool) → SpacedExactly bs
+spaced-exactly bs = record { spaced = kept-spaced bs; kept = spaced-kept bs }

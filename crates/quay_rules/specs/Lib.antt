@@ -1,2 +1,3 @@
 pub mod Rules
 pub mod Computed
+pub mod Sentences

@@ -3,3 +3,4 @@ pub mod Asking
 pub mod Found
 pub mod Said
 pub mod Shift
+pub mod Own

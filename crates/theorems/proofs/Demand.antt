@@ -38,7 +38,7 @@ use Rattle.chunks.proofs.Dealt.{first-chunk, first-offset, next-offset}
 use Rattle.theorems.proofs.Dealt.{gets-of, gets-only, first-low}
 use Rattle.theorems.proofs.Lists.{tablesAsked, Listed, listed}
 use Rattle.theorems.proofs.Entries.{total-is, count-is, entry-counts, size-at, offset-at, entry-holds}
-use Rattle.theorems.proofs.Tracks.{own-asked, own-itself}
+use Rattle.questions.proofs.Own.{own-asked, own-itself}
 use Rattle.pairs.proofs.Filling.{flat-length}
 use Rattle.theorems.proofs.Answers.{Known, found-is, none-is, past-is, found-known, entry-is, at-is, at-outside, at-known, pairs-is, short-is, no-stretch, pairs-known}
 

@@ -1,6 +1,5 @@
 pub mod Added
 pub mod Entries
-pub mod Tracks
 pub mod Lists
 pub mod Dealt
 pub mod Answers
