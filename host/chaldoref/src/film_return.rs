@@ -67,6 +67,56 @@ impl FilmReturn {
         ffi::film_return(film.into(), &mut self.numbers)
     }
 
+    /// The return of these films and then of the other's: the scales of this one first, then those of the other that this one has not, in their
+    /// order.
+    ///
+    /// # Errors
+    ///
+    /// [`Refusal::TooManyScales`] where that makes a thirty-third scale, then [`Refusal::TotalTooGreat`] for a total that would reach 2^64; the
+    /// return is then as it was.
+    pub fn join(&mut self, other: &FilmReturn) -> Result<(), Refusal> {
+        let mut all = self.numbers;
+        let mut over = false;
+        for place in ACCEPTED..COUNT {
+            (all[place], over) = sum(all[place], other.numbers[place], over);
+        }
+        for (scale, units) in other.scales() {
+            let count: usize = promised(all[COUNT]);
+            let met = all[SCALES..SCALES + count].iter().position(|own| *own == u64::from(scale));
+            let place = met.unwrap_or(count);
+            if place == MAX_SCALES {
+                return Err(Refusal::TooManyScales);
+            }
+            all[COUNT] = all[COUNT].max(place as u64 + 1);
+            all[SCALES + place] = scale.into();
+            (all[UNITS + place], over) = sum(all[UNITS + place], units, over);
+        }
+        if over {
+            return Err(Refusal::TotalTooGreat);
+        }
+        self.numbers = all;
+        Ok(())
+    }
+
+    /// Its numbers, in the order of include/chaldoref.h.
+    #[must_use]
+    pub fn numbers(&self) -> &[u64] {
+        &self.numbers
+    }
+
+    /// The return of these numbers, in the order of include/chaldoref.h; nothing where they are no return: another number of places than 83,
+    /// more than 32 scales, a scale twice, a scale of 2^32 or more, or something behind the last scale.
+    #[must_use]
+    pub fn from_numbers(numbers: &[u64]) -> Option<FilmReturn> {
+        let numbers: FilmTotals = numbers.try_into().ok()?;
+        let count = usize::try_from(numbers[COUNT]).ok().filter(|count| *count <= MAX_SCALES)?;
+        let (scales, units) = (&numbers[SCALES..UNITS], &numbers[UNITS..]);
+        let is_scale = |i: usize| u32::try_from(scales[i]).is_ok() && !scales[..i].contains(&scales[i]);
+        let is_rest = |i: usize| scales[i] == 0 && units[i] == 0;
+        let is_return = (0..count).all(is_scale) && (count..MAX_SCALES).all(is_rest);
+        is_return.then_some(FilmReturn { numbers })
+    }
+
     /// How many films are accepted.
     #[must_use]
     pub fn accepted(&self) -> u64 {
@@ -102,6 +152,12 @@ impl FilmReturn {
         let units = &self.numbers[UNITS..];
         self.numbers[SCALES..UNITS].iter().zip(units).take(count).map(|(scale, units)| (promised(*scale), *units))
     }
+}
+
+/// A sum, and whether it or one before it reaches 2^64.
+fn sum(one: u64, other: u64, over: bool) -> (u64, bool) {
+    let (sum, is_over) = one.overflowing_add(other);
+    (sum, over || is_over)
 }
 
 impl fmt::Debug for FilmReturn {

@@ -7,10 +7,13 @@ use crate::help;
 use crate::input;
 use crate::suggest;
 use crate::syntax::{is_several, Command, Opt, BYTES, COMMANDS, CSV, HELPERS, JSON, LEAVE_OUT, OUT, SHA256};
-use crate::syntax::{ALL, FILES_FROM, NUL, SLIPS};
+use crate::syntax::{ALL, FILES_FROM, JOBS, JOIN, NUL, SLIPS};
 use crate::time::{Span, Time};
 use chaldoref::{FourCC, LeaveOut, TrackId};
 use std::ffi::{OsStr, OsString};
+
+/// More films at once help no one.
+const MOST_JOBS: u32 = 1024;
 
 /// What the arguments ask for: a text such as the help, or an answer.
 pub enum Parsed {
@@ -291,8 +294,23 @@ impl Words {
             return Err(self.wrong("-0 goes with --files-from".into()));
         }
         self.one_standard_input(&[&self.files[..], list.as_slice()].concat())?;
+        let (join, jobs) = (self.has(&JOIN), self.jobs()?);
+        if join && (list.is_some() || self.has(&CSV) || jobs.is_some()) {
+            return Err(self.wrong("--join takes returns, and goes with none of --files-from, --csv and --jobs".into()));
+        }
         let list = list.map(|name| List { name, nul });
-        Ok(ReturnOptions { list, csv: self.has(&CSV), all: self.has(&ALL) })
+        let processors = || std::thread::available_parallelism().map_or(1, usize::from);
+        let jobs = jobs.unwrap_or_else(processors);
+        Ok(ReturnOptions { list, csv: self.has(&CSV), all: self.has(&ALL), jobs, join })
+    }
+
+    /// How many films are read at once, if it is said.
+    fn jobs(&self) -> Result<Option<usize>, Failure> {
+        let Some(word) = self.value(&JOBS) else { return Ok(None) };
+        let jobs =
+            number(&word).filter(|jobs| (1..=MOST_JOBS).contains(jobs)).and_then(|jobs| usize::try_from(jobs).ok());
+        let wrong = || self.wrong(format!("--jobs takes a number from 1 to {MOST_JOBS}, and not {}", quoted(&word)));
+        jobs.ok_or_else(wrong).map(Some)
     }
 
     /// The file that a page is written to, which is written whole or not at all.
