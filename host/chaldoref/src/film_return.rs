@@ -173,3 +173,49 @@ impl fmt::Debug for FilmReturn {
             .finish()
     }
 }
+
+#[cfg(test)]
+mod tests {
+    use super::*;
+
+    /// A return of some bytes and of scales from one on, each with a total of 1.
+    fn of(bytes: u64, scales: std::ops::Range<u64>) -> FilmReturn {
+        let mut numbers = [0; FILM_RETURN_NUMBERS];
+        (numbers[ACCEPTED], numbers[BYTES], numbers[COUNT]) = (1, bytes, scales.end - scales.start);
+        for (place, scale) in scales.enumerate() {
+            (numbers[SCALES + place], numbers[UNITS + place]) = (scale, 1);
+        }
+        FilmReturn::from_numbers(&numbers).unwrap()
+    }
+
+    #[test]
+    fn joined_at_the_limits() {
+        let mut all = of(1, 10..30);
+        all.join(&of(u64::MAX - 1, 1..13)).unwrap();
+        let met: Vec<(u32, u64)> = all.scales().collect();
+        let wanted = (10..30).chain(1..10).map(|scale| (scale, 1 + u64::from(matches!(scale, 10..13))));
+        assert_eq!((met, all.bytes(), all.accepted()), (wanted.collect(), u64::MAX, 2));
+        let before = all.clone();
+        assert_eq!(all.join(&of(1, 30..33)), Err(Refusal::TotalTooGreat));
+        assert_eq!(all.join(&of(1, 30..34)), Err(Refusal::TooManyScales));
+        assert_eq!(all, before);
+        all.join(&of(0, 30..33)).unwrap();
+        assert_eq!(all.scales().count(), MAX_SCALES);
+        all.join(&FilmReturn::new()).unwrap();
+        assert_eq!((all.join(&of(0, 5..6)), all.join(&of(0, 33..34))), (Ok(()), Err(Refusal::TooManyScales)));
+    }
+
+    #[test]
+    fn numbers_that_are_no_return() {
+        let good = *<&FilmTotals>::try_from(of(7, 1..4).numbers()).unwrap();
+        assert_eq!(FilmReturn::from_numbers(&good), Some(of(7, 1..4)));
+        assert!(FilmReturn::from_numbers(&good[1..]).is_none() && FilmReturn::from_numbers(&[]).is_none());
+        for (place, number) in
+            [(COUNT, 2), (COUNT, 33), (SCALES + 1, 1), (SCALES, 1 << 32), (SCALES + 5, 9), (UNITS + 5, 9)]
+        {
+            let mut numbers = good;
+            numbers[place] = number;
+            assert_eq!(FilmReturn::from_numbers(&numbers), None, "{place} {number}");
+        }
+    }
+}

@@ -9,7 +9,7 @@ use crate::suggest;
 use crate::syntax::{is_several, Command, Opt, BYTES, COMMANDS, CSV, HELPERS, JSON, LEAVE_OUT, OUT, SHA256};
 use crate::syntax::{ALL, FILES_FROM, JOBS, JOIN, NUL, SLIPS};
 use crate::time::{Span, Time};
-use chaldoref::{FourCC, LeaveOut, TrackId};
+use chaldoref::{Feature, FourCC, LeaveOut, TrackId};
 use std::ffi::{OsStr, OsString};
 
 /// More films at once help no one.
@@ -250,7 +250,8 @@ impl Words {
         Ok(())
     }
 
-    /// How many operands stand after several files: TRACK where the last is a number, and CODE too where the one before the last is one.
+    /// How many operands stand after several files: TRACK where the last is a number, and CODE too where the one before the last is one; or CODE alone
+    /// where the last is that of a feature.
     fn after_files(&self) -> usize {
         let given = self.operands.len();
         let is_number = |before: usize| {
@@ -260,6 +261,7 @@ impl Words {
         match self.command.operands.len() {
             1 => 0,
             3 if is_number(2) => 2,
+            3 if given > 1 && self.operands.last().is_some_and(|word| feature(word).is_some()) => 1,
             _ => usize::from(is_number(1)),
         }
     }
@@ -361,6 +363,14 @@ impl Words {
         number(word).map(Time::Units).or_else(|| Time::parse(word.to_str()?))
     }
 
+    /// The track and the code of a feature, either of which may be left out.
+    pub fn feature(&self, place: usize) -> Result<Ask, Failure> {
+        if let Some(code) = self.operands.get(place).and_then(|word| feature(word)) {
+            return Ok(Ask::Features { track: None, code: Some(code) });
+        }
+        Ok(Ask::Features { track: self.if_given(place, Words::track)?, code: self.if_given(place + 1, Words::code)? })
+    }
+
     /// Two media times, one after the other, or none for the whole track.
     pub fn stretch(&self, place: usize) -> Result<Span, Failure> {
         if place == self.operands.len() {
@@ -423,6 +433,12 @@ fn number(word: &OsStr) -> Option<u32> {
     // from_str_radix would take a sign as well.
     let plain = digits.chars().all(|c| c.is_digit(radix));
     u32::from_str_radix(digits, radix).ok().filter(|_| plain)
+}
+
+/// The code of a feature, as its characters.
+fn feature(word: &OsStr) -> Option<FourCC> {
+    let code = FourCC::from_bytes(word.as_encoded_bytes().try_into().ok()?);
+    Feature::from_code(code).map(|_| code)
 }
 
 /// A four-character code: its characters, or its number after 0x.

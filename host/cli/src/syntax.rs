@@ -152,9 +152,7 @@ pub static COMMANDS: [Command; 18] = [
         options: &[&JSON, &LEAVE_OUT],
         about: "the features avvb, avab, tvsz, vfps, mvbr and mabr of each track, or of one, or that of one code",
         example: "features films/two-hoses.mov 2 vfps",
-        ask: |words| {
-            Ok(Ask::Features { track: words.if_given(1, Words::track)?, code: words.if_given(2, Words::code)? })
-        },
+        ask: |words| words.feature(1),
     },
     Command {
         name: "profile",

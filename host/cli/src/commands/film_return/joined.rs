@@ -72,10 +72,6 @@ fn add(whole: &mut Part, name: &OsStr) -> io::Result<()> {
 impl Part {
     /// The return in a document, or why it has none.
     fn of(document: &Json) -> Result<Part, String> {
-        let number = |of: &Json, key: &str| {
-            let value = of.get(key).and_then(Json::number);
-            value.ok_or_else(|| format!("'{key}' is no number from 0 to 2^64 - 1"))
-        };
         let list = |key: &str| document.get(key).and_then(Json::list).ok_or_else(|| format!("'{key}' is no list"));
         let format = number(document, "format")?;
         if format != FORMAT {
@@ -96,19 +92,7 @@ impl Part {
         for key in ["tracks", "samples", "bytes"] {
             numbers.push(number(document, key)?);
         }
-        let scales = list("scales")?;
-        if scales.len() > MAX_SCALES {
-            return Err(format!("it has {} scales, and a return has at most {MAX_SCALES}", scales.len()));
-        }
-        let of_each = |key: &str| scales.iter().map(|one| number(one, key)).collect::<Result<Vec<u64>, String>>();
-        let (mut all, mut units) = (of_each("scale")?, of_each("total")?);
-        if let Some(twice) = (1..all.len()).find(|i| all[..*i].contains(&all[*i])) {
-            return Err(format!("scale {} is there twice", all[twice]));
-        }
-        numbers.push(all.len() as u64);
-        all.resize(MAX_SCALES, 0);
-        units.resize(MAX_SCALES, 0);
-        numbers.extend(all.into_iter().chain(units));
+        numbers.extend(scale_numbers(list("scales")?)?);
         let totals = FilmReturn::from_numbers(&numbers).ok_or("a scale is 2^32 or more")?;
         Ok(Part { totals, lists: lists(document, list)? })
     }
@@ -149,6 +133,25 @@ impl Part {
         }
         Err(Failure::Skipped { unread: failed.iter().any(|film| film.get("error").is_some()) })
     }
+}
+
+fn number(of: &Json, key: &str) -> Result<u64, String> {
+    of.get(key).and_then(Json::number).ok_or_else(|| format!("'{key}' is no number from 0 to 2^64 - 1"))
+}
+
+/// How many scales there are, the scales, and their totals, as a return has them.
+fn scale_numbers(scales: &[Json]) -> Result<Vec<u64>, String> {
+    if scales.len() > MAX_SCALES {
+        return Err(format!("it has {} scales, and a return has at most {MAX_SCALES}", scales.len()));
+    }
+    let of_each = |key: &str| scales.iter().map(|one| number(one, key)).collect::<Result<Vec<u64>, String>>();
+    let (mut all, mut units) = (of_each("scale")?, of_each("total")?);
+    if let Some(twice) = (1..all.len()).find(|i| all[..*i].contains(&all[*i])) {
+        return Err(format!("scale {} is there twice", all[twice]));
+    }
+    all.resize(MAX_SCALES, 0);
+    units.resize(MAX_SCALES, 0);
+    Ok([scales.len() as u64].into_iter().chain(all).chain(units).collect())
 }
 
 /// The lists of names. Those of their bytes are there only where a name is no text.
