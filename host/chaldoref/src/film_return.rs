@@ -93,6 +93,25 @@ impl FilmReturn {
         ffi::join_returns(&other.numbers, &mut self.numbers)
     }
 
+    /// Its numbers, in the order of include/chaldoref.h.
+    #[must_use]
+    pub fn numbers(&self) -> &[u64] {
+        &self.numbers
+    }
+
+    /// The return of these numbers, in the order of include/chaldoref.h; nothing where they are no return: another number of places than 83,
+    /// more than 32 scales, a scale twice, a scale of 2^32 or more, or something behind the last scale.
+    #[must_use]
+    pub fn from_numbers(numbers: &[u64]) -> Option<FilmReturn> {
+        let numbers: FilmTotals = numbers.try_into().ok()?;
+        let count = usize::try_from(numbers[COUNT]).ok().filter(|count| *count <= MAX_SCALES)?;
+        let (scales, units) = (&numbers[SCALES..UNITS], &numbers[UNITS..]);
+        let is_scale = |i: usize| u32::try_from(scales[i]).is_ok() && !scales[..i].contains(&scales[i]);
+        let is_rest = |i: usize| scales[i] == 0 && units[i] == 0;
+        let is_return = (0..count).all(is_scale) && (count..MAX_SCALES).all(is_rest);
+        is_return.then_some(FilmReturn { numbers })
+    }
+
     /// How many films are accepted.
     #[must_use]
     pub fn accepted(&self) -> u64 {
@@ -141,5 +160,51 @@ impl fmt::Debug for FilmReturn {
             .field("bytes", &self.bytes())
             .field("scales", &self.scales().collect::<Vec<_>>())
             .finish()
+    }
+}
+
+#[cfg(test)]
+mod tests {
+    use super::*;
+
+    /// A return of some bytes and of scales from one on, each with a total of 1.
+    fn of(bytes: u64, scales: std::ops::Range<u64>) -> FilmReturn {
+        let mut numbers = [0; FILM_RETURN_NUMBERS];
+        (numbers[ACCEPTED], numbers[BYTES], numbers[COUNT]) = (1, bytes, scales.end - scales.start);
+        for (place, scale) in scales.enumerate() {
+            (numbers[SCALES + place], numbers[UNITS + place]) = (scale, 1);
+        }
+        FilmReturn::from_numbers(&numbers).unwrap()
+    }
+
+    #[test]
+    fn joined_at_the_limits() {
+        let mut all = of(1, 10..30);
+        all.join(&of(u64::MAX - 1, 1..13)).unwrap();
+        let met: Vec<(u32, u64)> = all.scales().collect();
+        let wanted = (10..30).chain(1..10).map(|scale| (scale, 1 + u64::from(matches!(scale, 10..13))));
+        assert_eq!((met, all.bytes(), all.accepted()), (wanted.collect(), u64::MAX, 2));
+        let before = all.clone();
+        assert_eq!(all.join(&of(1, 30..33)), Err(Refusal::TotalTooGreat));
+        assert_eq!(all.join(&of(1, 30..34)), Err(Refusal::TooManyScales));
+        assert_eq!(all, before);
+        all.join(&of(0, 30..33)).unwrap();
+        assert_eq!(all.scales().count(), MAX_SCALES);
+        all.join(&FilmReturn::new()).unwrap();
+        assert_eq!((all.join(&of(0, 5..6)), all.join(&of(0, 33..34))), (Ok(()), Err(Refusal::TooManyScales)));
+    }
+
+    #[test]
+    fn numbers_that_are_no_return() {
+        let good = *<&FilmTotals>::try_from(of(7, 1..4).numbers()).unwrap();
+        assert_eq!(FilmReturn::from_numbers(&good), Some(of(7, 1..4)));
+        assert!(FilmReturn::from_numbers(&good[1..]).is_none() && FilmReturn::from_numbers(&[]).is_none());
+        for (place, number) in
+            [(COUNT, 2), (COUNT, 33), (SCALES + 1, 1), (SCALES, 1 << 32), (SCALES + 5, 9), (UNITS + 5, 9)]
+        {
+            let mut numbers = good;
+            numbers[place] = number;
+            assert_eq!(FilmReturn::from_numbers(&numbers), None, "{place} {number}");
+        }
     }
 }

@@ -7,10 +7,13 @@ use crate::help;
 use crate::input;
 use crate::suggest;
 use crate::syntax::{is_several, Command, Opt, BYTES, COMMANDS, CSV, HELPERS, JSON, LEAVE_OUT, OUT, SHA256};
-use crate::syntax::{ALL, FILES_FROM, NUL, SLIPS};
+use crate::syntax::{ALL, FILES_FROM, JOBS, JOIN, NUL, SLIPS};
 use crate::time::{Span, Time};
-use chaldoref::{FourCC, LeaveOut, TrackId};
+use chaldoref::{Feature, FourCC, LeaveOut, TrackId};
 use std::ffi::{OsStr, OsString};
+
+/// More films at once help no one.
+const MOST_JOBS: u32 = 1024;
 
 /// What the arguments ask for: a text such as the help, or an answer.
 pub enum Parsed {
@@ -247,7 +250,8 @@ impl Words {
         Ok(())
     }
 
-    /// How many operands stand after several files: TRACK where the last is a number, and CODE too where the one before the last is one.
+    /// How many operands stand after several files: TRACK where the last is a number, and CODE too where the one before the last is one; or CODE alone
+    /// where the last is that of a feature.
     fn after_files(&self) -> usize {
         let given = self.operands.len();
         let is_number = |before: usize| {
@@ -257,6 +261,7 @@ impl Words {
         match self.command.operands.len() {
             1 => 0,
             3 if is_number(2) => 2,
+            3 if given > 1 && self.operands.last().is_some_and(|word| feature(word).is_some()) => 1,
             _ => usize::from(is_number(1)),
         }
     }
@@ -291,8 +296,23 @@ impl Words {
             return Err(self.wrong("-0 goes with --files-from".into()));
         }
         self.one_standard_input(&[&self.files[..], list.as_slice()].concat())?;
+        let (join, jobs) = (self.has(&JOIN), self.jobs()?);
+        if join && (list.is_some() || self.has(&CSV) || jobs.is_some()) {
+            return Err(self.wrong("--join takes returns, and goes with none of --files-from, --csv and --jobs".into()));
+        }
         let list = list.map(|name| List { name, nul });
-        Ok(ReturnOptions { list, csv: self.has(&CSV), all: self.has(&ALL) })
+        let processors = || std::thread::available_parallelism().map_or(1, usize::from);
+        let jobs = jobs.unwrap_or_else(processors);
+        Ok(ReturnOptions { list, csv: self.has(&CSV), all: self.has(&ALL), jobs, join })
+    }
+
+    /// How many films are read at once, if it is said.
+    fn jobs(&self) -> Result<Option<usize>, Failure> {
+        let Some(word) = self.value(&JOBS) else { return Ok(None) };
+        let jobs =
+            number(&word).filter(|jobs| (1..=MOST_JOBS).contains(jobs)).and_then(|jobs| usize::try_from(jobs).ok());
+        let wrong = || self.wrong(format!("--jobs takes a number from 1 to {MOST_JOBS}, and not {}", quoted(&word)));
+        jobs.ok_or_else(wrong).map(Some)
     }
 
     /// The file that a page is written to, which is written whole or not at all.
@@ -341,6 +361,14 @@ impl Words {
     fn time(&self, place: usize) -> Option<Time> {
         let word = &self.operands[place];
         number(word).map(Time::Units).or_else(|| Time::parse(word.to_str()?))
+    }
+
+    /// The track and the code of a feature, either of which may be left out.
+    pub fn feature(&self, place: usize) -> Result<Ask, Failure> {
+        if let Some(code) = self.operands.get(place).and_then(|word| feature(word)) {
+            return Ok(Ask::Features { track: None, code: Some(code) });
+        }
+        Ok(Ask::Features { track: self.if_given(place, Words::track)?, code: self.if_given(place + 1, Words::code)? })
     }
 
     /// Two media times, one after the other, or none for the whole track.
@@ -405,6 +433,12 @@ fn number(word: &OsStr) -> Option<u32> {
     // from_str_radix would take a sign as well.
     let plain = digits.chars().all(|c| c.is_digit(radix));
     u32::from_str_radix(digits, radix).ok().filter(|_| plain)
+}
+
+/// The code of a feature, as its characters.
+fn feature(word: &OsStr) -> Option<FourCC> {
+    let code = FourCC::from_bytes(word.as_encoded_bytes().try_into().ok()?);
+    Feature::from_code(code).map(|_| code)
 }
 
 /// A four-character code: its characters, or its number after 0x.

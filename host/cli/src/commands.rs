@@ -126,6 +126,43 @@ fn answer_of(film: &Film, ask: &Ask, mut to: Answer) -> Result<(), Failure> {
     if !matches!(ask, Ask::Tracks | Ask::Check { .. }) {
         to.tell(&warnings::of_fragments(to.fragments));
     }
+    asked(film, movie, ask, to).map_err(|failure| hinted(movie, ask, failure))
+}
+
+/// Adds to the refusal of a track or a sample that is not there which there are.
+fn hinted(movie: &Movie, ask: &Ask, failure: Failure) -> Failure {
+    let samples = |id: TrackId| {
+        let track = movie.track(id)?;
+        Some(match track.samples {
+            0 => format!("track {id} has no samples"),
+            count => format!("track {id} has the samples 1 to {count}"),
+        })
+    };
+    let hint = match (&failure, ask) {
+        (Failure::Refused(Refusal::NoTrack, None), _) => Some(tracks_in_words(movie)),
+        (Failure::Refused(Refusal::Outside, None), Ask::Sample { track, .. } | Ask::Samples { track, .. }) => {
+            samples(*track)
+        }
+        _ => None,
+    };
+    match failure {
+        Failure::Refused(refusal, None) => Failure::Refused(refusal, hint),
+        other => other,
+    }
+}
+
+/// The tracks that a film has.
+fn tracks_in_words(movie: &Movie) -> String {
+    let ids: Vec<String> = movie.tracks().iter().map(|track| track.id.to_string()).collect();
+    match ids.split_last() {
+        None => "the film has no tracks".into(),
+        Some((one, [])) => format!("the film has track {one}"),
+        Some((last, others)) => format!("the film has tracks {} and {last}", others.join(", ")),
+    }
+}
+
+/// Puts the question.
+fn asked(film: &Film, movie: &Movie, ask: &Ask, to: Answer) -> Result<(), Failure> {
     match ask {
         Ask::Tracks => questions::tracks(movie, to),
         Ask::Sample { track, n, bytes: false } => samples::sample(movie, *track, *n, to),
@@ -135,7 +172,7 @@ fn answer_of(film: &Film, ask: &Ask, mut to: Answer) -> Result<(), Failure> {
         Ask::Map { track, time } => questions::map(movie, *track, time, to),
         Ask::Edits { track } => edits::edits(movie, *track, to),
         Ask::Features { track: Some(track), code: Some(code) } => features::feature(movie, *track, *code, to),
-        Ask::Features { track, .. } => features::features(movie, *track, to),
+        Ask::Features { track, code } => features::features(movie, *track, *code, to),
         Ask::Profile { track } => questions::profile(movie, *track, to),
         Ask::CheckQuay { all } => check_quay::check_quay(movie, *all, to),
         Ask::CheckProfile { track } => check_profile::check_profile(movie, *track, to),

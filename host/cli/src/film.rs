@@ -71,6 +71,14 @@ impl Fragments {
             ),
         }
     }
+
+    /// Why more of the film may be missing, as part of a sentence about it.
+    pub fn unread_in_words(self) -> String {
+        match self {
+            Fragments { count: 0, .. } => "it announces fragments, and none is in this file".into(),
+            Fragments { bytes, .. } => format!("{bytes} bytes of film in fragments are not read"),
+        }
+    }
 }
 
 /// What the film's own bytes are copied from.

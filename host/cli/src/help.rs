@@ -5,16 +5,17 @@ use crate::syntax::{Command, Opt, COMMANDS, HELPERS, LEAVE_OUT, SHELLS};
 const COLUMNS: usize = 80;
 
 /// What operands are, and the names of those that each text is of.
-const OPERANDS: [(&[&str], &str); 8] = [
+const OPERANDS: [(&[&str], &str); 9] = [
     (&["FILE"], "FILE is a film, and for read-slip a slip; - is standard input."),
     (&["SLIP"], "SLIP is a slip: raw bytes, or hex text."),
     (&["TRACK"], "TRACK is a track ID. Numbers are decimal, or hex after 0x, and below 2^32."),
-    (&["CODE"], "CODE is four characters, or hex after 0x."),
+    (&["CODE"], "CODE is four characters, or hex after 0x. One of those six may stand without TRACK, for every track."),
     (
         &["MEDIA-TIME", "A", "B"],
         "MEDIA-TIME, A and B are units of the track's own time scale; or seconds as 12.5s, minutes and seconds as \
          1:02, hours too as 00:01:02.250, rounded down to units; or start, or end, where the track ends.",
     ),
+    (&["MEDIA-TIME"], "For at, end is the last unit of the track, and so its last sample."),
     (&["A", "B"], "Without A and B the whole track is taken."),
     (
         &["MOVIE-TIME"],

@@ -147,6 +147,13 @@ impl Object<'_> {
         Ok(self)
     }
 
+    /// A field whose value is written already.
+    pub fn raw(&mut self, key: &str, value: &str) -> io::Result<&mut Self> {
+        self.key(key)?;
+        self.out.write_all(value.as_bytes())?;
+        Ok(self)
+    }
+
     /// The name of a file. One that is no UTF-8 has its bytes too, under the key and `_hex`, so that it can be told apart.
     pub fn name(&mut self, key: &str, name: &OsStr) -> io::Result<&mut Self> {
         self.put(key, name.to_string_lossy().into_owned())?;

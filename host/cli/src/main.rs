@@ -23,6 +23,7 @@ mod output;
 mod progress;
 mod quay;
 mod rates;
+mod read_json;
 mod retyped;
 mod sha256;
 mod suggest;

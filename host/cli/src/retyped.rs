@@ -21,24 +21,34 @@ pub fn as_the_films(slip: &[u8], is_the_films: impl Fn(&AnySlip) -> bool) -> Opt
     let exchanged: Vec<Change> = exchanges(slip).filter(fits).take(2).collect();
     let found = if exchanged.is_empty() { changes(slip).filter(fits).take(2).collect() } else { exchanged };
     match &found[..] {
-        [one] => Some(format!("{} makes it this film's slip", one.words)),
+        [one] => Some(format!("{} makes it this film's slip (bytes are counted from 0)", one.words)),
         _ => None,
     }
 }
 
-/// The digits of a byte, or two neighbouring bytes, exchanged.
+/// The digits of a byte, two neighbouring digits of two bytes, or two neighbouring bytes, exchanged.
 fn exchanges(slip: &[u8]) -> impl Iterator<Item = Change> + '_ {
     let digits = (0..slip.len()).map(|place| changed(slip, place, slip[place].rotate_left(4)));
-    let neighbours = (1..slip.len()).map(|place| {
-        let mut other = slip.to_vec();
-        other.swap(place - 1, place);
+    let across = (1..slip.len()).map(|place| {
         let (one, two) = (slip[place - 1], slip[place]);
-        Change {
-            words: format!("bytes {} and {place}: {one:02X} {two:02X} read as {two:02X} {one:02X}", place - 1),
-            slip: other,
-        }
+        exchanged(slip, place, [one & 0xf0 | two >> 4, one << 4 | two & 0x0f])
     });
-    digits.chain(neighbours).filter(move |change| change.slip != slip)
+    let neighbours = (1..slip.len()).map(|place| exchanged(slip, place, [slip[place], slip[place - 1]]));
+    digits.chain(across).chain(neighbours).filter(move |change| change.slip != slip)
+}
+
+/// A byte and the one before it as two others.
+fn exchanged(slip: &[u8], place: usize, now: [u8; 2]) -> Change {
+    let mut other = slip.to_vec();
+    other[place - 1..=place].copy_from_slice(&now);
+    let [one, two] = now;
+    let words = format!(
+        "bytes {} and {place}: {:02X} {:02X} read as {one:02X} {two:02X}",
+        place - 1,
+        slip[place - 1],
+        slip[place]
+    );
+    Change { words, slip: other }
 }
 
 /// Each byte as every other.
@@ -72,12 +82,23 @@ mod tests {
 
     #[test]
     fn one_byte() {
-        assert_eq!(said(&with(5, 0x94)).as_deref(), Some("byte 5: 94 read as 49 makes it this film's slip"));
-        assert_eq!(said(&with(12, 0x47)).as_deref(), Some("byte 12: 47 read as 46 makes it this film's slip"));
+        assert_eq!(
+            said(&with(5, 0x94)).as_deref(),
+            Some("byte 5: 94 read as 49 makes it this film's slip (bytes are counted from 0)")
+        );
+        assert_eq!(
+            said(&with(12, 0x47)).as_deref(),
+            Some("byte 12: 47 read as 46 makes it this film's slip (bytes are counted from 0)")
+        );
         let mut exchanged = SLIP.to_vec();
         exchanged.swap(8, 9);
-        let words = "bytes 8 and 9: 32 08 read as 08 32 makes it this film's slip";
+        let words = "bytes 8 and 9: 32 08 read as 08 32 makes it this film's slip (bytes are counted from 0)";
         assert_eq!(said(&exchanged).as_deref(), Some(words));
+        // 08 32 typed as 03 82.
+        let mut across = with(8, 0x03);
+        across[9] = 0x82;
+        let words = "bytes 8 and 9: 03 82 read as 08 32 makes it this film's slip (bytes are counted from 0)";
+        assert_eq!(said(&across).as_deref(), Some(words));
     }
 
     /// Every byte that is mistyped is found, since one slip alone is good here.
@@ -85,8 +106,10 @@ mod tests {
     fn every_place() {
         for place in 0..SLIP.len() {
             let slip = with(place, SLIP[place] ^ 0x05);
-            let expected =
-                format!("byte {place}: {:02X} read as {:02X} makes it this film's slip", slip[place], SLIP[place]);
+            let expected = format!(
+                "byte {place}: {:02X} read as {:02X} makes it this film's slip (bytes are counted from 0)",
+                slip[place], SLIP[place]
+            );
             assert_eq!(said(&slip), Some(expected));
         }
     }

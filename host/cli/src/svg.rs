@@ -2,6 +2,7 @@
 use crate::html::escaped;
 use crate::time::clock_of;
 use std::fmt::Write;
+use std::ops::Range;
 
 /// The width of a picture, and where its drawing begins and ends.
 const ALL: u32 = 1040;
@@ -13,6 +14,9 @@ pub const COLUMNS: usize = 924;
 
 /// About as wide is a letter.
 const LETTER: f64 = 7.2;
+
+/// As many times larger words are on a page that is as narrow as a telephone; those that do not fit then are left out there.
+const NARROW: f64 = 1.9;
 
 /// At most as many ticks an axis has.
 const TICKS: u64 = 7;
@@ -108,17 +112,20 @@ pub struct Picture {
     height: f64,
     about: String,
     body: String,
+    /// Whether all of it is shown on a narrow page; others scroll there.
+    fits: bool,
 }
 
 impl Picture {
     /// A picture of so many pixels above its axis; and what it shows, for those who do not see it.
     pub fn new(axis: Axis, height: f64, about: &str) -> Picture {
-        let mut picture = Picture { axis, height, about: escaped(about), body: String::new() };
-        for (x, words) in axis.ticks() {
-            let y = height;
+        let fits = matches!(axis, Axis::Time(..));
+        let mut picture = Picture { axis, height, about: escaped(about), body: String::new(), fits };
+        for (i, (x, words)) in axis.ticks().into_iter().enumerate() {
+            let (y, class) = (height, if i % 2 == 0 { "tick" } else { "tick odd" });
             picture.put(format_args!("<line class=\"grid\" x1=\"{x:.1}\" x2=\"{x:.1}\" y1=\"8\" y2=\"{y}\"/>"));
             picture.put(format_args!(
-                "<text class=\"tick\" x=\"{x:.1}\" y=\"{:.0}\" text-anchor=\"middle\">{words}</text>",
+                "<text class=\"{class}\" x=\"{x:.1}\" y=\"{:.0}\" text-anchor=\"middle\">{words}</text>",
                 y + 18.0
             ));
         }
@@ -132,8 +139,12 @@ impl Picture {
 
     /// The name of a row, left of the drawing.
     pub fn row(&mut self, y: f64, words: &str) {
+        self.left("left", y, words);
+    }
+
+    fn left(&mut self, class: &str, y: f64, words: &str) {
         self.put(format_args!(
-            "<text class=\"tick\" x=\"{:.0}\" y=\"{:.0}\" text-anchor=\"end\">{}</text>",
+            "<text class=\"tick {class}\" x=\"{:.0}\" y=\"{:.0}\" text-anchor=\"end\">{}</text>",
             LEFT - 8.0,
             y,
             escaped(words)
@@ -141,16 +152,18 @@ impl Picture {
     }
 
     /// A band from one value to another, with its words inside if they fit, and always where a reader points at it.
-    pub fn band(&mut self, class: &str, (from, to): (u64, u64), (y, high): (f64, f64), (words, all): (&str, &str)) {
-        let (x, end) = (self.axis.x(from), self.axis.x(to));
+    pub fn band(&mut self, class: &str, of: Range<u64>, (y, high): (f64, f64), (words, all): (&str, &str)) {
+        let (x, end) = (self.axis.x(of.start), self.axis.x(of.end));
         let width = (end - x).max(1.0);
         let title = escaped(all);
         self.put(format_args!(
             "<g><title>{title}</title><rect class=\"{class}\" x=\"{x:.1}\" y=\"{y:.0}\" width=\"{width:.1}\" height=\"{high:.0}\"/>"
         ));
-        if words.chars().count() as f64 * LETTER + 8.0 < width {
+        let needed = words.chars().count() as f64 * LETTER + 8.0;
+        if needed < width {
+            let tight = if needed * NARROW < width { "" } else { " tight" };
             self.put(format_args!(
-                "<text class=\"on-{class}\" x=\"{:.1}\" y=\"{:.0}\" text-anchor=\"middle\">{}</text>",
+                "<text class=\"on-{class}{tight}\" x=\"{:.1}\" y=\"{:.0}\" text-anchor=\"middle\">{}</text>",
                 x + width / 2.0,
                 y + high / 2.0 + 4.5,
                 escaped(words)
@@ -161,30 +174,32 @@ impl Picture {
 
     /// The columns that are marked, as one band of pieces.
     pub fn columns(&mut self, class: &str, marked: &[bool], (y, high): (f64, f64)) {
-        let mut path = String::new();
-        let mut at = 0;
+        let (mut path, mut at) = (String::new(), 0);
         while let Some(from) = marked[at..].iter().position(|is| *is).map(|i| at + i) {
-            at = marked[from..].iter().position(|is| !*is).map_or(marked.len(), |i| from + i);
-            let _ = write!(path, "M{} {y:.0}h{}v{high:.0}h-{1}z", LEFT + from as f64, at - from);
+            let end = marked[from..].iter().position(|is| !*is).map_or(marked.len(), |i| from + i);
+            let _ = match path.is_empty() {
+                true => write!(path, "M{} {:.0}h{}", LEFT + from as f64, y + high / 2.0, end - from),
+                false => write!(path, "m{} 0h{}", from - at, end - from),
+            };
+            at = end;
         }
         if !path.is_empty() {
-            self.put(format_args!("<path class=\"{class}\" d=\"{path}\"/>"));
+            self.put(format_args!("<path class=\"all-{class}\" stroke-width=\"{high:.0}\" d=\"{path}\"/>"));
         }
     }
 
     /// An area under steps: a value for each column that has one, which holds up to the next; `top` is the value at the top. The greatest value drawn
-    /// stands beside it.
+    /// stands beside it. Heights are in tenths of a pixel.
     pub fn area(&mut self, class: &str, columns: &[Option<u64>], top: u64) {
-        let y = |picture: &Picture, value: u64| picture.y(value, top);
+        let tenths = |y: f64| (y * 10.0).round() as i64;
         let Some(first) = columns.iter().position(Option::is_some) else { return };
         let mut path = format!("M{:.0} {:.0}", LEFT + first as f64, self.height);
-        let mut last = None;
+        let (mut x, mut y) = (first, tenths(self.height));
         for (i, value) in columns.iter().enumerate() {
-            if let Some(value) = value.filter(|value| last != Some(*value)) {
-                let x = if last.is_none() { String::new() } else { format!("H{}", LEFT + i as f64) };
-                let _ = write!(path, "{x}V{:.1}", y(self, value));
-                last = Some(value);
-            }
+            let Some(now) = value.map(|value| tenths(self.y(value, top))).filter(|now| *now != y) else { continue };
+            let along = if i == x { String::new() } else { format!("h{}", i - x) };
+            let _ = write!(path, "{along}v{}", (now - y) as f64 / 10.0);
+            (x, y) = (i, now);
         }
         let _ = write!(path, "H{RIGHT}V{:.0}z", self.height);
         let greatest = columns.iter().flatten().max().unwrap_or(&0);
@@ -212,7 +227,8 @@ impl Picture {
     pub fn level_tick(&mut self, value: u64, top: u64, words: &str) {
         let y = self.y(value, top);
         self.put(format_args!("<line class=\"grid\" x1=\"{LEFT}\" x2=\"{RIGHT}\" y1=\"{y:.1}\" y2=\"{y:.1}\"/>"));
-        self.row(y + 4.0, words);
+        // That of 0 stands beside the ticks below.
+        self.left(if value == 0 { "odd" } else { "left" }, y + 4.0, words);
     }
 
     /// Words at a value of the axis, on the side where there is room.
@@ -226,9 +242,10 @@ impl Picture {
     }
 
     pub fn finish(self) -> String {
-        let Picture { about, body, height, .. } = self;
+        let Picture { about, body, height, fits, .. } = self;
+        let class = if fits { " class=\"fit\"" } else { "" };
         format!(
-            "<div class=\"frame\"><svg xmlns=\"http://www.w3.org/2000/svg\" viewBox=\"0 0 {ALL} {:.0}\" role=\"img\" \
+            "<div class=\"frame\"><svg xmlns=\"http://www.w3.org/2000/svg\"{class} viewBox=\"0 0 {ALL} {:.0}\" role=\"img\" \
              aria-label=\"{about}\">{body}</svg></div>\n",
             height + 28.0
         )

@@ -40,6 +40,10 @@ pub const FILES_FROM: Opt = Opt {
     about: "read names of films from LIST too, a line each; - is standard input",
 };
 pub const NUL: Opt = Opt { flag: "-0", value: None, about: "the names in LIST end with NUL, as find -print0 has them" };
+pub const JOBS: Opt =
+    Opt { flag: "--jobs", value: Some("N"), about: "read N films at once; without it as many as there are processors" };
+pub const JOIN: Opt =
+    Opt { flag: "--join", value: None, about: "each FILE is a return that --json wrote: print the return of all" };
 pub const SHA256: Opt =
     Opt { flag: "--sha256", value: None, about: "keep the sha256 of the film's bytes in OUT.sha256" };
 pub const OUT: Opt = Opt { flag: "-o", value: Some("OUT"), about: "write raw bytes to OUT; - is standard output" };
@@ -148,9 +152,7 @@ pub static COMMANDS: [Command; 18] = [
         options: &[&JSON, &LEAVE_OUT],
         about: "the features avvb, avab, tvsz, vfps, mvbr and mabr of each track, or of one, or that of one code",
         example: "features films/two-hoses.mov 2 vfps",
-        ask: |words| {
-            Ok(Ask::Features { track: words.if_given(1, Words::track)?, code: words.if_given(2, Words::code)? })
-        },
+        ask: |words| words.feature(1),
     },
     Command {
         name: "profile",
@@ -179,10 +181,10 @@ pub static COMMANDS: [Command; 18] = [
     Command {
         name: "film-return",
         operands: &["FILE..."],
-        options: &[&FILES_FROM, &NUL, &ALL_NUMBERS, &CSV_FILMS, &JSON_ALL],
+        options: &[&FILES_FROM, &NUL, &JOBS, &JOIN, &ALL_NUMBERS, &CSV_FILMS, &JSON_ALL],
         about:
             "the totals of all films: how many, their tracks, samples, bytes and film time; a folder is the films in it",
-        example: "film-return films/*.mov",
+        example: "film-return films/ --jobs 4 --json > quarter.json",
         ask: |words| Ok(Ask::FilmReturn(words.return_options()?)),
     },
     Command {

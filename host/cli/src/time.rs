@@ -48,8 +48,8 @@ impl Time {
         question: impl FnOnce(MediaTime) -> Result<T, Refusal>,
     ) -> Result<(MediaTime, T), Failure> {
         let time = self.of(movie, id)?;
-        let asked = (!self.is_plain()).then(|| time.to_string());
-        question(time).map(|answer| (time, answer)).map_err(|refusal| outside(movie, id, refusal, asked))
+        let asked = Asked { words: time.to_string(), is_plain: self.is_plain() };
+        question(time).map(|answer| (time, answer)).map_err(|refusal| outside(movie, id, refusal, &asked))
     }
 
     /// The media time in the track's own scale. Refused 14 where no track has that ID, and 15 where it is over what a track can have.
@@ -91,8 +91,9 @@ impl Span {
         question: impl FnOnce(Range<MediaTime>) -> Result<T, Refusal>,
     ) -> Result<(Range<MediaTime>, T), Failure> {
         let time = self.of(movie, id)?;
-        let asked = (!self.is_plain()).then(|| format!("{} to {}", time.start, time.end));
-        question(time.clone()).map(|answer| (time, answer)).map_err(|refusal| outside(movie, id, refusal, asked))
+        let back = if time.start >= time.end { ", which does not go forward," } else { "" };
+        let asked = Asked { words: format!("{} to {}{back}", time.start, time.end), is_plain: self.is_plain() };
+        question(time.clone()).map(|answer| (time, answer)).map_err(|refusal| outside(movie, id, refusal, &asked))
     }
 
     /// The media times in the track's own scale.
@@ -115,12 +116,24 @@ fn too_late(of: &str, scale: u32) -> Failure {
     Failure::Refused(Refusal::Outside, Some(words))
 }
 
-/// The refusal of a question; of a time that lies outside it says the units that were asked, if no one gave them.
-fn outside(movie: &Movie, id: TrackId, refusal: Refusal, asked: Option<String>) -> Failure {
-    match (refusal, movie.track(id), asked) {
-        (Refusal::Outside, Some(track), Some(asked)) => {
-            let end = clock(track.total, track.scale);
-            let words = format!("media time {asked} was asked, and the track ends at {} ({end})", track.total);
+/// The units that were asked, and whether they were given as plain numbers.
+struct Asked {
+    words: String,
+    is_plain: bool,
+}
+
+/// What is said of plain numbers, which may have been meant as seconds.
+pub fn plain_in_words(scale: u32) -> String {
+    format!("; plain numbers are units, {scale} to a second")
+}
+
+/// The refusal of a question; of a time that lies outside it says the units that were asked.
+fn outside(movie: &Movie, id: TrackId, refusal: Refusal, asked: &Asked) -> Failure {
+    match (refusal, movie.track(id)) {
+        (Refusal::Outside, Some(track)) => {
+            let (end, words) = (clock(track.total, track.scale), &asked.words);
+            let plain = if asked.is_plain { plain_in_words(track.scale) } else { String::new() };
+            let words = format!("media time {words} was asked, and the track ends at {} ({end}){plain}", track.total);
             Failure::Refused(refusal, Some(words))
         }
         _ => refusal.into(),

@@ -412,16 +412,28 @@ fn retyped_slips() {
         let line = out.lines().find_map(|line| line.strip_prefix("x: not proved: "));
         line.unwrap_or_default().to_string()
     };
-    assert_eq!(said(&OF_W.replace("18 49", "18 94")), "byte 5: 94 read as 49 makes it this film's slip");
-    assert_eq!(said(&OF_W.replace("84 07 46", "84 07 64")), "byte 12: 64 read as 46 makes it this film's slip");
-    assert_eq!(said(&OF_W.replace("CC 08", "08 CC")), "bytes 7 and 8: 08 CC read as CC 08 makes it this film's slip");
-    assert_eq!(said(&OF_W.replace("01 01 D8", "01 07 D8")), "byte 1: 07 read as 01 makes it this film's slip");
+    assert_eq!(
+        said(&OF_W.replace("18 49", "18 94")),
+        "byte 5: 94 read as 49 makes it this film's slip (bytes are counted from 0)"
+    );
+    assert_eq!(
+        said(&OF_W.replace("84 07 46", "84 07 64")),
+        "byte 12: 64 read as 46 makes it this film's slip (bytes are counted from 0)"
+    );
+    assert_eq!(
+        said(&OF_W.replace("CC 08", "08 CC")),
+        "bytes 7 and 8: 08 CC read as CC 08 makes it this film's slip (bytes are counted from 0)"
+    );
+    assert_eq!(
+        said(&OF_W.replace("01 01 D8", "01 07 D8")),
+        "byte 1: 07 read as 01 makes it this film's slip (bytes are counted from 0)"
+    );
     // Nothing is said of a good slip, nor where no change of one byte mends it, nor where several would.
     for hex in [OF_W, &OF_W.replace("49 02", "48 01"), &OF_W.replace("84 07 46", ""), &OF_W.replace("18 49", "18 10")] {
         assert_eq!(said(hex), "", "{hex}");
     }
     let json = desk.typed("x", &OF_W.replace("18 49", "18 94")).check("x --json").out;
-    let words = "\"retyped\":{\"words\":\"byte 5: 94 read as 49 makes it this film's slip\",\"proved\":false}";
+    let words = "\"retyped\":{\"words\":\"byte 5: 94 read as 49 makes it this film's slip (bytes are counted from 0)\",\"proved\":false}";
     assert!(json.contains(words), "{json}");
 }
 

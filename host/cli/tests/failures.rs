@@ -10,16 +10,26 @@ use std::process::Stdio;
 #[test]
 fn questions_refused() {
     let outside = "the sample number is not in 1 to N, or the time or stretch lies outside";
-    refuses("sample films/w.mov 1 0", &format!("chaldoref: films/w.mov: refused 15: {outside}\n"));
-    refuses("sample films/w.mov 1 5 --bytes", &format!("chaldoref: films/w.mov: refused 15: {outside}\n"));
-    refuses("at films/w.mov 1 120", &format!("chaldoref: films/w.mov: refused 15: {outside}\n"));
-    refuses("map films/w.mov 1 120", &format!("chaldoref: films/w.mov: refused 15: {outside}\n"));
-    refuses("stretch films/w.mov 1 73 24", &format!("chaldoref: films/w.mov: refused 15: {outside}\n"));
-    refuses("slip films/w.mov 1 24 24", &format!("chaldoref: films/w.mov: refused 15: {outside}\n"));
-    refuses("sample films/w.mov 2 1", "chaldoref: films/w.mov: refused 14: no track has that ID\n");
-    refuses("features films/w.mov 2", "chaldoref: films/w.mov: refused 14: no track has that ID\n");
-    refuses("profile films/w.mov 2", "chaldoref: films/w.mov: refused 14: no track has that ID\n");
-    refuses("check-profile films/w.mov 0", "chaldoref: films/w.mov: refused 14: no track has that ID\n");
+    let refused = |line: &str, hint: &str| {
+        refuses(line, &format!("chaldoref: films/w.mov: refused 15: {outside}\nchaldoref: hint: {hint}\n"));
+    };
+    let (samples, units) = ("track 1 has the samples 1 to 4", "plain numbers are units, 600 to a second");
+    refused("sample films/w.mov 1 0", samples);
+    refused("sample films/w.mov 1 5 --bytes", samples);
+    let end = "and the track ends at 120 (00:00:00.200)";
+    refused("at films/w.mov 1 120", &format!("media time 120 was asked, {end}; {units}"));
+    refused("map films/w.mov 1 120", &format!("movie time 120 was asked; {units}"));
+    let back = "which does not go forward";
+    refused("stretch films/w.mov 1 73 24", &format!("media time 73 to 24, {back}, was asked, {end}; {units}"));
+    refused("slip films/w.mov 1 24 24", &format!("media time 24 to 24, {back}, was asked, {end}; {units}"));
+    for line in
+        ["sample films/w.mov 2 1", "features films/w.mov 2", "profile films/w.mov 2", "check-profile films/w.mov 0"]
+    {
+        let hint = "chaldoref: hint: the film has track 1\n";
+        refuses(line, &format!("chaldoref: films/w.mov: refused 14: no track has that ID\n{hint}"));
+    }
+    let hoses = run(&["edits", HOSES, "3"]).err;
+    assert!(hoses.ends_with("chaldoref: hint: the film has tracks 1 and 2\n"), "{hoses}");
     let features = |code, hint: &str| {
         let said = format!("chaldoref: films/w.mov: refused 18: the feature cannot be computed\n{hint}");
         refuses(&format!("features films/w.mov 1 {code}"), &said);
@@ -45,9 +55,9 @@ fn questions_refused() {
 fn a_refusal_is_a_document_too() {
     let expected = Ran {
         out: "{\"format\":1,\"file\":\"films/w.mov\",\"refused\":14,\"reason\":\"no track has that ID\",\
-             \"explanation\":null,\"hint\":null}\n"
+             \"explanation\":null,\"hint\":{\"words\":\"the film has track 1\",\"proved\":false}}\n"
             .into(),
-        err: "chaldoref: films/w.mov: refused 14: no track has that ID\n".into(),
+        err: "chaldoref: films/w.mov: refused 14: no track has that ID\nchaldoref: hint: the film has track 1\n".into(),
         status: 1,
     };
     assert_eq!(run(&["at", W, "9", "0", "--json"]), expected);

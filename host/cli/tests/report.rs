@@ -1,9 +1,9 @@
 //! `chaldoref report` and `chaldoref rates`: the page is well-formed, its numbers are the library's, and it takes the place of no film.
 mod common;
 
-use chaldoref::{Feature, Movie};
+use chaldoref::{Feature, MediaTime, Movie};
 use common::{answers, program, run, run_in, words, Folder, Ran};
-use reference::film::{self, picture, w_track, Sizes, Track};
+use reference::film::{self, atom, picture, w_track, Sizes, Track};
 use reference::made::movie;
 use reference::maker::{self, limits, Random};
 use std::fs;
@@ -133,17 +133,18 @@ fn two_hoses_with_a_gap() {
         .filter(|line| line.starts_with("track 2: "))
         .for_each(|line| assert!(made.contains(line), "{line}"));
     assert_eq!(page(&folder, line).0, made);
-    assert!(made.len() < 400_000);
-    keep(&folder);
+    assert!(made.len() < LARGEST);
+    keep("two-hoses", &made);
 }
 
-/// Where the variable names a folder, what was made is copied there, for a look in a browser.
-fn keep(folder: &Folder) {
+/// A page of one film has fewer bytes.
+const LARGEST: usize = 400_000;
+
+/// Where the variable names a folder, a page is kept there, for host/check-report, which opens it in a browser.
+fn keep(name: &str, page: &str) {
     if let Ok(to) = std::env::var("CHALDOREF_KEEP_REPORT") {
-        for file in fs::read_dir(folder.path("")).unwrap() {
-            let file = file.unwrap();
-            fs::copy(file.path(), format!("{to}/{}", file.file_name().to_string_lossy())).unwrap();
-        }
+        fs::create_dir_all(&to).unwrap();
+        fs::write(format!("{to}/{name}.html"), page).unwrap();
     }
 }
 
@@ -210,29 +211,36 @@ fn rates() {
     let lines = ["0,1,3,60,1100,262", "500,2,3,50,600,400", "500,3,3,30,600,240", "1100,4,4,40,601,320"];
     assert_eq!(series, format!("time,first,last,bytes,duration,rate\n{}\n", lines.join("\n")));
     let refused = run(&words("rates films/w.mov 7"));
-    assert_eq!(refused.err, "chaldoref: films/w.mov: refused 14: no track has that ID\n");
+    assert!(refused.err.starts_with("chaldoref: films/w.mov: refused 14: no track has that ID\n"));
 }
 
 #[test]
 fn names_stay_text() {
     let folder = Folder::new("report-names");
     let (film, slip) = ("<script>alert(1)&\"'.mov", "<img src=x onerror=y>.slip");
-    folder.file(film, &hoses());
+    let mut named = movie(&[hose(1, 200_000), hose(2, 160_000)]).file_of(4_700_000);
+    let handler = [&[0; 8][..], b"vide", &[0; 12], b"<b onclick=alert(2)>\0"].concat();
+    named.replace("moov trak mdia hdlr", atom("hdlr", &handler));
+    folder.file(film, &named.bytes());
+    let long = format!("{}.mov", "quay7".repeat(50));
+    folder.file(&long, &fs::read("../../films/w.mov").unwrap());
     let wrote = program(&["slip", film, "1", "-o", slip]).current_dir(folder.path("")).output().unwrap();
     assert!(wrote.status.success());
     folder.file("\u{202e}\u{1b}[2J.mov", b"x");
-    let ran = program(&["report", film, "\u{202e}\u{1b}[2J.mov", "-o", "page.html", "--slips", slip])
+    let ran = program(&["report", film, "\u{202e}\u{1b}[2J.mov", &long, "-o", "page.html", "--slips", slip])
         .current_dir(folder.path(""))
         .output()
         .unwrap();
     assert_eq!(ran.status.code(), Some(1));
     let made = fs::read_to_string(folder.path("page.html")).unwrap();
     well_formed(&made);
-    assert!(
-        made.contains("&lt;script&gt;alert(1)&amp;&quot;&#39;.mov")
-            && made.contains("&lt;img src=x onerror=y&gt;.slip")
-    );
-    assert!(!made.contains("<script") && !made.contains("<img") && !made.contains('\u{1b}'));
+    keep("hostile-names", &made);
+    let unbroken = made.replace("<wbr/>", "");
+    for name in ["<script>alert(1)&\"'.mov", "<img src=x onerror=y>.slip", "<b onclick=alert(2)>", &long] {
+        let name = name.replace('&', "&amp;").replace('<', "&lt;").replace('>', "&gt;").replace('"', "&quot;");
+        assert!(unbroken.contains(&name.replace('\'', "&#39;")), "{name}");
+    }
+    assert!(!made.contains("<script") && !made.contains("<img") && !made.contains("<b on") && !made.contains('\u{1b}'));
 }
 
 #[test]
@@ -248,6 +256,7 @@ fn refused_and_unread_films_have_their_rows() {
     let first = refused.lines().next().unwrap().strip_prefix("chaldoref: cut.mov: ").unwrap().replace('\'', "&#39;");
     assert_eq!(made.matches(&first).count(), 2, "{first}");
     assert!(made.contains("hint: "));
+    keep("damaged", &made);
     let (made, ran) = page(&folder, "missing.mov good.mov");
     assert_eq!((ran.status, made.contains("No such file or directory")), (2, true));
 }
@@ -292,6 +301,7 @@ fn several_films_and_slips() {
     assert!(!w.contains("a.slip") && w.contains("no slip is good of this film") && w.contains("rule 6 "));
     assert!(a.contains("a.slip") && a.contains("track 1: everything is filed"));
     assert!(e.contains("nothing shown") || e.contains("shows media from"));
+    keep("several", &made);
     let (made, _) = page(&folder, "e.mov --leave-out edits");
     assert!(made.contains("the film was read without the edit lists") && made.contains("no slip is given"));
 }
@@ -303,18 +313,67 @@ fn films_read_in_part() {
     folder.file("x.mov", &hoses());
     let moof = [&[0, 0, 0, 8][..], b"moof", &[0, 0, 0, 9], b"mdat", &[0]].concat();
     folder.file("f.mov", &[hoses(), moof].concat());
+    let mut announcing = reference::hoses::two_hoses();
+    announcing.push("moov", atom("mvex", &[]));
+    folder.file("a.mov", &announcing.bytes());
     assert_eq!(run_in(&folder, "slip x.mov 1 -o 1.slip").status, 0);
-    for (line, words) in [
-        ("x.mov --slips 1.slip --leave-out track=2", "the film does not add up: track 2 was left out"),
-        ("f.mov", "the film does not add up: 1 bytes of film in fragments are not read"),
+    assert_eq!(run_in(&folder, "slip a.mov 1 -o a1.slip").status, 0);
+    let announces = "it announces fragments, and none is in this file";
+    for (line, words, accepted) in [
+        ("x.mov --slips 1.slip --leave-out track=2", "track 2 was left out", "accepted, and read in part"),
+        ("f.mov", "1 bytes of film in fragments are not read", "accepted, and read in part"),
+        ("a.mov --slips a1.slip", announces, &format!("accepted; {announces}")),
     ] {
         let (made, _) = page(&folder, line);
         let (head, section) = made.split_once("<section ").unwrap();
         for part in [head, section] {
-            assert!(part.contains(words) && part.contains("the film was not judged whole"), "{line}");
+            let words = format!("the film does not add up: {words}");
+            assert!(part.contains(&words) && part.contains("the film was not judged whole"), "{line}");
         }
-        assert!(head.contains("accepted, and read in part") && !head.contains("</b> kept"), "{line}");
+        assert!(head.contains(accepted) && !head.contains("</b> kept"), "{line}");
     }
+    // Side by side they are told apart.
+    let (made, _) = page(&folder, "f.mov a.mov --slips 1.slip a1.slip");
+    for words in [
+        "track 1: what was read is filed, but film in fragments is not read",
+        "track 1: what was read is filed, but the film announces fragments, and none is in this file",
+        "not judged whole: what lies in fragments was not judged",
+        "not judged whole: it announces fragments, and none is in this file",
+    ] {
+        assert_eq!(made.matches(words).count(), if words.starts_with("track") { 1 } else { 2 }, "{words}");
+    }
+    keep("read-in-part", &made);
+}
+
+/// A film of 16 tracks whose rates change with every sample, and of more slips than can be named: its page stays small.
+#[test]
+fn sixteen_tracks_and_many_slips() {
+    let folder = Folder::new("report-sixteen");
+    let mut random = Random::new(16);
+    let mut track = |id: u32| {
+        let sizes = (0..FRAMES * SECONDS).map(|_| random.below(1200) as u32).collect();
+        let (one, edits) = (hose(id, 100_000 + 20_000 * id), (0..100).map(|i| (30, i * 30, 0x10000)).collect());
+        let stco = (0..SECONDS).map(|second| 600_000 + (16 * second + id - 1) * 30_000).collect();
+        Track { stsz: Sizes::Each(sizes), stco, edits: Some(edits), ..one }
+    };
+    let tracks: Vec<Track> = (1..=16).map(&mut track).collect();
+    let film = film::Movie { duration: 3000, ..movie(&tracks) }.file_of(37_000_000).bytes();
+    folder.file("x.mov", &film);
+    let opened = Movie::open(&film[..]).unwrap();
+    let mut names = Vec::new();
+    for track in opened.tracks() {
+        for i in 0..60 {
+            let (start, name) = (i * 700, format!("{}-{}-{i}.slip", "'".repeat(200), track.id));
+            folder.file(&name, &opened.write_slip(track.id, MediaTime(start)..MediaTime(start + 750)).unwrap());
+            names.push(name);
+        }
+    }
+    let (made, ran) = page(&folder, &format!("x.mov --slips {}", names.join(" ")));
+    assert_eq!((ran.status, ran.err.as_str(), made.len() < LARGEST), (0, "", true), "{}", made.len());
+    well_formed(&made);
+    assert!(made.contains("60 slips, too many to name them in the picture.") && made.contains("prints all</p>"));
+    assert!(made.contains("<div>tracks 1 to 16: 00:01:15.000</div>") && made.contains("other tracks: lower, and "));
+    keep("sixteen-tracks", &made);
 }
 
 /// A film at its limits takes little memory and time, and makes a small page.
@@ -326,21 +385,30 @@ fn a_million_samples() {
     folder.file("limit.mov", &film);
     let begin = Instant::now();
     let (made, ran) = page(&folder, "limit.mov");
-    assert_eq!((ran.status, made.len() < 400_000), (0, true), "{}", made.len());
+    assert_eq!((ran.status, made.len() < LARGEST), (0, true), "{}", made.len());
     assert!(begin.elapsed().as_secs() < 60);
     well_formed(&made);
-    keep(&folder);
+    keep("a-million-samples", &made);
 }
 
+/// Films of a quarter in folders with long names, some of them cut off, and slips of one.
 #[test]
 fn five_hundred_films() {
     let folder = Folder::new("report-many");
-    let w = fs::read("../../films/w-edits.mov").unwrap();
-    let names: Vec<String> = (0..500).map(|i| format!("{i}.mov")).collect();
-    names.iter().for_each(|name| drop(folder.file(name, &w)));
-    let (made, ran) = page(&folder, &names.join(" "));
-    assert_eq!((ran.status, ran.err.as_str()), (0, ""));
+    let films = ["w-edits.mov", "two-hoses.mov", "w.mov"].map(|name| fs::read(format!("../../films/{name}")).unwrap());
+    let name = |i: usize| format!("quay-7/2026-{:02}/berth_{}-discharge-{i:05}.mov", i / 50 + 1, i % 9);
+    (0..10).for_each(|month| fs::create_dir_all(folder.path(format!("quay-7/2026-{:02}", month + 1))).unwrap());
+    for i in 0..500 {
+        let film = &films[i % 3];
+        folder.file(name(i), if i % 100 == 99 { &film[..film.len() / 2] } else { film });
+    }
+    assert_eq!(run_in(&folder, &format!("slip {} 2 0 96 -o hose-2.slip", name(1))).status, 0);
+    let names: Vec<String> = (0..500).map(name).collect();
+    let (made, ran) = page(&folder, &format!("{} --slips hose-2.slip", names.join(" ")));
+    assert_eq!((ran.status, ran.err.matches(": refused ").count()), (1, 5));
     well_formed(&made);
     assert_eq!(made.matches("<section ").count(), 500);
-    assert!(made.find("499.mov").unwrap() < made.find("<section ").unwrap());
+    let unbroken = made.replace("<wbr/>", "");
+    assert!(unbroken.find(&name(498)).unwrap() < unbroken.find("<section ").unwrap());
+    keep("500-films", &made);
 }

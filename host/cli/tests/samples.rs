@@ -70,7 +70,10 @@ fn outside() {
         let reversed = format!("{refused}chaldoref: hint: sample 3, the first, is past sample 2, the last\n");
         refuses(&format!("samples films/w.mov 1 3 2 {option}"), &reversed);
     }
-    refuses("samples films/w.mov 7 0", "chaldoref: films/w.mov: refused 14: no track has that ID\n");
+    refuses(
+        "samples films/w.mov 7 0",
+        "chaldoref: films/w.mov: refused 14: no track has that ID\nchaldoref: hint: the film has track 1\n",
+    );
     let document = run(&words("samples films/w.mov 1 5 --json"));
     assert!(document.out.starts_with("{\"format\":1,\"file\":\"films/w.mov\",\"refused\":15,"), "{}", document.out);
     assert_eq!((document.out.lines().count(), document.status), (1, 1));

@@ -56,7 +56,7 @@ fn each_film_is_named() {
 
 #[test]
 fn the_greatest_status_counts() {
-    let no_track = "chaldoref: films/w.mov: refused 14: no track has that ID\n";
+    let no_track = "chaldoref: films/w.mov: refused 14: no track has that ID\nchaldoref: hint: the film has track 1\n";
     let ran = run(&["features", W, HOSES, "2", "avvb"]);
     assert_eq!((ran.err.as_str(), ran.status), (no_track, 1));
     // A film without an answer has no name on standard output.
@@ -90,8 +90,9 @@ fn standard_input_is_one_film() {
 fn films_track_and_code() {
     let first = |line: &str| run(&words(line)).err.lines().next().unwrap().to_string();
     let number = "is a number from 0 to 4294967295, and not";
-    // Without a number the last is a film too.
-    assert_eq!(first("features films/w.mov films/w.mov avvb"), "chaldoref: avvb: No such file or directory");
+    // Without a number the last is a film too, unless it is the code of a feature.
+    assert_eq!(first("features films/w.mov films/w.mov avvc"), "chaldoref: avvc: No such file or directory");
+    assert_eq!(first("features ./avvb"), "chaldoref: ./avvb: No such file or directory");
     assert_eq!(first("features a b 1 avv"), "chaldoref: CODE is four characters, or a number after 0x, and not 'avv'");
     assert_eq!(first("features a b -1"), format!("chaldoref: TRACK {number} '-1'"));
     assert_eq!(
@@ -106,4 +107,21 @@ fn films_track_and_code() {
     let ran = common::run_in(&folder, "features 7 ./7 1 avvb");
     assert!(ran.out.starts_with("7:\ncode  name ") && ran.out.contains("\n\n./7:\ncode  name "), "{}", ran.out);
     assert_eq!(ran.status, 0);
+}
+
+/// A code alone asks every track of every film.
+#[test]
+fn a_feature_of_every_track() {
+    let one = |track: &str| run(&["features", HOSES, track, "vfps"]).out;
+    let all = run(&["features", HOSES, "vfps"]);
+    assert_eq!((all.out, all.status), (format!("track 1:\n{}track 2:\n{}", one("1"), one("2")), 0));
+    let films = run(&["features", W, HOSES, "mvbr"]).out;
+    assert!(
+        films.starts_with(&format!("{W}:\ntrack 1:\n")) && films.contains(&format!("\n{HOSES}:\ntrack 1:\n")),
+        "{films}"
+    );
+    let json = run(&["features", HOSES, "mabr", "--json"]).out;
+    assert_eq!((json.matches("\"code\":\"mabr\"").count(), json.matches("\"code\"").count()), (2, 2), "{json}");
+    // A word that is no feature's code is a film's name.
+    assert!(run(&["features", W, "nofx"]).err.contains("nofx: No such file or directory"));
 }

@@ -101,11 +101,12 @@ fn times_that_lie_outside() {
         let hint = format!("media time {asked} was asked, and the track ends at 120 (00:00:00.200)");
         refuses(line, &format!("chaldoref: films/w.mov: refused 15: {OUTSIDE}\nchaldoref: hint: {hint}\n"));
     };
-    refused("at films/w.mov 1 end", "120");
+    // The last sample is asked at the end.
+    assert_eq!(run(&words("at films/w.mov 1 end")), run(&words("at films/w.mov 1 119")));
     refused("at films/w.mov 1 1:00:00", "2160000");
     refused("stretch films/w.mov 1 0 0.202s", "0 to 121");
-    refused("slip films/w.mov 1 end end", "120 to 120");
-    refused("slip films/w.mov 1 0.1s 12", "60 to 12");
+    refused("slip films/w.mov 1 end end", "120 to 120, which does not go forward,");
+    refused("slip films/w.mov 1 0.1s 12", "60 to 12, which does not go forward,");
     for line in [
         "at films/w.mov 1 7158279s",
         "at films/w.mov 1 4294967295s",
@@ -121,7 +122,10 @@ fn times_that_lie_outside() {
     for line in
         ["at films/w.mov 9 1s", "at films/w.mov 9 4294967295s", "stretch films/w.mov 9", "slip films/w.mov 9 0 end"]
     {
-        refuses(line, "chaldoref: films/w.mov: refused 14: no track has that ID\n");
+        refuses(
+            line,
+            "chaldoref: films/w.mov: refused 14: no track has that ID\nchaldoref: hint: the film has track 1\n",
+        );
     }
 }
 

@@ -19,13 +19,13 @@ use std::ops::Range;
 pub(super) struct Account<'m> {
     pub track: &'m Track,
     pub filed: Filed,
-    /// Whether the film has fragments, so that more of the track may be in them.
-    fragmented: bool,
+    /// The film's fragments, in which more of the track may be.
+    pub fragments: Option<Fragments>,
 }
 
 impl Account<'_> {
     pub fn adds_up(&self) -> bool {
-        self.filed.adds_up() && !self.fragmented
+        self.filed.adds_up() && self.fragments.is_none()
     }
 
     pub fn verdict(&self) -> &'static str {
@@ -47,7 +47,7 @@ pub(super) struct Report<'a> {
     /// The video tracks that were left out, whose film may be unfiled.
     left_out_videos: Vec<TrackId>,
     /// The film in fragments, which is not read.
-    fragments: Option<Fragments>,
+    pub fragments: Option<Fragments>,
     pub warnings: Vec<String>,
 }
 
@@ -60,10 +60,10 @@ pub fn check(film: &Film, movie: &Movie, names: &[OsString], to: Answer) -> Resu
     worse(report.outcome(), printed)
 }
 
-fn account<'m>(track: &'m Track, slips: &[Checked], fragmented: bool) -> Account<'m> {
+fn account<'m>(track: &'m Track, slips: &[Checked], fragments: Option<Fragments>) -> Account<'m> {
     let own = slips.iter().filter_map(Checked::good).filter(|slip| is_of(slip, track));
     // A good slip has times of the track.
-    Account { track, filed: Filed::of(own.filter_map(AnySlip::time).collect(), track.total), fragmented }
+    Account { track, filed: Filed::of(own.filter_map(AnySlip::time).collect(), track.total), fragments }
 }
 
 pub(super) fn is_of(slip: &AnySlip, track: &Track) -> bool {
@@ -79,7 +79,7 @@ impl<'a> Report<'a> {
         left_out: &[LeaveOut],
         fragments: Option<Fragments>,
     ) -> Report<'a> {
-        let accounts = movie.tracks().iter().map(|track| account(track, &slips, fragments.is_some())).collect();
+        let accounts = movie.tracks().iter().map(|track| account(track, &slips, fragments)).collect();
         let is_filed = |track: &&Track| slips.iter().filter_map(Checked::good).any(|slip| is_of(slip, track));
         let filed = movie.tracks().iter().filter(is_filed);
         let mut warnings = warnings::of_fragments(fragments);
@@ -126,7 +126,8 @@ impl<'a> Report<'a> {
                 writeln!(out, "{}", part("gap", track, time))?;
             }
             for time in &filed.overlaps {
-                writeln!(out, "{}, filed by {}", part("overlap", track, time), self.filed_by(track, time))?;
+                let names = self.filed_by(track, time).join(", ");
+                writeln!(out, "{}, filed by {names}", part("overlap", track, time))?;
             }
         }
         if let Some(parts) = &self.left_out {
@@ -137,11 +138,11 @@ impl<'a> Report<'a> {
     }
 
     /// The names of the good slips that file some of that time of a track.
-    pub fn filed_by(&self, track: &Track, time: &Range<MediaTime>) -> String {
+    pub fn filed_by(&self, track: &Track, time: &Range<MediaTime>) -> Vec<String> {
         let (a, b) = (u64::from(time.start.0), u64::from(time.end.0));
         let files = |slip: &AnySlip| is_of(slip, track) && slip.a < b && a < slip.b;
         let some = self.slips.iter().filter(|checked| checked.good().is_some_and(files));
-        some.map(|checked| input::called(checked.name)).collect::<Vec<_>>().join(", ")
+        some.map(|checked| input::called(checked.name)).collect()
     }
 
     /// What the good slips say of the pictures themselves.
@@ -169,14 +170,8 @@ impl<'a> Report<'a> {
     }
 
     pub fn tracks_in_words(&self) -> String {
-        match self.fragments {
-            Some(Fragments { count: 0, .. }) => {
-                return "the film does not add up: it announces fragments, and none is in this file".into();
-            }
-            Some(Fragments { bytes, .. }) => {
-                return format!("the film does not add up: {bytes} bytes of film in fragments are not read");
-            }
-            None => (),
+        if let Some(fragments) = self.fragments {
+            return format!("the film does not add up: {}", fragments.unread_in_words());
         }
         if let Some(track) = self.left_out_videos.first() {
             return format!("the film does not add up: track {track} was left out");

@@ -40,7 +40,10 @@ fn verdict(fault: Option<QuayFault>, in_part: bool) -> Result<(), Failure> {
 /// What was not judged, in words, if anything was not.
 pub(super) fn in_part(left_out: &[LeaveOut], fragments: Option<Fragments>) -> Option<String> {
     let left_out = warnings::left_out(left_out).map(|parts| format!("{parts} left out"));
-    let fragments = fragments.map(|_| NOT_JUDGED.to_string());
+    let fragments = fragments.map(|fragments| match fragments.count {
+        0 => fragments.unread_in_words(),
+        _ => NOT_JUDGED.into(),
+    });
     let all: Vec<String> = left_out.into_iter().chain(fragments).collect();
     (!all.is_empty()).then(|| all.join("; "))
 }

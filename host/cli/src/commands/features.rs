@@ -17,10 +17,12 @@ struct Found {
     peak: Option<Peak>,
 }
 
-/// All six features of a track, or of each; that one of them cannot be computed is an answer here.
-pub fn features(movie: &Movie, track: Option<TrackId>, to: Answer) -> Result<(), Failure> {
+/// All six features of a track, or of each, or the one of a code; that one of them cannot be computed is an answer here.
+pub fn features(movie: &Movie, track: Option<TrackId>, code: Option<FourCC>, to: Answer) -> Result<(), Failure> {
+    let codes = Feature::ALL.iter().map(|feature| feature.code()).filter(|own| code.is_none_or(|code| code == *own));
+    let codes: Vec<FourCC> = codes.collect();
     let all = of_each(movie, track, |track| {
-        let found = Feature::ALL.iter().map(|feature| found(movie, track, feature.code())).collect::<Vec<Found>>();
+        let found = codes.iter().map(|code| found(movie, track, *code)).collect::<Vec<Found>>();
         Ok((track, found))
     })?;
     match (track, &all[..]) {

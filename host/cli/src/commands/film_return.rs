@@ -1,4 +1,7 @@
 //! The quarter's film return: the totals of all films named.
+mod jobs;
+mod joined;
+
 use super::{refusal_fields, told, told_of};
 use crate::args::Request;
 use crate::failure::{in_words, worse, Failure};
@@ -20,6 +23,10 @@ pub struct Options {
     pub csv: bool,
     /// The lines of zero too.
     pub all: bool,
+    /// As many films are read at once.
+    pub jobs: usize,
+    /// The files are returns, and are joined.
+    pub join: bool,
 }
 
 /// What became of a film.
@@ -44,8 +51,11 @@ enum Verdict {
     Skipped(Failure),
 }
 
-/// Files the films one after the other, and prints the totals or a line for each film. A film that is not accepted is named on standard error, and why.
+/// Files the films, in their order, and prints the totals or a line for each film. A film that is not accepted is named on standard error, and why.
 pub fn film_return(request: &Request, options: &Options, out: &mut dyn Write) -> Result<(), Failure> {
+    if options.join {
+        return joined::join(request, options.all, out);
+    }
     let listed = match options.list.as_ref().map(|list| (list, list.names())) {
         Some((list, Err(error))) => return no_list(&list.name, error, request.json, out),
         Some((_, Ok(names))) => names,
@@ -53,20 +63,17 @@ pub fn film_return(request: &Request, options: &Options, out: &mut dyn Write) ->
     };
     let films = Films::named(request.files.iter().cloned().chain(listed));
     let mut done = tell_folders(&films);
-    let mut totals = FilmReturn::new();
-    let mut filed = Vec::new();
-    let mut progress = Progress::of_films(films.names.len());
-    for name in films.names {
-        let film = file(name, &mut totals, options.csv);
+    let (mut filed, mut progress) = (Vec::new(), Progress::of_films(films.names.len()));
+    let totals = jobs::file_all(&films.names, options, |film| {
         if !matches!(film.verdict, Verdict::Accepted) {
             progress.clear();
-            done = worse(done, film.tell());
+            done = worse(std::mem::replace(&mut done, Ok(())), film.tell());
         }
         progress.add(1);
         if options.csv || !matches!(film.verdict, Verdict::Accepted) {
             filed.push(film);
         }
-    }
+    });
     progress.end();
     filed.extend(films.unread.into_iter().map(|(name, error)| Filed::skipped(name, Failure::Input(error))));
     let printed = match request.json {
@@ -197,6 +204,10 @@ fn print(totals: &FilmReturn, filed: &[Filed], all: bool, out: &mut dyn Write) -
     for film in filed.iter().filter(|film| film.is_skipped()) {
         writeln!(out, "skipped {}", input::shown(&film.name))?;
     }
+    print_totals(totals, all, out)
+}
+
+fn print_totals(totals: &FilmReturn, all: bool, out: &mut dyn Write) -> io::Result<()> {
     writeln!(out, "accepted {}", totals.accepted())?;
     for (refusal, films) in totals.refused().filter(|(_, films)| all || *films > 0) {
         writeln!(out, "refused {} {films}", refusal.number())?;

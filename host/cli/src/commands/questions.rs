@@ -5,7 +5,7 @@ use crate::failure::Failure;
 use crate::film::Film;
 use crate::json::{Object, Value};
 use crate::table::{self, number, text};
-use crate::time::{clock, Time};
+use crate::time::{clock, plain_in_words, Time};
 use crate::unproved;
 use crate::warnings;
 use chaldoref::{Movie, MovieTime, ProfileRecord, Refusal, Shown, Track, TrackId};
@@ -54,7 +54,7 @@ pub fn sample_bytes(film: &Film, movie: &Movie, track: TrackId, n: u32, to: Answ
 }
 
 pub fn at(movie: &Movie, track: TrackId, time: &Time, to: Answer) -> Result<(), Failure> {
-    let (time, at) = time.ask(movie, track, |time| movie.sample_at(track, time))?;
+    let (time, at) = last_at_end(movie, track, time).ask(movie, track, |time| movie.sample_at(track, time))?;
     let sample = movie.sample(track, at.sample)?;
     let scale = scale(movie, track)?;
     let warnings = warnings::of_ctts(movie, track, "the sample is the one at that decode time");
@@ -74,9 +74,17 @@ pub fn at(movie: &Movie, track: TrackId, time: &Time, to: Answer) -> Result<(), 
     Ok(table::write(to.out, columns, &[row], |row| row.clone())?)
 }
 
+/// A sample is asked at the end of a track as at its last unit: at the end itself there is none.
+fn last_at_end(movie: &Movie, track: TrackId, time: &Time) -> Time {
+    match (time, movie.track(track)) {
+        (Time::End, Some(track)) => Time::Units(track.total.0.saturating_sub(1)),
+        (other, _) => other.clone(),
+    }
+}
+
 pub fn map(movie: &Movie, track: TrackId, asked: &Time, to: Answer) -> Result<(), Failure> {
     let time = asked.of_movie(movie)?;
-    let shown = movie.media_time(track, time).map_err(|refusal| outside(asked, time, refusal))?;
+    let shown = movie.media_time(track, time).map_err(|refusal| outside(movie, asked, time, refusal))?;
     let media = match shown {
         Shown::At(media) => Some(media),
         Shown::Nothing => None,
@@ -100,11 +108,12 @@ pub fn map(movie: &Movie, track: TrackId, asked: &Time, to: Answer) -> Result<()
     Ok(table::write(to.out, columns, &[[time.to_string(), shown, start]], |row| row.clone())?)
 }
 
-/// The refusal of a movie time; it says the units, if no one gave them.
-fn outside(asked: &Time, time: MovieTime, refusal: Refusal) -> Failure {
+/// The refusal of a movie time; it says the units.
+fn outside(movie: &Movie, asked: &Time, time: MovieTime, refusal: Refusal) -> Failure {
     match refusal {
-        Refusal::Outside if !asked.is_plain() => {
-            Failure::Refused(refusal, Some(format!("movie time {time} was asked")))
+        Refusal::Outside => {
+            let plain = if asked.is_plain() { plain_in_words(movie.header().scale) } else { String::new() };
+            Failure::Refused(refusal, Some(format!("movie time {time} was asked{plain}")))
         }
         other => other.into(),
     }

@@ -8,7 +8,7 @@ use crate::args::Request;
 use crate::checked::{Checked, Kind};
 use crate::failure::{worse, Failure};
 use crate::film::Film;
-use crate::html::{self, escaped, table, text, Cell, Mark};
+use crate::html::{self, escaped, table, Cell, Mark};
 use crate::input;
 use crate::output;
 use crate::progress::Progress;
@@ -163,9 +163,4 @@ fn of_no_film(loose: &[Loose]) -> String {
         vec![html::html(html::name(&input::called(slip.name))), html::html(Mark::Bad.says(&words))]
     });
     format!("<h2>Slips of no film</h2>\n{}", table("", &["slip", "verdict"], rows))
-}
-
-/// A dash, where a film has no answer.
-fn none() -> Cell {
-    text("-")
 }

@@ -3,8 +3,8 @@ use super::super::check::{part, slip_verdict, Account, Report};
 use super::super::edits::{header_in_words, placed};
 use super::super::features::peak_in_words;
 use super::super::{check_profile, check_quay};
-use super::pictures::{self, rate_in_words};
-use super::{none, Told};
+use super::pictures::{self, rate_in_words, NAME};
+use super::{Told, SUMMARY};
 use crate::checked::Checked;
 use crate::failure::Failure;
 use crate::film::Film;
@@ -16,11 +16,24 @@ use crate::svg::{grouped, Axis, COLUMNS};
 use crate::time::clock;
 use crate::unproved;
 use crate::warnings;
-use chaldoref::{Feature, LeaveOut, MediaTime, Movie, Peak, ProfileRecord, QuayFault, Refusal, Track};
+use chaldoref::{Feature, LeaveOut, MediaTime, Movie, Peak, ProfileRecord, QuayFault, Refusal, Track, TrackId};
 use std::ffi::OsStr;
 
-/// At most as many rows a long table has; below it stands the command that prints all.
+/// At most as many rows a long table has, and about as many bytes; below it stands the command that prints all.
 const MOST_ROWS: usize = 200;
+const MOST_BYTES: usize = 32_000;
+
+/// As many parts are drawn with their names in the timelines of a film, and as many again in its edit lists; as many gaps and overlaps are listed. The tracks
+/// share them.
+const MOST_PARTS: usize = 128;
+
+/// Of more tracks the summary does not name each.
+const NAMED_TRACKS: usize = 4;
+
+const NO_CLAIM: &str = "the camera claims nothing";
+
+/// As many slips are named that file the same time.
+const NAMED_SLIPS: usize = 3;
 
 /// What was asked of a film.
 pub struct Asked<'a> {
@@ -90,7 +103,7 @@ impl<'m> Rates<'m> {
             format!("the camera claims at most {} ({}): {verdict}", rate_in_words(record.value.into()), record.code)
         };
         if claims.is_empty() {
-            return (None, format!("{peak}; the camera claims nothing"));
+            return (None, format!("{peak}; {NO_CLAIM}"));
         }
         let mark = if claims.iter().all(|(_, is_true)| *is_true) { Mark::Good } else { Mark::Bad };
         (Some(mark), format!("{peak}; {}", claims.iter().map(said).collect::<Vec<_>>().join("; ")))
@@ -108,7 +121,7 @@ pub fn accepted(film: &Film, movie: &Movie, slips: Vec<Checked>, asked: &Asked) 
         in_short(&report, &rates, &quay, asked),
         tracks(movie),
         filed(movie, &report, asked)?,
-        bit_rates(&rates),
+        bit_rates(&rates, asked),
         bytes(film, movie, &report, asked)?,
         not_proved(film, movie, &report, asked)?,
     ];
@@ -133,8 +146,7 @@ pub fn refused(file: &OsStr, number: usize, failure: &Failure) -> Told {
     let more: String = rest.iter().map(|line| format!("<div class=\"soft\">{}</div>", escaped(line))).collect();
     let verdict = format!("<div>{}</div>{more}", Mark::Bad.says(&first));
     let name = format!("<a href=\"#film-{number}\">{}</a>", html::name(&called));
-    let mut row = vec![html::html(name), html::html(verdict.clone())];
-    row.extend((0..6).map(|_| none()));
+    let row = vec![html::html(name), html::wide(SUMMARY.len() - 1, verdict.clone())];
     let section = format!("<section id=\"film-{number}\"><h2>{}</h2>{verdict}</section>\n", html::name(&called));
     Told { row, section, is_read: false }
 }
@@ -154,7 +166,13 @@ fn account_in_words(account: &Account) -> (Mark, String) {
     match track.total.0 - filed.units {
         0 if account.adds_up() && track.total.0 == 0 => (Mark::Good, "nothing to file".into()),
         0 if account.adds_up() => (Mark::Good, "everything is filed".into()),
-        0 if twice == 0 => (Mark::Bad, "does not add up: film in fragments is not read".into()),
+        0 if twice == 0 => {
+            let why = account.fragments.map_or(String::new(), |fragments| match fragments.count {
+                0 => ", but the film announces fragments, and none is in this file".into(),
+                _ => ", but film in fragments is not read".into(),
+            });
+            (Mark::Bad, format!("what was read is filed{why}"))
+        }
         0 => (Mark::Look, format!("{} is filed more than once", time(twice))),
         missing => (Mark::Bad, format!("{} of film is not filed", time(missing))),
     }
@@ -198,31 +216,92 @@ fn lines(all: impl IntoIterator<Item = (Option<Mark>, String)>) -> Cell {
     html::html(all.into_iter().map(line).collect())
 }
 
+/// What is said of each track, those of which the same is said together.
+fn by_track(all: impl IntoIterator<Item = (TrackId, Option<Mark>, String)>) -> Vec<(Option<Mark>, String)> {
+    let mut groups: Vec<(Vec<TrackId>, Option<Mark>, String)> = Vec::new();
+    for (id, mark, words) in all {
+        match groups.iter_mut().find(|group| (group.1, &group.2) == (mark, &words)) {
+            Some(group) => group.0.push(id),
+            None => groups.push((vec![id], mark, words)),
+        }
+    }
+    groups.into_iter().map(|(ids, mark, words)| (mark, format!("{}: {words}", tracks_in_words(&ids)))).collect()
+}
+
+/// The tracks of these IDs.
+fn tracks_in_words(ids: &[TrackId]) -> String {
+    let is_run = ids.windows(2).all(|two| two[0].0.checked_add(1) == Some(two[1].0));
+    match ids {
+        [one] => format!("track {one}"),
+        [one, two] => format!("tracks {one} and {two}"),
+        [first, .., last] if is_run => format!("tracks {first} to {last}"),
+        _ => format!("tracks {}", ids.iter().map(TrackId::to_string).collect::<Vec<_>>().join(", ")),
+    }
+}
+
+/// The peaks of a film, in its one line: of many tracks only the highest, and those whose camera claims what is not true.
+fn peaks_in_words(rates: &[Rates]) -> Vec<(Option<Mark>, String)> {
+    let in_words = |one: &Rates| {
+        let (mark, words) = one.in_words();
+        (mark, words.replace(NO_CLAIM, "no claim"))
+    };
+    if rates.len() <= NAMED_TRACKS {
+        return rates.iter().map(in_words).collect();
+    }
+    let highest = rates.iter().filter_map(|one| Some((one.highest.ok()?, one.track.id)));
+    let highest = highest.max_by_key(|(rate, _)| *rate).map(|(_, id)| id);
+    let said: Vec<(TrackId, (Option<Mark>, String))> = rates.iter().map(|one| (one.track.id, in_words(one))).collect();
+    let is_named =
+        |(id, (mark, _)): &&(TrackId, (Option<Mark>, String))| *mark == Some(Mark::Bad) || highest == Some(*id);
+    let named: Vec<(Option<Mark>, String)> = said.iter().filter(is_named).map(|(_, words)| words.clone()).collect();
+    let rest: Vec<&(Option<Mark>, String)> = said.iter().filter(|one| !is_named(one)).map(|(_, words)| words).collect();
+    let claims = rest.iter().filter(|(mark, _)| mark.is_some()).count();
+    let none = rest.len() - claims;
+    let counted = |count: usize, words: &str, mark| {
+        let s = if count == 1 { "" } else { "s" };
+        (count > 0).then(|| (mark, format!("{count} other track{s}: lower, and {words}")))
+    };
+    let others = [counted(claims, "what the camera claims is true", Some(Mark::Good)), counted(none, NO_CLAIM, None)];
+    named.into_iter().chain(others.into_iter().flatten()).collect()
+}
+
+/// Whether a film is accepted, and whether all of it was read.
+fn accepted_in_words(report: &Report, asked: &Asked) -> String {
+    let announced = report.fragments.is_some_and(|fragments| fragments.count == 0);
+    if asked.left_out.is_empty() && announced {
+        return Mark::Look.says("accepted; it announces fragments, and none is in this file");
+    }
+    if report.not_whole().is_none() && asked.left_out.is_empty() {
+        return Mark::Good.says("accepted");
+    }
+    Mark::Look.says("accepted, and read in part")
+}
+
 fn row(movie: &Movie, report: &Report, rates: &[Rates], quay: &(Mark, String), asked: &Asked) -> Vec<Cell> {
     let name = format!("<a href=\"#film-{}\">{}</a>", asked.number, html::name(&input::called(asked.file)));
-    let is_whole = report.not_whole().is_none() && asked.left_out.is_empty();
-    let accepted = if is_whole { Mark::Good.says("accepted") } else { Mark::Look.says("accepted, and read in part") };
-    let time = |track: &Track, units: MediaTime| format!("track {}: {}", track.id, clock(units, track.scale));
-    let totals = movie.tracks().iter().map(|track| (None, time(track, track.total)));
-    let filed = report.accounts.iter().map(|account| (None, time(account.track, MediaTime(account.filed.units))));
-    let missing = report.accounts.iter().map(|account| {
-        let units = account.track.total.0 - account.filed.units;
+    let totals = movie.tracks().iter().map(|track| (track.id, None, clock(track.total, track.scale)));
+    let accounts = || report.accounts.iter();
+    let filed =
+        accounts().map(|Account { track, filed, .. }| (track.id, None, clock(MediaTime(filed.units), track.scale)));
+    let missing = accounts().map(|account| {
+        let Account { track, filed, .. } = account;
+        let units = track.total.0 - filed.units;
         let mark = if account.adds_up() { Mark::Good } else { worst(account_in_words(account).0, asked) };
-        let words = time(account.track, MediaTime(units));
-        (Some(mark), if units == 0 { format!("track {}: nothing", account.track.id) } else { words })
+        let words = if units == 0 { "nothing".into() } else { clock(MediaTime(units), track.scale) };
+        (track.id, Some(mark), words)
     });
-    let missing: Vec<(Option<Mark>, String)> =
-        if asked.slips_given { missing.collect() } else { vec![(Some(Mark::Look), "no slip is given".into())] };
+    let missing =
+        if asked.slips_given { by_track(missing) } else { vec![(Some(Mark::Look), "no slip is given".into())] };
     let (quay, words) = quay;
     let whole = report.not_whole().map(|words| (Some(Mark::Bad), words));
     vec![
         html::html(name),
-        html::html(accepted),
+        html::html(accepted_in_words(report, asked)),
         number(movie.tracks().len()),
-        lines(totals),
-        lines(filed),
+        lines(by_track(totals)),
+        lines(by_track(filed)),
         lines(missing.into_iter().chain(whole)),
-        lines(rates.iter().map(Rates::in_words)),
+        lines(peaks_in_words(rates)),
         html::html(quay.says(words)),
     ]
 }
@@ -266,24 +345,28 @@ fn tracks(movie: &Movie) -> String {
         row
     });
     let movie_words = escaped(&header_in_words(&movie.header()));
-    format!("<h3>Which tracks it holds</h3>\n{}<p class=\"soft\">{movie_words}</p>\n", table("", &headings, rows))
+    format!(
+        "<h3>Which tracks it holds</h3>\n<p class=\"soft lead\">Each hose is filmed by one video track (vide).</p>\n{}<p class=\"soft\">{movie_words}</p>\n",
+        table("flow", &headings, rows)
+    )
 }
 
 /// What the bands of a timeline mean.
 const FILED: &str =
-    "<h3>What is filed</h3>\n<p class=\"soft\">Filled bars are filed, with the name of the slip; hatched parts are \
+    "<h3>What is filed</h3>\n<p class=\"soft lead\">Filled bars are filed, with the name of the slip; hatched parts are \
                      gaps, which no slip files; dotted parts are filed more than once.</p>\n";
 
 /// A timeline for each track, with its edits; then the slips, and what adds up.
 fn filed(movie: &Movie, report: &Report, asked: &Asked) -> Result<String, Failure> {
     let mut out = String::from(FILED);
+    let most = share(MOST_PARTS, report.accounts.len());
     for account in &report.accounts {
         let (mark, words) = account_in_words(account);
         let id = account.track.id;
         out += &format!("<h4>Track {id}: {}</h4>\n", worst(mark, asked).says(&words));
-        out += &pictures::filed(account, &report.slips);
-        out += &parts(report, account);
-        out += &pictures::edits(movie, account.track, &placed(&movie.edits(id)?));
+        out += &pictures::filed(account, &report.slips, most);
+        out += &parts(report, account, most, asked);
+        out += &pictures::edits(movie, account.track, &placed(&movie.edits(id)?), most);
     }
     let row = |account: &Account| {
         let Account { track, filed, .. } = account;
@@ -292,9 +375,9 @@ fn filed(movie: &Movie, report: &Report, asked: &Asked) -> Result<String, Failur
         let [filed, total] = times;
         vec![number(track.id), filed, total, html::html(mark.says(account.verdict()))]
     };
-    out += &table("", &["track", "filed", "movie has", "verdict"], report.accounts.iter().map(row));
+    out += &table("flow", &["track", "filed", "movie has", "verdict"], report.accounts.iter().map(row));
     if !report.slips.is_empty() {
-        out += &slips(&report.slips);
+        out += &slips(&report.slips, asked);
     }
     let given = if report.slips.is_empty() && asked.slips_given {
         "no slip is good of this film".into()
@@ -305,33 +388,52 @@ fn filed(movie: &Movie, report: &Report, asked: &Asked) -> Result<String, Failur
     Ok(out)
 }
 
-/// The gaps and overlaps of a track, in the words of `check`.
-fn parts(report: &Report, account: &Account) -> String {
-    let Account { track, filed, .. } = account;
-    let gaps = filed.gaps.iter().map(|time| part("gap", track, time));
-    let overlaps = filed
-        .overlaps
-        .iter()
-        .map(|time| format!("{}, filed by {}", part("overlap", track, time), report.filed_by(track, time)));
-    let all: Vec<String> = gaps.chain(overlaps).collect();
-    if all.is_empty() {
-        return String::new();
-    }
-    let items: String = all.iter().take(MOST_ROWS).map(|words| format!("<li>{}</li>", escaped(words))).collect();
-    let more = more(all.len(), "chaldoref check");
-    format!("<ul>{items}</ul>{more}\n")
+/// The part of each track, which is not too small.
+fn share(all: usize, tracks: usize) -> usize {
+    all / tracks.max(1)
 }
 
-/// What is said below a table that has not all rows.
-fn more(all: usize, command: &str) -> String {
-    match all.saturating_sub(MOST_ROWS) {
+/// The gaps and overlaps of a track, in the words of `check`.
+fn parts(report: &Report, account: &Account, most: usize, asked: &Asked) -> String {
+    let Account { track, filed, .. } = account;
+    let gaps = filed.gaps.iter().map(|time| part("gap", track, time));
+    let overlaps = filed.overlaps.iter().map(|time| {
+        let names = report.filed_by(track, time);
+        let rest = names.len().saturating_sub(NAMED_SLIPS);
+        let some: Vec<String> = names.iter().take(NAMED_SLIPS).map(|name| html::shortened(name, NAME)).collect();
+        let rest = if rest == 0 { String::new() } else { format!(" and {rest} more") };
+        format!("{}, filed by {}{rest}", part("overlap", track, time), some.join(", "))
+    });
+    let count = filed.gaps.len() + filed.overlaps.len();
+    if count == 0 {
+        return String::new();
+    }
+    let items: String = gaps.chain(overlaps).take(most).map(|words| format!("<li>{}</li>", escaped(&words))).collect();
+    let command = format!("chaldoref check {} SLIP..", input::called(asked.file));
+    format!("<ul>{items}</ul>{}\n", more(count, most, &command))
+}
+
+/// The first rows of a long table, and how many they are.
+fn first_rows(rows: impl Iterator<Item = Vec<Cell>>) -> Vec<Vec<Cell>> {
+    let mut bytes = 0;
+    let fits = |row: &Vec<Cell>| {
+        bytes += html::weight(row);
+        bytes <= MOST_BYTES
+    };
+    rows.take(MOST_ROWS).take_while(fits).collect()
+}
+
+/// What is said below a table or list that has so many of all rows.
+fn more(all: usize, shown: usize, command: &str) -> String {
+    match all.saturating_sub(shown) {
         0 => String::new(),
         more => format!("<p class=\"soft\">and {more} more: <code>{}</code> prints all</p>", escaped(command)),
     }
 }
 
-fn slips(slips: &[Checked]) -> String {
-    let row = |checked: &Checked| {
+/// The slips and whether they are good. Of very many those that are not good come first.
+fn slips(slips: &[Checked], asked: &Asked) -> String {
+    let row = |checked: &&Checked| {
         let name = html::html(html::name(&input::called(checked.name)));
         let mark = if checked.wrong.is_none() { Mark::Good } else { Mark::Bad };
         let mut words = mark.says(&slip_verdict(checked));
@@ -347,13 +449,20 @@ fn slips(slips: &[Checked]) -> String {
             None => vec![name, number("-"), number("-"), number("-"), number("-"), verdict],
         }
     };
-    table("", &["slip", "track", "from", "to", "film time", "verdict"], slips.iter().map(row))
+    let mut all: Vec<&Checked> = slips.iter().collect();
+    if all.len() > MOST_ROWS {
+        all.sort_by_key(|checked| checked.wrong.is_none());
+    }
+    let rows = first_rows(all.iter().map(row));
+    let command = format!("chaldoref check {} SLIP..", input::called(asked.file));
+    let rest = more(all.len(), rows.len(), &command);
+    table("flow", &["slip", "track", "from", "to", "film time", "verdict"], rows) + &rest
 }
 
 /// The picture of each track's rates, and below it the peak and the camera's claims.
-fn bit_rates(all: &[Rates]) -> String {
+fn bit_rates(all: &[Rates], asked: &Asked) -> String {
     let mut out = String::from(
-        "<h3>Bit rate over time</h3>\n<p class=\"soft\">At each time the rate of the run of one second that begins there; the \
+        "<h3>Bit rate over time</h3>\n<p class=\"soft lead\">At each time the rate of the run of one second that begins there; the \
          second with the highest rate is marked.</p>\n",
     );
     for rates in all {
@@ -366,13 +475,13 @@ fn bit_rates(all: &[Rates]) -> String {
             out += &format!("<p>Peak: {} bits a second in {peak}.</p>\n", grouped(rate.into()));
         }
         if !rates.profile.records.is_empty() {
-            out += &profile(&rates.profile);
+            out += &profile(&rates.profile, share(MOST_PARTS, all.len()), asked);
         }
     }
     out
 }
 
-fn profile(profile: &check_profile::Checked) -> String {
+fn profile(profile: &check_profile::Checked, most: usize, asked: &Asked) -> String {
     let row = |judged: &check_profile::Judged| {
         let words = judged.in_words();
         let verdict = match &judged.verdict {
@@ -385,8 +494,10 @@ fn profile(profile: &check_profile::Checked) -> String {
         vec![number(judged.place), text(&part), text(&record.code.to_string()), number(record.value), verdict]
     };
     let sentence = escaped(&check_profile::sentence(profile));
-    let rows = profile.records.iter().map(row);
-    format!("{}<p>{sentence}.</p>\n", table("", &["record", "part", "code", "value", "verdict"], rows))
+    let rows = profile.records.iter().take(most).map(row);
+    let command = format!("chaldoref check-profile {}", input::called(asked.file));
+    let rest = more(profile.records.len(), most, &command);
+    format!("{}{rest}<p>{sentence}.</p>\n", table("flow", &["record", "part", "code", "value", "verdict"], rows))
 }
 
 /// The map of the file, its atoms, and the ranges of what is filed.
@@ -426,9 +537,10 @@ fn ranges(movie: &Movie, report: &Report, asked: &Asked) -> Result<String, Failu
         return Ok("<p>No byte is filed.</p>\n".into());
     }
     let command = format!("chaldoref stretch {} TRACK A B", input::called(asked.file));
+    let rows = first_rows(rows.into_iter());
+    let rest = more(all, rows.len(), &command);
     let table = table("", &["slip", "track", "offset", "length"], rows);
     let s = if all == 1 { "" } else { "s" };
-    let rest = more(all, &command);
     Ok(format!("<details><summary>The {all} byte range{s} of what is filed</summary>{table}{rest}</details>\n"))
 }
 

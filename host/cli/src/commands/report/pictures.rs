@@ -4,7 +4,7 @@ use super::super::edits::{movie_time, units, Entry};
 use super::film::Rates;
 use crate::checked::Checked;
 use crate::failure::Failure;
-use crate::html::escaped;
+use crate::html::{escaped, shortened};
 use crate::input;
 use crate::svg::{round_step, Axis, Picture, COLUMNS};
 use crate::time::{clock, stretch_in_words};
@@ -17,6 +17,9 @@ const BAND: (f64, f64) = (14.0, 30.0);
 
 /// More atoms are drawn without their names.
 const MOST_ATOMS: usize = 64;
+
+/// As long is a name in the words of a band, and in a list.
+pub const NAME: usize = 40;
 
 /// As many times the peak may be a claim that is drawn as a line.
 const DRAWN: u64 = 2;
@@ -33,21 +36,29 @@ pub fn rate_in_words(rate: u64) -> String {
     format!("{} {name}", digits.trim_end_matches('0').trim_end_matches('.'))
 }
 
-/// The timeline of a track: stretches that are filed, with the names of their slips, overlaps and gaps.
-pub fn filed(account: &Account, slips: &[Checked]) -> String {
+/// The timeline of a track: stretches that are filed, with the names of their slips, overlaps and gaps. More than so many parts have no names.
+pub fn filed(account: &Account, slips: &[Checked], most: usize) -> String {
     let Account { track, filed, .. } = account;
     if track.total.0 == 0 {
         return String::new();
     }
     let about = format!("What is filed of track {}", track.id);
     let mut picture = Picture::new(axis(track), 56.0, &about);
-    let numbers = |time: &Range<MediaTime>| (u64::from(time.start.0), u64::from(time.end.0));
-    for checked in slips {
-        let Some(slip) = checked.good().filter(|slip| is_of(slip, track)) else { continue };
-        let Some(time) = slip.time() else { continue };
+    let own = |checked: &&Checked| checked.good().is_some_and(|slip| is_of(slip, track) && slip.time().is_some());
+    let own: Vec<&Checked> = slips.iter().filter(own).collect();
+    let times = || own.iter().filter_map(|checked| checked.good()?.time());
+    if own.len() + filed.overlaps.len() + filed.gaps.len() > most {
+        let (all, overlaps, gaps) = (times().collect::<Vec<_>>(), &filed.overlaps, &filed.gaps);
+        for (class, parts) in [("filed", &all), ("twice", overlaps), ("gap", gaps)] {
+            picture.columns(class, &marked(axis(track), parts.iter().map(numbers)), BAND);
+        }
+        let words = format!("{} slips, too many to name them in the picture.", own.len());
+        return picture.finish() + &format!("<p class=\"soft\">{words}</p>\n");
+    }
+    for (checked, time) in own.iter().zip(times()) {
         let name = input::called(checked.name);
         let short = Path::new(checked.name).file_name().map_or(name.clone(), input::shown);
-        let all = format!("{name}: {}", stretch_in_words(&time, track.scale));
+        let all = format!("{}: {}", shortened(&name, NAME), stretch_in_words(&time, track.scale));
         picture.band("filed", numbers(&time), BAND, (&short, &all));
     }
     let length = |time: &Range<MediaTime>| clock(MediaTime(time.end.0 - time.start.0), track.scale);
@@ -62,12 +73,16 @@ pub fn filed(account: &Account, slips: &[Checked]) -> String {
     picture.finish()
 }
 
+fn numbers(time: &Range<MediaTime>) -> Range<u64> {
+    u64::from(time.start.0)..u64::from(time.end.0)
+}
+
 fn axis(track: &Track) -> Axis {
     Axis::Time(track.total.0.into(), track.scale.into())
 }
 
-/// The movie time that a track's edits take, and what each shows.
-pub fn edits(movie: &Movie, track: &Track, entries: &[Entry]) -> String {
+/// The movie time that a track's edits take, and what each shows. More than so many have no words.
+pub fn edits(movie: &Movie, track: &Track, entries: &[Entry], most: usize) -> String {
     let id = track.id;
     let all: u64 = entries.iter().map(|entry| units(entry.edit.duration)).sum();
     if entries.is_empty() || all == 0 {
@@ -75,8 +90,16 @@ pub fn edits(movie: &Movie, track: &Track, entries: &[Entry]) -> String {
         return if entries.is_empty() { format!("<p class=\"soft\">{}</p>\n", escaped(&words)) } else { String::new() };
     }
     let scale = movie.header().scale;
-    let mut picture = Picture::new(Axis::Time(all, scale.into()), 56.0, &format!("What the edits of track {id} show"));
-    for Entry { start, edit } in entries {
+    let axis = Axis::Time(all, scale.into());
+    let mut picture = Picture::new(axis, 56.0, &format!("What the edits of track {id} show"));
+    if entries.len() > most {
+        let span = |entry: &Entry| entry.start..entry.start + units(entry.edit.duration);
+        for (class, shows) in [("filed", true), ("empty", false)] {
+            let some = entries.iter().filter(|entry| entry.edit.start().is_some() == shows).map(span);
+            picture.columns(class, &marked(axis, some), BAND);
+        }
+    }
+    for Entry { start, edit } in entries.iter().filter(|_| entries.len() <= most) {
         let end = start + units(edit.duration);
         let [from, to] = [*start, end].map(|time| movie_time(time, scale));
         let (class, words) = match edit.start() {
@@ -84,9 +107,14 @@ pub fn edits(movie: &Movie, track: &Track, entries: &[Entry]) -> String {
             None => ("empty", "nothing shown".into()),
         };
         let title = format!("movie time {from} to {to}: {words}");
-        picture.band(class, (*start, end), BAND, (&words, &title));
+        picture.band(class, *start..end, BAND, (&words, &title));
     }
-    format!("<p class=\"soft\">Edit list of track {id}: what is shown at which movie time</p>\n{}", picture.finish())
+    let count = entries.len();
+    let s = if count == 1 { "y" } else { "ies" };
+    format!(
+        "<p class=\"soft lead\">Edit list of track {id}, {count} entr{s}: what is shown at which movie time</p>\n{}",
+        picture.finish()
+    )
 }
 
 /// The bit rate over time, with the average, the peak and the camera's claims.
@@ -103,8 +131,7 @@ pub fn rates(rates: &Rates) -> String {
     let step = round_step(top.saturating_mul(2));
     (0..=top / step).for_each(|i| picture.level_tick(i * step, top, &rate_in_words(i * step)));
     if let Some(peak) = &rates.peak {
-        let span = (u64::from(peak.time.start.0), u64::from(peak.time.end.0));
-        picture.band("peak", span, (8.0, 192.0), ("", "the second with the highest bit rate"));
+        picture.band("peak", numbers(&peak.time), (8.0, 192.0), ("", "the second with the highest bit rate"));
     }
     picture.area("area", columns, top);
     if let Some(average) = rates.average {
@@ -143,7 +170,7 @@ pub fn map(movie: &Movie, atoms: &[(FourCC, Range<u64>)]) -> Result<String, Fail
         for (kind, range) in atoms {
             let class = if is_moov(kind) { "moov" } else { "other" };
             let all = format!("{kind}: {} bytes at byte {}", range.end - range.start, range.start);
-            picture.band(class, (range.start, range.end), row(0), (&kind.to_string(), &all));
+            picture.band(class, range.clone(), row(0), (&kind.to_string(), &all));
         }
     } else {
         for (class, wanted) in [("other", false), ("moov", true)] {
@@ -162,7 +189,7 @@ pub fn map(movie: &Movie, atoms: &[(FourCC, Range<u64>)]) -> Result<String, Fail
     Ok(picture.finish() + "<p class=\"soft\">Byte offsets in the file: moov holds the tables; the rows below it are where each track's pictures or sound lie.</p>\n")
 }
 
-/// The columns that some ranges of bytes touch.
+/// The columns that some ranges touch.
 fn marked(axis: Axis, ranges: impl Iterator<Item = Range<u64>>) -> Vec<bool> {
     let mut columns = vec![false; COLUMNS];
     for range in ranges.filter(|range| !range.is_empty()) {
