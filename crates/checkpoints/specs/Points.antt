@@ -3,6 +3,8 @@ use Prim.Native.Nat.{ℕ, zero, suc, _+_, _*_, _%_, _<_, _^_}
 use mathlib.Core.Path.{_≡_}
 use mathlib.Core.List.{List, [], _∷_, _++_}
 use lib.ListN.{length, getD, take}
+use lib.Dec.{leb}
+use Rattle.lists.specs.Halving.{lastPassing}
 use Rattle.lists.specs.Lists.{sum, Run, expand}
 use Rattle.checkpoints.specs.declared.Sums.{Sums}
 
@@ -35,3 +37,8 @@ CountsAt rs points count = (i : ℕ) → i < count → getD points (2 * i) 0 ≡
 
 abbrev pub TotalsAt : List Run → List ℕ → ℕ → Type 0
 TotalsAt rs points count = (i : ℕ) → i < count → getD points (2 * i + 1) 0 ≡ sum (expand (take (64 * i) rs))
+
+-- the last of so many checkpoints of which a number is not above x, where these numbers rise; of any others what halving comes to.
+-- `field` is 0 for the counts, 1 for the totals
+abbrev pub pointUpto : List ℕ → ℕ → ℕ → ℕ → ℕ
+pointUpto points count field x = lastPassing (λ i. leb (getD points (2 * i + field) 0) x) count

@@ -7,7 +7,7 @@ ghost use Prim.Native.Nat.{_+_, _*_, _≤_, _<_, _^_};
 ghost use lib.ListN.{length, getD, take};
 ghost use lib.Seq.{sets};
 ghost use Rattle.runs.specs.Runs.{runsIn, runsOf};
-ghost use Rattle.checkpoints.specs.Points.{withRun, withRuns, pointNumbers};
+ghost use Rattle.checkpoints.specs.Points.{withRun, withRuns, pointNumbers, pointUpto};
 
 // How many runs lie between two checkpoints, and how many bytes these are in stts or ctts.
 pub const RUNS: usize = 64;
@@ -64,10 +64,11 @@ pub fn put_checkpoints(table: &[u8], count: usize, room: &mut [u64])
     }
 }
 
-// The last checkpoint of which a number is not above x, by halving; the first where there is none. `field` is 0 for the counts, 1 for the totals.
+// The last checkpoint of which a number is not above x, by halving; the first where there is none. `field` is 0 for the counts, 1 for the totals. The
+// bounds follow from the equation; callers need them.
 pub fn last_upto(points: &[u64], count: usize, field: usize, x: u64) -> usize
     requires { ⌜ (count < 2 ^ 32) × (field < 2) ⌝ }
-    ensures { λ r. ⌜ (r ≤ count) × (0 < r → r < count) × (0 < r → getD (now (points .entry)) (2 * r + field) 0 ≤ x) × (r + 1 < count → x < getD (now (points .entry)) (2 * (r + 1) + field) 0) ⌝ }
+    ensures { λ r. ⌜ (r ≤ count) × (0 < r → r < count) × (0 < r → getD (now (points .entry)) (2 * r + field) 0 ≤ x) × (r + 1 < count → x < getD (now (points .entry)) (2 * (r + 1) + field) 0) × (r ≡ pointUpto (now (points .entry)) count field x) ⌝ }
 {
     let mut low = 0;
     let mut high = count;

@@ -6,6 +6,7 @@ use mathlib.Core.List.{List, [], _∷_, map}
 use native.Mathlib.Omega.{arith}
 use native.Mathlib.Nat.{mod-eq-of-lt}
 use native.Mathlib.Decide.{decLt}
+use borrow.Author.Tests.{lt-ltb, le-ltb}
 use lib.Dec.{lit<}
 use lib.ListN.{length, getD, take, drop}
 use lib.Seq.{drop-drop}
@@ -19,11 +20,11 @@ use Rattle.chunks.specs.Computed.{locatedIn}
 use Rattle.chunks.specs.declared.Located.{Located}
 use Rattle.chunks.proofs.Turns.{deals-in, deals-none, deals-next, first-some}
 use Rattle.chunks.proofs.Finding.{before-holder}
-use Rattle.checkpoints.specs.Points.{withRun, withRuns}
+use Rattle.checkpoints.specs.Points.{withRun, withRuns, pointUpto}
 use Rattle.checkpoints.specs.declared.Sums.{Sums}
 use Rattle.checkpoints.proofs.Adding.{add-run, add-none, map-drop}
 use Rattle.checkpoints.proofs.Tails.{value-past, walk-from}
-use Rattle.chunk_lookups.specs.From.{dealRuns}
+use Rattle.chunk_lookups.specs.From.{dealRuns, locatedBy, passedAt, locatedFrom}
 
 -- ---- the runs of chunks
 
@@ -119,3 +120,21 @@ module _ (s : List ℕ) (chunks i c v k : ℕ) (q : c ≡ length (expand (take (
       let d : f .description ≡ getD (expand ids) (holder ps k) 0 =
       z ∙ (let r : holder ps k - c ≡ n = omega (arith, walk .placed) in ap (λ (j : ℕ). getD (expand (drop (64 * i) ids)) j 0) (sym r)) ∙ sym (value-past ids (64 * i) c (holder ps k) cc (omega (arith, walk .placed))) in
       λ j. record { chunk = m j; within = o j; description = d j }
+
+-- ---- what the code comes to, by any checkpoints: i is the one that it takes
+
+module _ (s points : List ℕ) (count chunks k i v : ℕ) (u : i ≡ pointUpto points count 1 k) (q : v ≡ passedAt points i) where
+  pub located-early : (r : Located) → r ≡ locatedBy s chunks k → k < v → r ≡ locatedFrom s points count chunks k
+  unfolding locatedFrom
+  located-early r e h = rw (← u, lt-ltb k (passedAt points i) (omega arith)) e
+
+  pub located-late : v ≤ k → (c : ℕ) → c ≡ getD points (2 * i) 0 → (f : Located) → f ≡ locatedBy (drop (768 * i) s) chunks (k - v) → (a : ℕ) → a ≡ (c + f .chunk) % 2 ^ 64
+      → _≡_ {A = Located} (record { chunk = a; within = f .within; description = f .description }) (locatedFrom s points count chunks k)
+  unfolding locatedFrom
+  located-late h c w f e a g =
+      let x : f ≡ locatedBy (drop (768 * i) s) chunks (k - passedAt points i) = e ∙ ap (λ (n : ℕ). locatedBy (drop (768 * i) s) chunks (k - n)) q in
+      let y : a ≡ (getD points (2 * i) 0 + locatedBy (drop (768 * i) s) chunks (k - passedAt points i) .chunk) % 2 ^ 64 =
+      g ∙ ap (λ (n : ℕ). (n + f .chunk) % 2 ^ 64) w ∙ ap (λ (t : Located). (getD points (2 * i) 0 + t .chunk) % 2 ^ 64) x in
+      let z : f .within ≡ locatedBy (drop (768 * i) s) chunks (k - passedAt points i) .within = ap (λ (t : Located). t .within) x in
+      let d : f .description ≡ locatedBy (drop (768 * i) s) chunks (k - passedAt points i) .description = ap (λ (t : Located). t .description) x in
+      rw (← u, le-ltb k (passedAt points i) (omega arith)) (λ j. record { chunk = y j; within = z j; description = d j })

@@ -1,5 +1,6 @@
 pub mod Booleans
 pub mod Cuts
+pub mod Halving
 pub mod Laws
 pub mod Places
 pub mod Rows

@@ -1,3 +1,4 @@
 pub mod Entries
+pub mod Halving
 pub mod Lists
 pub mod Totals

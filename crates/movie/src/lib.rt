@@ -6,6 +6,7 @@ use places::moov::Traks;
 use places::moov::trak_at;
 use places::part_of;
 use shape::Judged;
+use shape::refused;
 use structure::earlier_of;
 use structure::source::Source;
 use tracks::ids_repeat;
@@ -65,7 +66,10 @@ pub fn judge(lent: &[u8], source: Source) -> Judged
     let traks = movie.traks;
     let scale = u32_at(part_of(lent, heads.mvhd), 20);
     let refusal = tables_refusal(lent, traks, scale, source.length_of(lent), source);
-    Judged { refusal, movie }
+    if refusal != 0 {
+        return refused(refusal);
+    }
+    Judged { refusal: 0, movie }
 }
 
 // The refusal of a film: the first of 1 to 13 and 19 in the order of judging that applies, or 0.

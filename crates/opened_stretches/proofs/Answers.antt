@@ -16,14 +16,14 @@ use Rattle.movie.proofs.Answers.{puts}
 use Rattle.pairs.specs.Pairs.{flat}
 use Rattle.edits.specs.declared.MediaTime.{MediaTime}
 use Rattle.places.specs.Places.{partIn}
-use Rattle.stretch.specs.Stretches.{firstIn, pastIn, pairsIn, stretchPairs, stretchAnswer, stretchNumbers, Stretches}
+use Rattle.stretch.specs.Stretches.{spanRefusal, firstIn, pastIn, pairsIn, stretchPairs, stretchAnswer, stretchNumbers, Stretches}
 use Rattle.stretch.specs.Said.{isStretch, saidRefusal, saidPairs, pairsAnswer, PutsPairs, StretchSaid}
 use Rattle.stretch.specs.declared.StretchAnswer.{StretchAnswer}
 use Rattle.stretch.specs.declared.StretchAnswer.the-variants.{Refused}
-use Rattle.stretch.proofs.Saying.{said-stretches}
+use Rattle.stretch.proofs.Saying.{said-stretches, said-span}
 use Rattle.opened.specs.Opened.{Opens}
 use Rattle.opened.specs.declared.Opened.{Opened}
-use Rattle.opened_stretches.specs.Stretches.{byRefusal, byPairs, byAnswer, StretchBy}
+use Rattle.opened_stretches.specs.Stretches.{byRefusal, byPairs, byAnswer, RefusalBy, StretchBy}
 
 -- the refusals are 15 and 16
 only : (x y : Bool) (answer : StretchAnswer) (k : ℕ) → given (orElse (cond x 0 15) (cond y 16 0)) answer Refused ≡ Refused k → (answer ≡ Refused k → ⊥) → (k ≡ 15 → ⊥) → k ≡ 16
@@ -40,6 +40,10 @@ module _ (s : List ℕ) (h : Opened) (a b : MediaTime) (w : Source) (id : ℕ) (
       let t = g .tables in
       said-stretches s w id a b (g .asked) room r after (rw (t .stts, t .stsc, t .stsz, t .offsets, g .samples, g .chunks) at p)
 
+  pub by-refusal-same : byRefusal s h a b ≡ spanRefusal s w id a b
+  unfolding byRefusal
+  by-refusal-same = let t = g .tables in rw (t .stts, t .stsc, t .stsz, t .offsets, g .samples, g .chunks) (said-span s w id a b (g .asked))
+
   pub by-pairs-same : byPairs s h a b ≡ stretchPairs s id a b
   unfolding byPairs saidPairs stretchPairs pairsIn firstIn pastIn trackOf
   by-pairs-same = let t = g .tables in rw (t .stts, t .stsc, t .stsz, t .offsets, g .chunks)
@@ -53,9 +57,11 @@ module _ (s : List ℕ) (h : Opened) (a b : MediaTime) (w : Source) (id : ℕ) (
 -- from what the code has
 module _ (s : List ℕ) (h : Opened) (a b : MediaTime) (d c z o : List ℕ) (ed : d ≡ partIn s (h .tables .stts)) (ec : c ≡ partIn s (h .tables .stsc)) (ez : z ≡ partIn s (h .tables .stsz))
     (eo : o ≡ partIn s (h .tables .offsets)) where
-  pub by-refusal : (r : ℕ) → r ≡ saidRefusal d c z o (h .samples) (h .chunks) a b → r ≡ byRefusal s h a b
+  pub by-refusal : (r : ℕ) → r ≡ saidRefusal d c z o (h .samples) (h .chunks) a b → RefusalBy s h a b r
   unfolding byRefusal
-  by-refusal r e = e ∙ rw (ed, ec, ez, eo)
+  by-refusal r e =
+      let q : r ≡ byRefusal s h a b = e ∙ rw (ed, ec, ez, eo) in
+      record { right = λ w id g. q ∙ by-refusal-same s h a b w id g; said = q }
 
   pub by-stretch : (room : List ℕ) (r : StretchAnswer) (after : List ℕ) → StretchSaid d c z o (h .samples) (h .chunks) a b room r after → StretchBy s h a b room r after
   unfolding byRefusal byPairs noRoom saidRefusal

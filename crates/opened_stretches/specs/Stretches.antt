@@ -11,7 +11,7 @@ use Rattle.pairs.specs.Pairs.{flat}
 use Rattle.pairs.specs.declared.Pair.{Pair}
 use Rattle.edits.specs.declared.MediaTime.{MediaTime}
 use Rattle.places.specs.Places.{partIn}
-use Rattle.stretch.specs.Stretches.{Stretches}
+use Rattle.stretch.specs.Stretches.{spanRefusal, Stretches}
 use Rattle.stretch.specs.Said.{saidRefusal, saidPairs, pairsAnswer, PutsPairs}
 use Rattle.stretch.specs.declared.StretchAnswer.{StretchAnswer}
 use Rattle.stretch.specs.declared.StretchAnswer.the-variants.{Refused}
@@ -31,6 +31,11 @@ byPairs s h a b =
 -- the answer
 abbrev pub byAnswer : List ℕ → Opened → MediaTime → MediaTime → List ℕ → StretchAnswer
 byAnswer s h a b room = given (orElse (byRefusal s h a b) (noRoom (flat (byPairs s h a b)) room)) (pairsAnswer (byPairs s h a b)) Refused
+
+-- the promise of `refusal_by`: the question's own refusal before the room where the handle is of the film lent (`right`); of any other handle `said`
+pub record RefusalBy (s : List ℕ) (h : Opened) (a b : MediaTime) (r : ℕ) : Type 0 where
+  pub right : (w : Source) (id : ℕ) → Opens s w id h → r ≡ spanRefusal s w id a b
+  pub said : r ≡ byRefusal s h a b
 
 -- the promise of `stretch_by`: the question's own where the handle is of the film lent (`right`). Of a handle of another film, or of no film, the
 -- answer may differ from one correct program to another; this one's is `said`, with its room, and its refusals are 15 and 16

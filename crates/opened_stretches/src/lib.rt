@@ -6,12 +6,11 @@ use spans::Asked;
 use stretch::StretchAnswer;
 use stretch::tables::asked_of;
 use stretch::tables::stretch_in;
-ghost use mathlib.Core.Path.{_≡_};
-ghost use Rattle.opened_stretches.specs.Stretches.{byRefusal, StretchBy};
+ghost use Rattle.opened_stretches.specs.Stretches.{RefusalBy, StretchBy};
 
 // The refusal of a stretch by a handle before the room is looked at: 15; 0 where there is none.
 pub fn refusal_by(lent: &[u8], h: Opened, a: MediaTime, b: MediaTime) -> u32
-    ensures { λ r. ⌜ r ≡ byRefusal (now (lent .entry)) h a b ⌝ }
+    ensures { λ r. ⌜ RefusalBy (now (lent .entry)) h a b r ⌝ }
 {
     let tables = h.tables;
     let stts = tables.stts;

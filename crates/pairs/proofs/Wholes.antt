@@ -7,10 +7,10 @@ use mathlib.Core.List.{List, [], _∷_, _++_}
 use native.Mathlib.Nat.{suc-mul, zero-mul, add-mul, div-add-mod', div-lt-iff-lt-mul, le-div-iff-mul-le}
 use native.Mathlib.Omega.{arith}
 use native.Mathlib.Decide.{ℕ-discrete}
-use borrow.Author.Tests.{eq-eqb, ne-eqb, eqb-true, eqb-false}
+use borrow.Author.Tests.{eq-eqb, ne-eqb, eqb-true, eqb-false, lt-ltb, le-ltb}
 use lib.ListN.{length, getD, take, drop, replicate, length-drop}
 use lib.Seq.{length-take-le, drop-drop}
-use lib.Dec.{eqb}
+use lib.Dec.{eqb, ltb}
 use Rattle.bigendian.specs.BigEndian.{beAt, u32At}
 use Rattle.atoms.specs.Atoms.{kindOf}
 use Rattle.atoms.specs.Kinds.{co64}
@@ -19,7 +19,7 @@ use Rattle.lists.proofs.Laws.{sum-replicate, pos-of-lt-mul, replicate-drop, rep
 use Rattle.words.specs.Words.{numbersIn, wordsIn, sizes, widthOf, offsetWidth, chunkOffsets}
 use Rattle.words.proofs.Turns.{offsets-in, width-is, width-above, width-positive, numbers-none, numbers-next, length-numbers, numbers-drop, numbers-take, words-drop, sizes-listed, sizes-common}
 use Rattle.pairs.specs.Pairs.{pairOf, touched}
-use Rattle.pairs.specs.Walks.{wholes, equalLengthPairs, firstPair, runPairs, runAt, AtOnce, wholesAt, pairsAtOnce}
+use Rattle.pairs.specs.Walks.{wholes, equalLengthPairs, firstPair, runPairs, runAt, AtOnce, wholesAt, pairsAtOnce, wholeEnd, wholeChunks, allOrOne, chunksAtOnce}
 use Rattle.pairs.specs.declared.Pair.{Pair}
 use Rattle.pairs.specs.declared.ChunkPosition.{ChunkPosition}
 use Rattle.pairs.specs.declared.WholeRun.{WholeRun}
@@ -66,6 +66,28 @@ before-end count per samples h g =
 pub offsets-there : (offsets : List ℕ) {part : List ℕ} {w : ℕ} → part ≡ drop 16 offsets → w ≡ offsetWidth offsets → length part / w ≡ length (chunkOffsets offsets)
 offsets-there offsets {part} {w} e f =
     ap (λ l. length l / w) e ∙ ap (λ (k : ℕ). length (drop 16 offsets) / k) f ∙ sym (ap length (offsets-in offsets) ∙ length-numbers (offsetWidth offsets) (width-positive offsets) (drop 16 offsets))
+
+pub one-at-once : (stsz offsets : List ℕ) (i j : ℕ) (p : ChunkPosition) → (p .cursor .remaining ≡ 0 → ⊥) → AtOnce stsz offsets i j p 1
+one-at-once stsz offsets i j p h = record { some = omega arith; few = omega arith; whole = λ z. absurd (z refl) }
+
+-- how many are put at once, where more than one is left of the run and the first is asked for from its start
+module _ (stsz offsets : List ℕ) (i j : ℕ) (p : ChunkPosition) (a : p .cursor .remaining ≡ 1 → ⊥) (b : i ≤ p .begin) (end n there : ℕ)
+    (f : end ≡ wholeEnd stsz j) (g : n ≡ wholeChunks (p .cursor .remaining) (p .cursor .per) (p .begin) end) where
+  at-once-by : allOrOne n (length (chunkOffsets offsets)) (p .chunk) ≡ chunksAtOnce stsz offsets i j p
+  unfolding chunksAtOnce
+  at-once-by =
+      rw (ne-eqb _ 1 a, le-ltb _ _ b)
+      (ap (λ m. allOrOne m (length (chunkOffsets offsets)) (p .chunk)) (g ∙ ap (wholeChunks (p .cursor .remaining) (p .cursor .per) (p .begin)) f))
+
+  pub one-of-none : n ≡ 0 → 1 ≡ chunksAtOnce stsz offsets i j p
+  one-of-none z = rw (eq-eqb n 0 z) at at-once-by
+
+  module _ (z : n ≡ 0 → ⊥) (t : there ≡ length (chunkOffsets offsets)) where
+    pub one-of-few : there < p .chunk + n → 1 ≡ chunksAtOnce stsz offsets i j p
+    one-of-few h = rw (ne-eqb n 0 z, lt-ltb (length (chunkOffsets offsets)) (p .chunk + n) (omega arith)) at at-once-by
+
+    pub all-of-these : p .chunk + n ≤ there → n ≡ chunksAtOnce stsz offsets i j p
+    all-of-these h = rw (ne-eqb n 0 z, le-ltb (length (chunkOffsets offsets)) (p .chunk + n) (omega arith)) at at-once-by
 
 -- ---- the tables that a loop over whole chunks is given
 

@@ -1,9 +1,9 @@
 -- Pairs put on the way from place to place, and whole chunks whose sizes are listed. These need not be believed: they are between the crates'
 -- own functions.
-use Prim.Native.Nat.{ℕ, _+_, _*_, _/_, _^_, _≤_, _<_}
+use Prim.Native.Nat.{ℕ, _+_, _-_, _*_, _/_, _^_, _≤_, _<_}
 use mathlib.Core.Path.{_≡_}
 use mathlib.Core.Bool.{Bool, false, cond}
-use mathlib.Core.List.{List}
+use mathlib.Core.List.{List, []}
 use lib.ListN.{length, getD, take, drop}
 use lib.Seq.{sets}
 use lib.Dec.{eqb, leb}
@@ -32,6 +32,10 @@ pub record ListedTo (stsz : List ℕ) (j begin : ℕ) (z : List ℕ) : Type 0 wh
   pub listed : (length z ≡ 0 → ⊥) → u32At stsz 12 ≡ 0
   pub cut : z ≡ take (length z) (drop (begin * 4) (drop 20 stsz))
   pub ends : (length z ≡ 0 → ⊥) → begin * 4 + length z ≤ j * 4
+
+-- the sizes that are listed from that of the sample `begin` on up to, not including, that of the sample j; none where the sizes are common
+unfoldable pub sizesTo : List ℕ → ℕ → ℕ → List ℕ
+sizesTo stsz j begin = cond (eqb (u32At stsz 12) 0) (cond (leb j begin) [] (take ((j - begin) * 4) (drop (begin * 4) (drop 20 stsz)))) []
 
 -- a chunk is ahead, and the first n bytes of the sizes, some, have those of its samples
 abbrev pub isWhole : ChunkCursor → ℕ → Bool

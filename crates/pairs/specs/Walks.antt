@@ -1,11 +1,11 @@
 -- Where a walk over the chunks of a stretch stands. These need not be believed: they are between the crate's own functions.
-use Prim.Native.Nat.{ℕ, suc, _+_, _*_, _^_, _≤_, _<_, min}
+use Prim.Native.Nat.{ℕ, suc, _+_, _-_, _*_, _/_, _^_, _≤_, _<_, min}
 use mathlib.Core.Path.{_≡_}
 use mathlib.Core.Bool.{cond}
 use mathlib.Core.List.{List, [], _∷_, map}
 use lib.ListN.{length, getD, take, drop}
 use lib.Seq.{sets}
-use lib.Dec.{eqb}
+use lib.Dec.{eqb, ltb, leb}
 use Rattle.bigendian.specs.BigEndian.{u32At}
 use Rattle.lists.specs.Lists.{sum, before, holder}
 use Rattle.atoms.specs.Atoms.{kindOf}
@@ -112,6 +112,27 @@ pub record AtOnce (stsz offsets : List ℕ) (i j : ℕ) (p : ChunkPosition) (n :
   pub some : 0 < n
   pub few : n ≤ p .cursor .remaining
   pub whole : (n ≡ 1 → ⊥) → Whole stsz offsets i j p n
+
+-- up to which sample chunks can be put at once; how many of n chunks, with p samples each, end by the sample `end`
+abbrev pub wholeEnd : List ℕ → ℕ → ℕ
+wholeEnd stsz j = cond (eqb (u32At stsz 12) 0) j (cond (ltb (u32At stsz 16) j) (u32At stsz 16) j)
+
+abbrev pub wholeChunks : ℕ → ℕ → ℕ → ℕ → ℕ
+wholeChunks n p begin end = cond (ltb 4294967295 n) 0 (cond (leb end begin) 0 (cond (leb (n * p) (end - begin)) n ((end - begin) / p)))
+
+-- n chunks from that one on, where there are some and so many offsets reach past them; else one
+abbrev pub allOrOne : ℕ → ℕ → ℕ → ℕ
+allOrOne n there chunk = cond (eqb n 0) 1 (cond (ltb there (chunk + n)) 1 n)
+
+-- how many chunks of the run at a place are put at once: all that are asked for whole, or one; and the same where the sizes are common
+unfoldable pub chunksAtOnce : List ℕ → List ℕ → ℕ → ℕ → ChunkPosition → ℕ
+chunksAtOnce stsz offsets i j p =
+    cond (eqb (p .cursor .remaining) 1) 1
+    (cond (ltb (p .begin) i) 1
+    (allOrOne (wholeChunks (p .cursor .remaining) (p .cursor .per) (p .begin) (wholeEnd stsz j)) (length (chunkOffsets offsets)) (p .chunk)))
+
+unfoldable pub commonAtOnce : List ℕ → List ℕ → ℕ → ℕ → ChunkPosition → ℕ
+commonAtOnce stsz offsets i j p = cond (eqb (u32At stsz 12) 0) 1 (chunksAtOnce stsz offsets i j p)
 
 -- the pairs of these
 abbrev pub wholesAt : List ℕ → List ℕ → ChunkPosition → ℕ → List Pair

@@ -24,7 +24,7 @@ ghost use Rattle.words.specs.Words.{numbersIn, wordsIn, sizes, widthOf, offsetW
 ghost use Rattle.chunks.specs.Chunks.{perChunk};
 ghost use Rattle.lists.specs.Lists.{between};
 ghost use Rattle.pairs.specs.Pairs.{pairOf};
-ghost use Rattle.pairs.specs.Walks.{countBetween, chunksTo, StartsAt, placePast, AtOnce, runAt, firstPair};
+ghost use Rattle.pairs.specs.Walks.{countBetween, chunksTo, StartsAt, placePast, AtOnce, wholeEnd, wholeChunks, chunksAtOnce, commonAtOnce, runAt, firstPair};
 
 // A range of bytes of the file.
 pub struct Pair {
@@ -137,7 +137,7 @@ pub fn count_pairs(stsc: &[u8], chunks: u32, from: u32, stop: u32) -> u64
 
 // Up to which sample chunks can be put at once: `stop`, but not past the last sample where the sizes are common, since from there on a size is 0.
 fn whole_end(stsz: &[u8], stop: u32) -> u32
-    ensures { λ r. ⌜ (r ≤ stop) × ((u32At (now (stsz .entry)) 12 ≡ 0 → ⊥) → r ≤ u32At (now (stsz .entry)) 16) ⌝ }
+    ensures { λ r. ⌜ (r ≤ stop) × ((u32At (now (stsz .entry)) 12 ≡ 0 → ⊥) → r ≤ u32At (now (stsz .entry)) 16) × (r ≡ wholeEnd (now (stsz .entry)) stop) ⌝ }
 {
     if u32_at(stsz, 12) == 0 {
         return stop;
@@ -148,7 +148,7 @@ fn whole_end(stsz: &[u8], stop: u32) -> u32
 
 // How many of `count` chunks, with `per` samples each, end by the sample `end`. There is a division only where they don't all.
 fn whole_chunks(count: u64, per: u32, begin: u64, end: u32) -> u64
-    ensures { λ r. ⌜ (r ≤ count) × (r < 2 ^ 32) × ((r ≡ 0 → ⊥) → begin + r * per ≤ end) ⌝ }
+    ensures { λ r. ⌜ (r ≤ count) × (r < 2 ^ 32) × ((r ≡ 0 → ⊥) → begin + r * per ≤ end) × (r ≡ wholeChunks count per begin end) ⌝ }
 {
     if 4294967295 < count {
         return 0;
@@ -182,7 +182,7 @@ fn offsets_there(offsets: &[u8]) -> u64
 // How many chunks of the run at a place are put at once: all that are asked for whole, or one.
 pub fn chunks_at_once(stsz: &[u8], offsets: &[u8], p: ChunkPosition, from: u32, stop: u32) -> u64
     requires { ⌜ (p .cursor .remaining ≡ 0 → ⊥) × (p .chunk < 2 ^ 63) ⌝ }
-    ensures { λ r. ⌜ AtOnce (now (stsz .entry)) (now (offsets .entry)) from stop p r ⌝ }
+    ensures { λ r. ⌜ AtOnce (now (stsz .entry)) (now (offsets .entry)) from stop p r × (r ≡ chunksAtOnce (now (stsz .entry)) (now (offsets .entry)) from stop p) ⌝ }
 {
     let c = p.cursor;
     let count = c.remaining;
@@ -206,7 +206,7 @@ pub fn chunks_at_once(stsz: &[u8], offsets: &[u8], p: ChunkPosition, from: u32, 
 // The same where the sizes are common; with listed sizes one.
 pub fn common_at_once(stsz: &[u8], offsets: &[u8], p: ChunkPosition, from: u32, stop: u32) -> u64
     requires { ⌜ (p .cursor .remaining ≡ 0 → ⊥) × (p .chunk < 2 ^ 63) ⌝ }
-    ensures { λ r. ⌜ AtOnce (now (stsz .entry)) (now (offsets .entry)) from stop p r × ((r ≡ 1 → ⊥) → u32At (now (stsz .entry)) 12 ≡ 0 → ⊥) ⌝ }
+    ensures { λ r. ⌜ AtOnce (now (stsz .entry)) (now (offsets .entry)) from stop p r × ((r ≡ 1 → ⊥) → u32At (now (stsz .entry)) 12 ≡ 0 → ⊥) × (r ≡ commonAtOnce (now (stsz .entry)) (now (offsets .entry)) from stop p) ⌝ }
 {
     if u32_at(stsz, 12) == 0 {
         return 1;

@@ -12,7 +12,7 @@ ghost use lib.ListN.{length, take, drop};
 ghost use Rattle.lists.specs.Lists.{sum};
 ghost use Rattle.words.specs.Words.{wordsIn};
 ghost use Rattle.chunks.specs.Cursors.{readied, past};
-ghost use Rattle.pairs.specs.Moves.{ListedTo, isWhole, placeBy};
+ghost use Rattle.pairs.specs.Moves.{ListedTo, sizesTo, isWhole, placeBy};
 
 // A place that a walk came to, with the next place of the room and the bytes of the pairs put.
 pub struct Moved {
@@ -23,7 +23,7 @@ pub struct Moved {
 
 // The sizes that are listed from a place's first sample up to, not including, the sample `stop`; none where the sizes are common.
 pub fn sizes_to<'a>(stsz: &'a [u8], p: ChunkPosition, stop: u32) -> &'a [u8]
-    ensures { λ r. ⌜ ListedTo (now (stsz .entry)) stop (p .begin) (now r) ⌝ }
+    ensures { λ r. ⌜ ListedTo (now (stsz .entry)) stop (p .begin) (now r) × (now r ≡ sizesTo (now (stsz .entry)) stop (p .begin)) ⌝ }
 {
     if u32_at(stsz, 12) != 0 {
         return &stsz[..0];

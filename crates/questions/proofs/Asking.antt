@@ -35,7 +35,7 @@ use Rattle.places.specs.declared.moov.Traks.{Traks}
 use Rattle.movie.specs.Traks.{FewTraks}
 use Rattle.movie.proofs.Traks.{few-traks}
 use Rattle.questions.specs.Asked.{askRefusal, trackAsked}
-use Rattle.questions.specs.Asking.{StandsAt, Asks}
+use Rattle.questions.specs.Asking.{StandsAt, refusedAsk, Asks}
 use Rattle.questions.specs.declared.Ask.{Ask}
 
 -- ---- the refusal, from what the code has of the film's and of the IDs
@@ -50,8 +50,8 @@ ask-track s m w id r h e z d q = rw (← e, eq-eqb r 0 z, ← d, ← q)
 
 -- ---- the track as the code finds it, of a film that is not refused
 
-pub asks-refused : (s : List ℕ) (w : Source) (id : ℕ) (a : Ask) (n : ℕ) → a .refusal ≡ n → n ≡ askRefusal s w id → (n ≡ 0 → ⊥) → Asks s w id a
-asks-refused s w id a n e f z = record { refusal = e ∙ f; movie = λ q. absurd (z (sym e ∙ q)); trak = λ q. absurd (z (sym e ∙ q)) }
+pub asks-refused : (s : List ℕ) (w : Source) (id : ℕ) (a : Ask) (n : ℕ) → a ≡ refusedAsk n → n ≡ askRefusal s w id → (n ≡ 0 → ⊥) → Asks s w id a
+asks-refused s w id a n e f z = rw e (record { refusal = f; movie = λ q. absurd (z q); trak = λ q. absurd (z q); none = λ q. (refl, refl) })
 
 module _ (s : List ℕ) (w : Source) (id r : ℕ) (e : r ≡ filmRefusal s w) (z : r ≡ 0) where
   pub asked-few : (q : Traks) → AreTraks s (tracksOf (moovOf s)) q → FewTraks s (tracksOf (moovOf s)) q
@@ -67,7 +67,7 @@ module _ (s : List ℕ) (w : Source) (id r : ℕ) (e : r ≡ filmRefusal s w) (z
     unfolding hasTrack trackAsked trackWith
     asked-found h n f x k =
         let l = g .found h in
-        record { refusal = sym (ask-track s (moovOf s) w id r true e z refl (sym (l .0))); movie = λ q. f; trak = λ q. rw (l .1) k }
+        record { refusal = sym (ask-track s (moovOf s) w id r true e z refl (sym (l .0))); movie = λ q. f; trak = λ q. rw (l .1) k; none = λ q. absurd (q refl) }
 
 -- what a question has of it
 module _ (s : List ℕ) (w : Source) (id : ℕ) (a : Ask) (h : Asks s w id a) (z : a .refusal ≡ 0) (b : List ℕ) (e : b ≡ partIn s (a .trak .body)) where

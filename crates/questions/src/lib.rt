@@ -13,10 +13,10 @@ ghost use mathlib.Core.Path.{_≡_};
 ghost use Rattle.questions.specs.Asked.{askRefusal};
 ghost use Rattle.structure.specs.Movie.{moovOf, tracksOf};
 ghost use Rattle.movie.specs.Traks.{FewTraks};
-ghost use Rattle.questions.specs.Asking.{StandsAt, Asks};
+ghost use Rattle.questions.specs.Asking.{StandsAt, refusedAsk, Asks};
 
 // The refusal that is given before the question itself is looked at: the film's, or 14; 0 where there is none. Then the movie's time scale, and the trak of
-// the track that is asked.
+// the track that is asked; with a refusal 0 and the empty trak.
 pub struct Ask {
     pub refusal: u32,
     pub movie: u32,
@@ -24,7 +24,7 @@ pub struct Ask {
 }
 
 fn refused(n: u32) -> Ask
-    ensures { λ r. ⌜ r .refusal ≡ n ⌝ }
+    ensures { λ r. ⌜ r ≡ refusedAsk n ⌝ }
 {
     let trak = no_trak();
     Ask {

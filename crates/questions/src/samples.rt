@@ -13,7 +13,6 @@ ghost use mathlib.Core.Path.{_≡_};
 ghost use Prim.Native.Nat.{_+_, _≤_, _<_, _^_};
 ghost use lib.ListN.{length};
 ghost use lib.IntN.{pos, _+ℤ_};
-ghost use lib.Signed.{mag};
 ghost use Rattle.questions.specs.Said.{isLow, foundAs, saidIn, sampleSaid};
 ghost use Rattle.questions.specs.Samples.{Samples, PartOf, SampleBytes};
 
@@ -36,11 +35,10 @@ pub enum SampleAnswer {
 }
 
 // A decode time and a signed offset, added.
-pub fn shifted(decode: u64, offset: i64) -> i64
-    requires { ⌜ (decode < 2 ^ 32) × (mag offset < 2 ^ 31) ⌝ }
+pub fn shifted(decode: u32, offset: i32) -> i64
     ensures { λ r. ⌜ r ≡ pos decode +ℤ offset ⌝ }
 {
-    decode as i64 + offset
+    decode as i64 + offset as i64
 }
 
 // Whether a sample's decode time, the index of its chunk and its offset are as low as those of an accepted track.
@@ -59,7 +57,7 @@ fn is_low(decode: u64, chunk: u64, chunks: u32, offset: u64) -> bool
 // The sample with an index, from 0, by what was looked up of it; refused where its numbers are not low, which they are in an accepted track.
 pub fn sample_found(
     timing: Timing,
-    shift: i64,
+    shift: i32,
     place: Located,
     sync: bool,
     stsz: &[u8],
@@ -67,7 +65,6 @@ pub fn sample_found(
     chunks: u32,
     index: u32,
 ) -> SampleAnswer
-    requires { ⌜ mag shift < 2 ^ 31 ⌝ }
     ensures { λ r. ⌜ r ≡ foundAs timing shift place sync (now (stsz .entry)) (now (offsets .entry)) chunks index ⌝ }
 {
     let start = timing.start;
@@ -78,7 +75,7 @@ pub fn sample_found(
     SampleAnswer::Found(Sample {
         decode: start,
         duration: timing.duration,
-        composition: shifted(start, shift),
+        composition: shifted(start as u32, shift),
         sync,
         description: place.description,
         chunk: place.chunk + 1,
@@ -103,7 +100,7 @@ fn sample_in(
 {
     sample_found(
         timing_of(stts, index),
-        composition_offset(ctts, index),
+        composition_offset(ctts, index) as i32,
         locate(stsc, chunks, index),
         is_sync(stss, index + 1),
         stsz,

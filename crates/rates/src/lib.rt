@@ -5,7 +5,7 @@ ghost use Rattle.rates.specs.Rates.{Least, productOf, rateOf};
 
 // A quotient rounded up: the least number that, times the divisor, reaches the numerator. So 29.97 frames a second, which are 65536 × 30000 / 1001 in
 // units of 1 / 65536, are 1,964,115 and a remainder of 885: one more is 1,964,116, or 0x001DF854.
-fn ceiling(n: u64, d: u64) -> u64
+pub fn ceiling(n: u64, d: u64) -> u64
     requires { ⌜ 0 < d ⌝ }
     ensures { λ r. ⌜ Least n d r ⌝ }
 {

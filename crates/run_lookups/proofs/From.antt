@@ -27,8 +27,8 @@ use Rattle.edits.specs.declared.MediaTime.{MediaTime}
 use Rattle.time_questions.specs.Said.{numberSaid}
 use Rattle.time_questions.specs.declared.NumberAnswer.the-variants.{Number, Refused}
 use Rattle.time_questions.proofs.Mapping.{number-outside, number-past, number-found}
-use Rattle.checkpoints.specs.Points.{CountsAt, TotalsAt}
-use Rattle.run_lookups.specs.From.{NumberFrom}
+use Rattle.checkpoints.specs.Points.{CountsAt, TotalsAt, pointUpto}
+use Rattle.run_lookups.specs.From.{passedAt, tableFrom, timingFrom, offsetFrom, NumberFrom}
 use Rattle.checkpoints.proofs.Adding.{runs-from}
 use Rattle.checkpoints.proofs.Tails.{value-past, before-past, walk-from, passed-from}
 
@@ -60,6 +60,31 @@ module _ (s : List ℕ) (i c k : ℕ) (q : c ≡ length (expand (take (64 * i) (
   pub offset-past : (f : ℤ) → f ≡ compositionOffset (drop (512 * i) s) (k - c) → f ≡ compositionOffset s k
   unfolding compositionOffset perSample
   offset-past f e = e ∙ ap (λ (l : List Run). signed32 (getD (expand l) (k - c) 0)) (tail-runs s i) ∙ ap signed32 (sym (value-past (runsOf s) (64 * i) c k q h))
+
+-- ---- what the code comes to, by any checkpoints: i is the one that it takes
+
+module _ (s points : List ℕ) (count k i c : ℕ) (u : i ≡ pointUpto points count 0 k) (q : c ≡ passedAt points i) where
+  pub timing-early : (r : Timing) → r ≡ timingOf (perSample s) k → k < c → r ≡ timingFrom s points count k
+  unfolding timingFrom
+  timing-early r e h = rw (← u, lt-ltb k (passedAt points i) (omega arith)) e
+
+  pub timing-late : c ≤ k → (v : ℕ) → v ≡ getD points (2 * i + 1) 0 → (f : Timing) → f ≡ timingOf (perSample (drop (512 * i) s)) (k - c) → (a : ℕ) → a ≡ (v + f .start) % 2 ^ 64
+      → _≡_ {A = Timing} (record { start = a; duration = f .duration }) (timingFrom s points count k)
+  unfolding timingFrom
+  timing-late h v w f e a g =
+      let x : f ≡ timingOf (perSample (tableFrom s i)) (k - passedAt points i) = e ∙ ap (λ (n : ℕ). timingOf (perSample (tableFrom s i)) (k - n)) q in
+      let y : a ≡ (getD points (2 * i + 1) 0 + timingOf (perSample (tableFrom s i)) (k - passedAt points i) .start) % 2 ^ 64 =
+      g ∙ ap (λ (n : ℕ). (n + f .start) % 2 ^ 64) w ∙ ap (λ (t : Timing). (getD points (2 * i + 1) 0 + t .start) % 2 ^ 64) x in
+      let z : f .duration ≡ timingOf (perSample (tableFrom s i)) (k - passedAt points i) .duration = ap (λ (t : Timing). t .duration) x in
+      rw (← u, le-ltb k (passedAt points i) (omega arith)) (λ j. record { start = y j; duration = z j })
+
+  pub offset-early : (r : ℤ) → r ≡ compositionOffset s k → k < c → r ≡ offsetFrom s points count k
+  unfolding offsetFrom
+  offset-early r e h = rw (← u, lt-ltb k (passedAt points i) (omega arith)) e
+
+  pub offset-late : c ≤ k → (f : ℤ) → f ≡ compositionOffset (drop (512 * i) s) (k - c) → f ≡ offsetFrom s points count k
+  unfolding offsetFrom
+  offset-late h f e = rw (← u, le-ltb k (passedAt points i) (omega arith)) (e ∙ ap (λ (n : ℕ). compositionOffset (tableFrom s i) (k - n)) q)
 
 -- ---- by a time: v is the total at the checkpoint
 

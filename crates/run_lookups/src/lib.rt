@@ -11,12 +11,8 @@ use runs::look_up;
 use runs::timing_of;
 use table_numbers::number_at;
 use time_questions::NumberAnswer;
-ghost use mathlib.Core.Path.{_≡_};
 ghost use Prim.Native.Nat.{_+_, _<_, _^_};
-ghost use lib.Signed.{mag};
-ghost use Rattle.runs.specs.Runs.{runsOf, compositionOffset};
-ghost use Rattle.checkpoints.specs.Points.{CountsAt};
-ghost use Rattle.run_lookups.specs.From.{TimingFrom, NumberFrom};
+ghost use Rattle.run_lookups.specs.From.{TimingFrom, OffsetFrom, NumberFrom};
 
 // The times of the sample with an index.
 pub fn timing_from(stts: &[u8], points: &[u64], count: usize, index: u32) -> Timing
@@ -38,7 +34,7 @@ pub fn timing_from(stts: &[u8], points: &[u64], count: usize, index: u32) -> Tim
 // The composition offset of the sample with an index.
 pub fn offset_from(ctts: &[u8], points: &[u64], count: usize, index: u32) -> i64
     requires { ⌜ (0 < count) × (count < 2 ^ 32) ⌝ }
-    ensures { λ r. ⌜ (CountsAt (runsOf (now (ctts .entry))) (now (points .entry)) count → r ≡ compositionOffset (now (ctts .entry)) index) × (mag r < 2 ^ 31) ⌝ }
+    ensures { λ r. ⌜ OffsetFrom (now (ctts .entry)) (now (points .entry)) count index r ⌝ }
 {
     let i = last_upto(points, count, 0, index as u64);
     let passed = number_at(points, 2 * i);

@@ -6,7 +6,7 @@ use bigendian::i32_at;
 use bigendian::u32_at;
 use lists::Total;
 ghost use mathlib.Core.Path.{_≡_};
-ghost use mathlib.Core.Bool.{true};
+ghost use mathlib.Core.Bool.{cond};
 ghost use Prim.Native.Nat.{_<_, _^_};
 ghost use lib.ListN.{length, replicate};
 ghost use lib.Signed.{mag};
@@ -15,7 +15,7 @@ ghost use Rattle.lists.specs.Totals.{totalOf};
 ghost use Rattle.runs.specs.Runs.{runsOf, perSample, compositionOffset, sampleAt, lookedUp, timingOf, lesserOf, leastOf};
 ghost use Rattle.runs.specs.Computed.{counting};
 
-// Whether a table counts the samples, and if it does, the sum of one number for each: of stts the durations.
+// Whether a table counts the samples, and if it does, the sum of one number for each: of stts the durations. If it does not, the sum is 0.
 pub struct CountedTotal {
     pub agrees: bool,
     pub total: u64,
@@ -23,7 +23,7 @@ pub struct CountedTotal {
 
 // Whether no entry counts 0 samples and all of them total `samples`, with that sum: both in one pass, as every question asks them of stts.
 pub fn count_and_total(table: &[u8], samples: u32) -> CountedTotal
-    ensures { λ r. ⌜ (r .agrees ≡ counting samples (runsOf (now (table .entry)))) × (r .agrees ≡ true → r .total ≡ sum (perSample (now (table .entry)))) ⌝ }
+    ensures { λ r. ⌜ (r .agrees ≡ counting samples (runsOf (now (table .entry)))) × (r .total ≡ cond (r .agrees) (sum (perSample (now (table .entry)))) 0) ⌝ }
 {
     let part = after(table, 16);
     let mut t = part;
@@ -34,21 +34,27 @@ pub fn count_and_total(table: &[u8], samples: u32) -> CountedTotal
         if count == 0 {
             return CountedTotal {
                 agrees: false,
-                total,
+                total: 0,
             };
         }
         if rest < count {
             return CountedTotal {
                 agrees: false,
-                total,
+                total: 0,
             };
         }
         rest -= count;
         total += count as u64 * u32_at(t, 4) as u64;
         t = &t[8..];
     }
+    if rest != 0 {
+        return CountedTotal {
+            agrees: false,
+            total: 0,
+        };
+    }
     CountedTotal {
-        agrees: rest == 0,
+        agrees: true,
         total,
     }
 }

@@ -7,10 +7,10 @@ use mathlib.Core.List.{List}
 use native.Mathlib.Omega.{arith}
 use borrow.Author.Tests.{le-ltb}
 use lib.Dec.{ltb}
-use lib.ListN.{length, drop}
+use lib.ListN.{length, getD, drop}
 use lib.IntN.{ℤ}
 use Rattle.bigendian.specs.BigEndian.{u32At}
-use Rattle.runs.specs.Runs.{runsOf, perSample, compositionOffset, timingOf, lookedUp}
+use Rattle.runs.specs.Runs.{runsOf, perSample, timingOf, lookedUp}
 use Rattle.runs.specs.declared.Timing.{Timing}
 use Rattle.runs.specs.declared.Looked.{Looked}
 use Rattle.runs.specs.declared.Looked.the-variants as looked
@@ -31,7 +31,7 @@ use Rattle.time_questions.specs.declared.NumberAnswer.the-variants as number
 use Rattle.opened.specs.declared.Opened.{Opened}
 use Rattle.opened.proofs.Answers.{by-sample, by-number}
 use Rattle.checkpoints.specs.Points.{CountsAt, TotalsAt}
-use Rattle.run_lookups.specs.From.{TimingFrom, NumberFrom}
+use Rattle.run_lookups.specs.From.{TimingFrom, OffsetFrom, NumberFrom}
 use Rattle.chunk_lookups.specs.From.{LocatedFrom}
 use Rattle.sample_index.specs.Index.{checkpointsOf, indexLength, Indexes, SampleByIndex, NumberByIndex}
 use Rattle.sample_index.specs.Looked.{Points, LookedUp}
@@ -62,17 +62,26 @@ module _ (r : Timing) (shift : ℤ) (p : Located) (sync : Bool) (z o : List ℕ)
           rw (← v) (omega (arith, l .0, a), omega (arith, l .1, b), omega (arith, l .2, c))
       go false g y a b c q = let w : _≡_ {A = ℕ} 0 1 = cc in absurd (omega arith)
 
+  found-size : (x : Sample) → foundAs r shift p sync z o n i ≡ sample.Found x → x .size ≡ getD (sizes z) i 0
+  unfolding foundAs
+  found-size x e = go (isLow (r .start) (p .chunk) n (min (locatedOffset (chunkOffsets o) (sizes z) p i) 18446744073709551615)) _ refl e
+    where
+      go : (b : Bool) (y : Sample) → y .size ≡ getD (sizes z) i 0 → cond b (sample.Found y) (sample.Refused 15) ≡ sample.Found x → x .size ≡ getD (sizes z) i 0
+      go true y a q = let v : y ≡ x = cc in rw (← v) a
+      go false y a q = let w : _≡_ {A = ℕ} 0 1 = cc in absurd (omega arith)
+
 module _ (s : List ℕ) (h : Opened) (index : List ℕ) (count k : ℕ) where
   pub looked-long : 4294967295 < length (partIn s (h .tables .stsc)) → LookedUp s h index count k (sample.Refused 15)
   looked-long l = record {
     right = λ p. absurd (omega (arith, p .short));
     elsewhere = λ i e. cc;
     low = λ x e. let w : _≡_ {A = ℕ} 0 1 = cc in absurd (omega arith);
+    size = λ x e. let w : _≡_ {A = ℕ} 0 1 = cc in absurd (omega arith);
   }
 
   pub looked-found : (r : Timing) (shift : ℤ) (p : Located) (sync : Bool) (v : SampleAnswer)
       → TimingFrom (partIn s (h .tables .stts)) index count k r
-      → (CountsAt (runsOf (partIn s (h .tables .ctts))) (drop (2 * count) index) count → shift ≡ compositionOffset (partIn s (h .tables .ctts)) k)
+      → OffsetFrom (partIn s (h .tables .ctts)) (drop (2 * count) index) count k shift
       → LocatedFrom (partIn s (h .tables .stsc)) (drop (4 * count) index) count (h .chunks) k p
       → Searched (partIn s (h .tables .stss)) (k + 1) sync
       → v ≡ foundAs r shift p sync (partIn s (h .tables .stsz)) (partIn s (h .tables .offsets)) (h .chunks) k → LookedUp s h index count k v
@@ -80,9 +89,10 @@ module _ (s : List ℕ) (h : Opened) (index : List ℕ) (count k : ℕ) where
     right = λ a.
         e
         ∙ found-said (partIn s (h .tables .stts)) (partIn s (h .tables .ctts)) (partIn s (h .tables .stsc)) (partIn s (h .tables .stsz)) (partIn s (h .tables .offsets)) (partIn s (h .tables .stss)) (h .chunks) k r shift p sync
-        (ft (a .counts) (a .totals) (a .total-low)) (fs (a .shifts)) (fp (a .chunks) (a .dealt) (a .chunks-low)) (fy (a .samples) (a .syncs));
+        (ft .right (a .counts) (a .totals) (a .total-low)) (fs .right (a .shifts)) (fp .right (a .chunks) (a .dealt) (a .chunks-low)) (fy .right (a .samples) (a .syncs));
     elsewhere = λ i q. found-15 r shift p sync (partIn s (h .tables .stsz)) (partIn s (h .tables .offsets)) (h .chunks) k i (sym e ∙ q);
     low = λ x q. found-low r shift p sync (partIn s (h .tables .stsz)) (partIn s (h .tables .offsets)) (h .chunks) k x (sym e ∙ q);
+    size = λ x q. found-size r shift p sync (partIn s (h .tables .stsz)) (partIn s (h .tables .offsets)) (h .chunks) k x (sym e ∙ q);
   }
 
 -- ---- sample n
@@ -98,6 +108,7 @@ module _ (s : List ℕ) (h : Opened) (index : List ℕ) (n : ℕ) where
     elsewhere = λ q k e. absurd (omega arith);
     few = λ x e. let w : _≡_ {A = ℕ} 0 1 = cc in absurd (omega arith);
     low = λ x e. let w : _≡_ {A = ℕ} 0 1 = cc in absurd (omega arith);
+    size = λ x e. let w : _≡_ {A = ℕ} 0 1 = cc in absurd (omega arith);
   }
 
   sample-15 : indexLength h ≤ length index → sample.Refused 15 ≡ said → SampleByIndex s h index n (sample.Refused 15)
@@ -107,6 +118,7 @@ module _ (s : List ℕ) (h : Opened) (index : List ℕ) (n : ℕ) where
     elsewhere = λ m k e. cc;
     few = λ x e. let w : _≡_ {A = ℕ} 0 1 = cc in absurd (omega arith);
     low = λ x e. let w : _≡_ {A = ℕ} 0 1 = cc in absurd (omega arith);
+    size = λ x e. let w : _≡_ {A = ℕ} 0 1 = cc in absurd (omega arith);
   }
 
   pub sample-zero : indexLength h ≤ length index → n ≡ 0 → SampleByIndex s h index n (sample.Refused 15)
@@ -125,6 +137,7 @@ module _ (s : List ℕ) (h : Opened) (index : List ℕ) (n : ℕ) where
     elsewhere = λ q k e. a .elsewhere k e;
     few = λ x e. (omega arith, m);
     low = a .low;
+    size = a .size;
   }
 
 -- ---- the sample at a time

@@ -3,10 +3,10 @@ use Prim.Native.Nat.{ℕ, _+_, _*_, _≤_, _<_, _^_}
 use mathlib.Core.Path.{_≡_}
 use mathlib.Core.Bool.{true}
 use mathlib.Core.List.{List}
-use lib.ListN.{length, drop}
+use lib.ListN.{length, getD, drop}
 use Rattle.lists.specs.Lists.{sum}
 use Rattle.runs.specs.Runs.{runsOf, perSample}
-use Rattle.words.specs.Words.{syncsAgree}
+use Rattle.words.specs.Words.{sizes, syncsAgree}
 use Rattle.chunks.specs.Chunks.{perChunk}
 use Rattle.places.specs.Places.{partIn}
 use Rattle.questions.specs.Said.{saidIn}
@@ -36,3 +36,4 @@ pub record LookedUp (s : List ℕ) (h : Opened) (index : List ℕ) (count k : �
       (partIn s (h .tables .offsets)) (partIn s (h .tables .stss)) (h .chunks) k
   pub elsewhere : (i : ℕ) → r ≡ Refused i → i ≡ 15
   pub low : (x : Sample) → r ≡ Found x → (x .decode < 2 ^ 32) × (x .chunk ≤ h .chunks) × (x .offset < 2 ^ 63)
+  pub size : (x : Sample) → r ≡ Found x → x .size ≡ getD (sizes (partIn s (h .tables .stsz))) k 0

@@ -6,6 +6,7 @@ use opened::Opened;
 use places::part_of;
 use questions::samples::SampleAnswer;
 use questions::samples::sample_found;
+use rates::ceiling;
 use run_lookups::number_from;
 use run_lookups::offset_from;
 use run_lookups::timing_from;
@@ -20,11 +21,11 @@ ghost use Rattle.sample_index.specs.Looked.{LookedUp};
 // How many numbers the index has for each checkpoint: two for each of the three tables.
 pub const NUMBERS: usize = 6;
 
-// How many checkpoints it has of each table: one for each 64 samples begun.
+// How many checkpoints it has of each table: one for each 64 samples begun. The bounds follow from the equation; callers need them.
 pub fn checkpoints_of(samples: u32) -> usize
-    ensures { λ r. ⌜ (r ≡ checkpointsOf samples) × (r ≤ 2 ^ 26) ⌝ }
+    ensures { λ r. ⌜ (r ≡ checkpointsOf samples) × (r ≤ 2 ^ 26) × (samples ≤ r * 64) ⌝ }
 {
-    (samples as usize + 63) / checkpoints::RUNS
+    ceiling(samples as u64, checkpoints::RUNS as u64) as usize
 }
 
 // Fills the first places of the room with the index; 16 where it is too short.
@@ -67,7 +68,7 @@ fn looked_up(lent: &[u8], h: Opened, index: &[u64], count: usize, k: u32) -> Sam
     let third = 4 * count;
     sample_found(
         timing_from(part_of(lent, stts), index, count, k),
-        offset_from(part_of(lent, ctts), &index[second..], count, k),
+        offset_from(part_of(lent, ctts), &index[second..], count, k) as i32,
         locate_from(deals, &index[third..], count, h.chunks, k),
         is_sync_rising(part_of(lent, stss), k + 1),
         part_of(lent, stsz),

@@ -23,7 +23,7 @@ use Rattle.places.specs.declared.trak.Trak.{Trak}
 use Rattle.places.specs.declared.moov.Traks.{Traks}
 use Rattle.places.proofs.Movies.{TraksBefore, traks-start, traks-end, traks-next}
 use Rattle.shape.specs.MovieRows.{movieRows, movieRefusal}
-use Rattle.shape.specs.Judging.{Walks, Judges}
+use Rattle.shape.specs.Judging.{Walks, refusedBy, Judges}
 use Rattle.shape.specs.declared.Judged.{Judged}
 use Rattle.shape.proofs.Tracks.{movie-by-tracks}
 
@@ -71,5 +71,5 @@ pub judged-by : (wide : Bool) (m b : List ℕ) (own found new : ℕ) → b ≡ m
     → new ≡ movieRefusal wide m
 judged-by wide m b own found new e o f g = g ∙ rw (o, f, e) (sym (movie-by-tracks wide m))
 
-pub judged-refused : (s : List ℕ) (n k : ℕ) (r : Judged) → r .refusal ≡ k → k ≡ n → (k ≡ 0 → ⊥) → Judges s n r
-judged-refused s n k r e f z = record { refusal = e ∙ f; movie = λ q. absurd (z (sym e ∙ q)) }
+pub judged-refused : (s : List ℕ) (n k : ℕ) (r : Judged) → r ≡ refusedBy k → k ≡ n → (k ≡ 0 → ⊥) → Judges s n r
+judged-refused s n k r e f z = rw e (record { refusal = f; movie = λ q. absurd (z q); none = λ q. refl })

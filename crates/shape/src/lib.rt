@@ -30,7 +30,7 @@ ghost use lib.ListN.{length};
 ghost use lib.Dec.{ltb};
 ghost use Rattle.structure.specs.Movie.{tracksOf, movieProfile};
 ghost use Rattle.places.specs.Places.{partIn, AreParts};
-ghost use Rattle.shape.specs.Judging.{Walks, JudgesMovie, Judges};
+ghost use Rattle.shape.specs.Judging.{Walks, JudgesMovie, refusedBy, Judges};
 ghost use Rattle.shape.specs.Refusals.{fileTooLong, oneMoov, wrongAtoms};
 ghost use Rattle.shape.specs.MovieRows.{filledTree, versionedMovie, sizedMovie, movieRows, refusalOf};
 
@@ -151,10 +151,26 @@ fn walk_traks(lent: &[u8], moov: Part, wide: bool) -> Walked
     }
 }
 
-// What judging a film finds: its refusal, 0 where it has none, and then the parts of its movie.
+// What judging a film finds: its refusal, 0 where it has none, and then the parts of its movie; with a refusal the empty movie.
 pub struct Judged {
     pub refusal: u32,
     pub movie: Movie,
+}
+
+// A film that is refused.
+pub fn refused(n: u32) -> Judged
+    ensures { λ r. ⌜ r ≡ refusedBy n ⌝ }
+{
+    let none = Part { at: 0, len: 0 };
+    let heads = MovieHeads {
+        mvhd: none,
+        profile: none,
+    };
+    let traks = no_traks();
+    Judged {
+        refusal: n,
+        movie: Movie { heads, traks },
+    }
 }
 
 // Of a movie, from the place of its moov's body: the refusal is the earliest of its own and of each track's.
@@ -174,24 +190,12 @@ fn judge_movie(lent: &[u8], moov: Part, wide: bool, versions: bool, sizes: bool)
         part_of(lent, profile),
         traks.count,
     );
-    Judged {
-        refusal: earlier_of(own, walked.refusal),
-        movie: Movie { heads, traks },
+    let refusal = earlier_of(own, walked.refusal);
+    if refusal != 0 {
+        return refused(refusal);
     }
-}
-
-// A film that is refused.
-fn refused(n: u32) -> Judged
-    ensures { λ r. ⌜ r .refusal ≡ n ⌝ }
-{
-    let none = Part { at: 0, len: 0 };
-    let heads = MovieHeads {
-        mvhd: none,
-        profile: none,
-    };
-    let traks = no_traks();
     Judged {
-        refusal: n,
+        refusal: 0,
         movie: Movie { heads, traks },
     }
 }

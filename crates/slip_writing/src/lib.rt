@@ -105,17 +105,15 @@ pub fn write_slip_of(
 ) -> SlipAnswer
     ensures { λ r. ⌜ Slips (now (lent .entry)) source id a b (now (out .entry)) r (now (out .exit)) ⌝ }
 {
-    let first = a.0;
-    let last = b.0;
     let ask = Ask::of(lent, source.strictly(), id);
-    match span_asked(lent, ask, first, last) {
+    match span_asked(lent, ask, a, b) {
         Asked::Refused(r) => SlipAnswer::Refused(r),
         Asked::Samples(span) => {
             let trak = ask.trak;
             let body = part_of(lent, trak.body);
             let p = trak.parts;
             let pairs = count_in(body, p, span);
-            let head = head_of(id, scale_in(body, p), first, last, pairs);
+            let head = head_of(id, scale_in(body, p), a.0, b.0, pairs);
             put_slip(body, p, span, head, out)
         }
     }

@@ -1,5 +1,6 @@
 // The samples of a stretch of a track, and their byte ranges in lent numbers of 32 bits.
 use bigendian::u32_at;
+use edits::MediaTime;
 use narrow_pairs::PairsPut;
 use pairs::count_pairs;
 use places::part_of;
@@ -42,21 +43,23 @@ fn index_at(stts: &[u8], t: u32) -> u32
 
 // The samples of the stretch from a to b, by the bytes of stts and the number of samples, whatever these are; 15 where it lies outside. That b is not above
 // the total is known by the sample at b - 1, so that the total need not be added first.
-pub fn span_of(stts: &[u8], samples: u32, a: u32, b: u32) -> Asked
-    ensures { λ r. ⌜ r ≡ spanSaid (now (stts .entry)) samples a b ⌝ }
+pub fn span_of(stts: &[u8], samples: u32, a: MediaTime, b: MediaTime) -> Asked
+    ensures { λ r. ⌜ r ≡ spanSaid (now (stts .entry)) samples (a .0) (b .0) ⌝ }
 {
-    if b <= a {
+    let first = a.0;
+    let end = b.0;
+    if end <= first {
         return Asked::Refused(15);
     }
     if 4294967295 < stts.len() {
         return Asked::Refused(15);
     }
-    match runs::sample_at(stts, b - 1) {
+    match runs::sample_at(stts, end - 1) {
         Lookup::At(last) => {
             if samples as u64 <= last {
                 return Asked::Refused(15);
             }
-            let from = index_at(stts, a);
+            let from = index_at(stts, first);
             let stop = last as u32 + 1;
             Asked::Samples(Span { from, stop })
         }

@@ -56,7 +56,7 @@ fn moved(stsz: &[u8], stss: &[u8], sizes: SizeHead, m: Moving) -> Move
     let sample = Sample {
         decode: m.decode,
         duration: times.each,
-        composition: shifted(m.decode, shift_of(shifts)),
+        composition: shifted(m.decode as u32, shift_of(shifts) as i32),
         sync: if stss.len() == 0 { true } else { place.listed },
         description: cursor.description,
         chunk: dealt.chunk as u64,

@@ -32,7 +32,7 @@ use Rattle.step_moves.specs.declared.Move.{Move}
 use Rattle.step_moves.specs.declared.Move.the-variants.{To, End}
 use Rattle.step_moves.proofs.Answers.{movedReady, stepped-past, stepped-by}
 use Rattle.stepping.specs.Parts.{bytesIn}
-use Rattle.stepping.specs.Stepping.{bytesOf, Stands, stepNumbers, Onward, Elsewhere, Steps}
+use Rattle.stepping.specs.Stepping.{bytesOf, Stands, stepNumbers, Onward, stepAs, stepSaid, Elsewhere, Steps}
 use Rattle.stepping.specs.declared.Stepper.{Stepper}
 use Rattle.stepping.specs.declared.Step.{Step}
 use Rattle.stepping.specs.declared.Step.the-variants.{Next, Done}
@@ -98,15 +98,16 @@ passes s w id k p a h =
 done-next : {x : Sample} {q : Stepper} {A : Type 0} → Done ≡ Next x q → A
 done-next e = let z : _≡_ {A = ℕ} 0 1 = cc in absurd (omega arith)
 
-pub done-elsewhere : (p : Stepper) → Elsewhere p Done
-done-elsewhere p = record { moves = λ x q e. done-next e; same = λ x q e. done-next e; forward = λ x q e. done-next e; low = λ x q e. done-next e }
+pub done-elsewhere : (s : List ℕ) (p : Stepper) → Done ≡ stepSaid s p → Elsewhere s p Done
+done-elsewhere s p d = record { said = d; moves = λ x q e. done-next e; same = λ x q e. done-next e; forward = λ x q e. done-next e; low = λ x q e. done-next e }
 
 -- past the last sample
 pub steps-past : (s : List ℕ) (p : Stepper) → p .samples ≤ p .moving .index → Steps s p Done
+unfolding stepSaid
 steps-past s p h = record {
   next = λ w id k a g. absurd (omega (arith, a .samples, a .moving .index));
   done = λ w id a. refl;
-  elsewhere = done-elsewhere p;
+  elsewhere = done-elsewhere s p (ap (stepAs p) (stepped-past (bytesIn s (p .tables)) (p .samples) (p .moving) h));
 }
 
 -- what `step_in` answers of the parts' bytes, it answers of the tables at their places
@@ -130,6 +131,7 @@ module _ (s : List ℕ) (p : Stepper) (v : Move) (d : v ≡ steppedOn (bytesIn s
 
     -- no more, of a position of another film
     none-next : v ≡ End → Steps s p Done
+    unfolding stepSaid
     none-next u = record {
       next = λ w id k a l.
           let q = passes s w id k p a l in
@@ -137,7 +139,7 @@ module _ (s : List ℕ) (p : Stepper) (v : Move) (d : v ≡ steppedOn (bytesIn s
           let n : _≡_ {A = ℕ} 0 1 = cc in
           absurd (omega arith);
       done = λ w id a. refl;
-      elsewhere = done-elsewhere p;
+      elsewhere = done-elsewhere s p (ap (stepAs p) (sym u ∙ d));
     }
 
   pub steps-end : v ≡ End → Steps s p Done
@@ -170,7 +172,7 @@ module _ (s : List ℕ) (p : Stepper) (v : Move) (d : v ≡ steppedOn (bytesIn s
     known = came (mayMove ready) refl (sym (moved-is before-last) ∙ u)
 
     pub steps-next : Steps s p (Next x (record { tables = p .tables; samples = p .samples; moving = n }))
-    unfolding stepNumbers
+    unfolding stepNumbers stepSaid
     steps-next = record {
       next = λ w id k a h.
           let q = passes s w id k p a h in
@@ -191,6 +193,7 @@ module _ (s : List ℕ) (p : Stepper) (v : Move) (d : v ≡ steppedOn (bytesIn s
           };
       done = λ w id a. absurd (omega (arith, before-last, a .samples, a .moving .index));
       elsewhere = record {
+        said = ap (stepAs p) (sym u ∙ d);
         moves = λ r q c.
             let a : q ≡ record { tables = p .tables; samples = p .samples; moving = n } = cc in
             let b : n .index ≡ p .moving .index + 1 = ap (λ o. o .index) (sym (known .2)) in

@@ -17,6 +17,10 @@ use Rattle.positions.specs.declared.moving.Moving.{Moving}
 use Rattle.questions.specs.Asked.{askRefusal, trackAsked}
 use Rattle.questions.specs.Samples.{sampleOf, sampleRefusal, sampleValues}
 use Rattle.questions.specs.declared.samples.Sample.{Sample}
+use Rattle.step_moves.specs.Moves.{steppedOn}
+use Rattle.step_moves.specs.declared.Move.{Move}
+use Rattle.step_moves.specs.declared.Move.the-variants.{To, End}
+use Rattle.stepping.specs.Parts.{bytesIn}
 use Rattle.stepping.specs.declared.Stepper.{Stepper}
 use Rattle.stepping.specs.declared.Start.{Start}
 use Rattle.stepping.specs.declared.Start.the-variants.{At, Refused}
@@ -85,9 +89,18 @@ pub record Forward (m n : Moving) : Type 0 where
   pub offsets : m .dealt .chunk ≤ n .dealt .chunk
   pub stss : m .sync ≤ n .sync
 
--- from any position, also one of another film or track: done; or some sample, and a position one further on in the same tables, of as many samples.
--- So at most `samples` less `index` steps follow before done
-pub record Elsewhere (p : Stepper) (r : Step) : Type 0 where
+-- the answer of any position, by the tables at its places, whatever stands there: the sample and the position moved on, or done
+abbrev pub stepAs : Stepper → Move → Step
+stepAs p (To x m) = Next x (record { tables = p .tables; samples = p .samples; moving = m })
+stepAs p End = Done
+
+unfoldable pub stepSaid : List ℕ → Stepper → Step
+stepSaid s p = stepAs p (steppedOn (bytesIn s (p .tables)) (p .samples) (p .moving))
+
+-- from any position, also one of another film or track: that answer; done, or some sample, and a position one further on in the same
+-- tables, of as many samples. So at most `samples` less `index` steps follow before done
+pub record Elsewhere (s : List ℕ) (p : Stepper) (r : Step) : Type 0 where
+  pub said : r ≡ stepSaid s p
   pub moves : (x : Sample) (q : Stepper) → r ≡ Next x q
       → (p .moving .index < p .samples) × (q .moving .index ≡ suc (p .moving .index)) × (q .samples ≡ p .samples)
   pub same : (x : Sample) (q : Stepper) → r ≡ Next x q → q .tables ≡ p .tables
@@ -98,7 +111,7 @@ pub record Elsewhere (p : Stepper) (r : Step) : Type 0 where
 pub record Steps (s : List ℕ) (p : Stepper) (r : Step) : Type 0 where
   pub next : (w : Source) (id k : ℕ) → Stands s w id k p → k < samplesOf (trackAsked s id) → Onward s w id k r
   pub done : (w : Source) (id : ℕ) → Stands s w id (samplesOf (trackAsked s id)) p → r ≡ Done
-  pub elsewhere : Elsewhere p r
+  pub elsewhere : Elsewhere s p r
 
 -- steps one after the other, from p by the samples xs to q: each keeps the promise
 abbrev pub Chain : List ℕ → Stepper → List Sample → Stepper → Type 0

@@ -3,7 +3,7 @@
 use Prim.Native.Nat.{ℕ, _/_, _^_, _≤_, _<_}
 use mathlib.Core.Path.{_≡_, refl, sym, _∙_}
 use mathlib.Core.Bool.{Bool, true, false, cond, _&&_}
-use mathlib.Core.List.{List}
+use mathlib.Core.List.{List, []}
 use native.Mathlib.Omega.{arith}
 use borrow.Author.Tests.{ltb-true, leb-true, ne-eqb}
 use lib.Dec.{ltb, leb}
@@ -154,6 +154,15 @@ module _ (s : List ℕ) (w : Source) (id : ℕ) (a b : MediaTime) (e : askRefusa
   -- the answer of the question
   pub said-stretches : SaidOf track a b room r after → Stretches s w id a b room r after
   said-stretches p = by-within within refl p
+
+-- its refusal before the room is looked at
+pub said-span : (s : List ℕ) (w : Source) (id : ℕ) (a b : MediaTime) → askRefusal s w id ≡ 0
+    → saidRefusal (tableOf stts (trackAsked s id)) (tableOf stsc (trackAsked s id)) (tableOf stsz (trackAsked s id)) (offsetTable (trackAsked s id)) (samplesOf (trackAsked s id)) (chunksOf (trackAsked s id)) a b
+    ≡ spanRefusal s w id a b
+unfolding spanRefusal orElse
+said-span s w id a b e =
+    let t = trackAsked s id in
+    refusal-is s w id a b e [] (Refused 0) [] (ltb (a .0) (b .0) && leb (b .0) (totalIn t)) refl ∙ rw e
 
 -- the same, from what the code has
 pub film-refused : (s : List ℕ) (w : Source) (id : ℕ) (a b : MediaTime) (room : List ℕ) (k : ℕ) → k ≡ askRefusal s w id → (k ≡ 0 → ⊥) → Stretches s w id a b room (Refused k) room

@@ -17,8 +17,8 @@ ghost use Rattle.stretch.specs.Spans.{spanOfAsk};
 ghost use Rattle.stretch.specs.Stretches.{spanRefusal, Stretches};
 
 // What the stretch from a to b of the track that is asked asks for.
-pub fn span_asked(lent: &[u8], ask: Ask, a: u32, b: u32) -> Asked
-    ensures { λ r. ⌜ r ≡ spanOfAsk (now (lent .entry)) ask a b ⌝ }
+pub fn span_asked(lent: &[u8], ask: Ask, a: MediaTime, b: MediaTime) -> Asked
+    ensures { λ r. ⌜ r ≡ spanOfAsk (now (lent .entry)) ask (a .0) (b .0) ⌝ }
 {
     if ask.refusal != 0 {
         return Asked::Refused(ask.refusal);
@@ -34,10 +34,8 @@ pub fn span_asked(lent: &[u8], ask: Ask, a: u32, b: u32) -> Asked
 pub fn span_refusal(lent: &[u8], source: Source, id: u32, a: MediaTime, b: MediaTime) -> u32
     ensures { λ r. ⌜ r ≡ spanRefusal (now (lent .entry)) source id a b ⌝ }
 {
-    let first = a.0;
-    let last = b.0;
     let ask = Ask::of(lent, source, id);
-    match span_asked(lent, ask, first, last) {
+    match span_asked(lent, ask, a, b) {
         Asked::Samples(_) => 0,
         Asked::Refused(r) => r,
     }
@@ -60,10 +58,8 @@ pub fn stretch_of(
 ) -> StretchAnswer
     ensures { λ r. ⌜ Stretches (now (file .entry)) wholeFile id a b (now (room .entry)) r (now (room .exit)) ⌝ }
 {
-    let first = a.0;
-    let last = b.0;
     let ask = Ask::of(file, Source::whole(), id);
-    match span_asked(file, ask, first, last) {
+    match span_asked(file, ask, a, b) {
         Asked::Refused(r) => StretchAnswer::Refused(r),
         Asked::Samples(span) => {
             let trak = ask.trak;

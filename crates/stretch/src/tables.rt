@@ -26,9 +26,7 @@ pub fn asked_of(
 ) -> Asked
     ensures { λ r. ⌜ r ≡ askedSaid (now (stts .entry)) (now (stsc .entry)) (now (stsz .entry)) (now (offsets .entry)) samples chunks a b ⌝ }
 {
-    let first = a.0;
-    let last = b.0;
-    match span_of(stts, samples, first, last) {
+    match span_of(stts, samples, a, b) {
         Asked::Refused(r) => Asked::Refused(r),
         Asked::Samples(span) => {
             if pairs_fit(stsc, stsz, offsets, chunks, span.from, span.stop) {

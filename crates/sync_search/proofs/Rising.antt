@@ -5,15 +5,17 @@ use mathlib.Core.Path.{_≡_, refl, sym, ap, _∙_}
 use mathlib.Core.Bool.{Bool, true, false, cond}
 use mathlib.Core.List.{List, [], _∷_}
 use native.Mathlib.Omega.{arith}
-use borrow.Author.Tests.{eq-eqb, ne-eqb, ltb-true}
-use lib.Dec.{eqb, ltb}
+use native.Mathlib.Decide.{decLe}
+use borrow.Author.Tests.{eq-eqb, ne-eqb, ltb-true, lt-ltb, le-ltb, leb-true, leb-false}
+use lib.Dec.{eqb, ltb, leb}
 use lib.ListN.{length, getD, drop}
 use Rattle.bigendian.specs.BigEndian.{u32At}
 use Rattle.lists.proofs.Booleans.{cond-both}
+use Rattle.lists.proofs.Halving.{last-passing}
 use Rattle.words.specs.Words.{wordsIn, strictlyRising, syncsAgree, listed, isSync}
 use Rattle.words.proofs.Turns.{words-none, words-at, length-words}
 use Rattle.words.proofs.Syncs.{agree-in, sync-absent, sync-in}
-use Rattle.sync_search.specs.Search.{Searched}
+use Rattle.sync_search.specs.Search.{lastUpto, searchedIn, searchedSync, Searched}
 
 -- numbers that rise from above x do not list it
 none-above : (n last x : ℕ) (xs : List ℕ) → strictlyRising n last xs ≡ true → x ≤ last → listed x xs ≡ false
@@ -57,33 +59,46 @@ listed-at n last x (y ∷ ys) (suc i) e h f g =
     let e2 : suc i + 1 ≡ suc (i + 1) = omega arith in
     rw (ne-eqb y x (λ q. omega arith)) (listed-at n y x ys i (t .1) (omega arith) (λ z. m) (λ z. rw e2 at (g (omega arith))))
 
--- ---- the ways out of the search
+-- ---- the search
 
 -- the place that was found is one of them, where there is a number
-pub found-in : (n i : ℕ) → 4 ≤ n → (0 < i → i < n / 4) → i < n / 4
-found-in n zero h a = omega arith
-found-in n (suc i) h a = a (omega arith)
+pub found-in : (part : List ℕ) (x : ℕ) → 4 ≤ length part → lastUpto part x < length part / 4
+found-in part x h = below (lastUpto part x) (last-passing (λ i. leb (u32At part (i * 4)) x) (length part / 4) .within)
+  where
+    below : (i : ℕ) → (0 < i → i < length part / 4) → i < length part / 4
+    below zero a = omega arith
+    below (suc i) a = a (omega arith)
 
-pub searched-absent : (s : List ℕ) (number : ℕ) → length s ≡ 0 → Searched s number true
-searched-absent s number h n e = sym (sync-absent s number h)
+-- in a part whose numbers rise
+module _ (n x : ℕ) (part : List ℕ) (rise : strictlyRising n 0 (wordsIn part) ≡ true) where
+  abbrev i : ℕ
+  i = lastUpto part x
 
-module _ (s part : List ℕ) (number : ℕ) (h : length s ≡ 0 → ⊥) (p : part ≡ drop 16 s) where
-  sync-is : isSync s number ≡ listed number (wordsIn part)
-  sync-is = sync-in s number h ∙ ap (λ (l : List ℕ). listed number (wordsIn l)) (sym p)
+  in-some : 4 ≤ length part → eqb (u32At part (i * 4)) x ≡ listed x (wordsIn part)
+  in-some l =
+      let k = length-words part in
+      let in-it = found-in part x l in
+      let w = words-at part i in-it in
+      let o = last-passing (λ j. leb (u32At part (j * 4)) x) (length part / 4) in
+      let f : 0 < i → getD (wordsIn part) i 0 ≤ x = λ z. omega (arith, w, leb-true (u32At part (i * 4)) x (o .passes z)) in
+      let g : i + 1 < length (wordsIn part) → x < getD (wordsIn part) (i + 1) 0 =
+      λ z. omega (arith, words-at part (i + 1) (omega (arith, k)), leb-false (u32At part ((i + 1) * 4)) x (o .fails (omega (arith, k)))) in
+      sym (listed-at n 0 x (wordsIn part) i rise (omega (arith, k, in-it)) f g ∙ ap (λ (y : ℕ). eqb y x) w)
 
-  pub searched-empty : length part < 4 → Searched s number false
-  searched-empty l n e = sym (sync-is ∙ ap (listed number) (words-none part l))
+  pub searched-in : searchedIn part x ≡ listed x (wordsIn part)
+  searched-in = elim (decLe 4 (length part)) [
+    | yes h ↦ rw (le-ltb (length part) 4 h) (in-some h)
+    | no h ↦ rw (lt-ltb (length part) 4 (omega arith)) (ap (listed x) (sym (words-none part (omega arith))))
+  ]
 
-  module _ (i x : ℕ) (l : 4 ≤ length part) (a : 0 < i → i < length part / 4) (b : 0 < i → u32At part (i * 4) ≤ number)
-      (c : i + 1 < length part / 4 → number < u32At part ((i + 1) * 4)) (q : x ≡ u32At part (i * 4)) where
-    inside : i < length part / 4
-    inside = found-in (length part) i l a
+pub searched-right : (s : List ℕ) (number n : ℕ) → syncsAgree s n ≡ true → searchedSync s number ≡ isSync s number
+unfolding searchedSync
+searched-right s number n e = elim (decLe (length s) 0) [
+  | yes h ↦ let z : length s ≡ 0 = omega arith in rw (eq-eqb (length s) 0 z) (sym (sync-absent s number z))
+  | no h ↦
+      let z : length s ≡ 0 → ⊥ = λ q. omega arith in
+      rw (ne-eqb (length s) 0 z) (searched-in n number (drop 16 s) (sym (agree-in s n) ∙ e) ∙ sym (sync-in s number z))
+]
 
-    pub searched-at : Searched s number (eqb x number)
-    searched-at n e =
-        let k = length-words part in
-        let w = words-at part i inside in
-        let rise : strictlyRising n 0 (wordsIn part) ≡ true = rw p (sym (agree-in s n) ∙ e) in
-        let f : 0 < i → getD (wordsIn part) i 0 ≤ number = λ z. omega (arith, w, b z) in
-        let g : i + 1 < length (wordsIn part) → number < getD (wordsIn part) (i + 1) 0 = λ z. omega (arith, words-at part (i + 1) (omega (arith, k)), c (omega (arith, k))) in
-        sym (sync-is ∙ listed-at n 0 number (wordsIn part) i rise (omega (arith, k, inside)) f g ∙ ap (λ (y : ℕ). eqb y number) (w ∙ sym q))
+pub searched : (s : List ℕ) (number : ℕ) (r : Bool) → r ≡ searchedSync s number → Searched s number r
+searched s number r e = record { answer = e; right = λ n a. e ∙ searched-right s number n a }

@@ -3,14 +3,12 @@ use bigendian::after;
 use bigendian::u32_at;
 use words::HEAD;
 use words::WORD;
-ghost use Prim.Native.Nat.{_+_, _*_, _/_, _≤_, _<_};
-ghost use lib.ListN.{length};
-ghost use Rattle.bigendian.specs.BigEndian.{u32At};
-ghost use Rattle.sync_search.specs.Search.{Searched};
+ghost use mathlib.Core.Path.{_≡_};
+ghost use Rattle.sync_search.specs.Search.{lastUpto, Searched};
 
 // The last of the numbers of a part that is not above x, by halving; the first where there is none.
 fn last_upto(part: &[u8], x: u32) -> usize
-    ensures { λ r. ⌜ (0 < r → r < length (now (part .entry)) / 4) × (0 < r → u32At (now (part .entry)) (r * 4) ≤ x) × (r + 1 < length (now (part .entry)) / 4 → x < u32At (now (part .entry)) ((r + 1) * 4)) ⌝ }
+    ensures { λ r. ⌜ r ≡ lastUpto (now (part .entry)) x ⌝ }
 {
     let mut low = 0;
     let mut high = part.len() / WORD;

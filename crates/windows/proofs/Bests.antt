@@ -3,11 +3,13 @@
 use Prim.Native.Nat.{ℕ, _*_, _≤_, _<_}
 use mathlib.Core.Path.{_≡_, refl, sym, ap, _∙_}
 use mathlib.Core.Bool.{true, false}
+use mathlib.Core.List.{List}
 use native.Mathlib.Omega.{arith}
 use native.Mathlib.Decide.{decLt}
-use borrow.Author.Tests.{lt-ltb, le-ltb, leb-true}
-use lib.Dec.{ltb}
-use Rattle.lists.proofs.Booleans.{cond-unless}
+use borrow.Author.Tests.{lt-ltb, le-ltb, leb-true, leb-false, ltb-false, eqb-true}
+use lib.Dec.{ltb, leb, eqb}
+use Rattle.bigendian.specs.BigEndian.{u32At}
+use Rattle.lists.proofs.Booleans.{cond-unless, and-both}
 use Rattle.rates.specs.Rates.{rateOf}
 use Rattle.rates.specs.declared.Feature.{Feature}
 use Rattle.rates.specs.declared.Feature.the-variants as features
@@ -15,13 +17,26 @@ use Rattle.rates.proofs.Orders.{eightfold, no-higher}
 use Rattle.windows.specs.declared.RatedRun.{RatedRun}
 use Rattle.windows.specs.declared.Best.{Best}
 use Rattle.windows.specs.declared.Best.the-variants.{Run, NotComputed}
-use Rattle.windows.specs.Windows.{ratedAs, ratedRun, better, noRun, noHigher}
+use Rattle.windows.specs.Windows.{ratedAs, ratedRun, better, noRun, noHigher, noHigherRun, areSingle}
 
 -- what the comparison says where it tells
 pub no-higher-known : (bytes span : ℕ) (other : RatedRun) → noHigher bytes span other ≡ true → bytes * other .span ≤ other .bytes * span
 unfolding noHigher
 no-higher-known bytes span other e =
     leb-true _ _ (cond-unless (ltb 4294967295 (other .bytes)) _ (cond-unless (ltb 4294967295 bytes) _ e .1) .1)
+
+-- what an answer that is true says of a window, and of two entries
+pub no-higher-run-known : (rest span bytes s : ℕ) (other : RatedRun) → noHigherRun rest span bytes s other ≡ true
+    → (rest < s) × (s ≤ span) × (bytes * other .span ≤ other .bytes * span)
+unfolding noHigherRun
+no-higher-run-known rest span bytes s other e =
+    let a = cond-unless (leb s rest) _ e in
+    let b = cond-unless (ltb span s) _ (a .1) in
+    (leb-false _ _ (a .0), ltb-false _ _ (b .0), no-higher-known bytes span other (b .1))
+
+pub single-known : (a b : List ℕ) → areSingle a b ≡ true → (u32At a 0 ≡ 1) × (u32At b 0 ≡ 1)
+unfolding areSingle
+single-known a b e = let t = and-both (eqb (u32At a 0) 1) (eqb (u32At b 0) 1) e in (eqb-true _ _ (t .0), eqb-true _ _ (t .1))
 
 -- what a test that failed says of an answer that is true
 pub untrue : {A : Type 0} → false ≡ true → A

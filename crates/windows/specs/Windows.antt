@@ -2,10 +2,11 @@
 -- crates' own functions.
 use Prim.Native.Nat.{ℕ, suc, _+_, _-_, _*_, _≤_, _<_}
 use mathlib.Core.Path.{_≡_}
-use mathlib.Core.Bool.{Bool, false, cond}
+use mathlib.Core.Bool.{Bool, false, cond, _&&_}
 use mathlib.Core.List.{List, [], _∷_}
 use lib.ListN.{length, take, drop}
-use lib.Dec.{ltb, leb}
+use lib.Dec.{ltb, leb, eqb}
+use Rattle.bigendian.specs.BigEndian.{u32At}
 use Rattle.lists.specs.Lists.{sum, before}
 use Rattle.runs.specs.Runs.{perSample}
 use Rattle.runs.specs.Cursors.{runAhead, RunStands, startRun, readiedRun, pastRun}
@@ -109,6 +110,14 @@ bestOf s ds zs = cond (ltb (sum ds) s) (ratedRun s 0 (length ds) (sum zs) (sum d
 unfoldable pub noHigher : ℕ → ℕ → RatedRun → Bool
 noHigher bytes span other =
     cond (ltb 4294967295 bytes) false (cond (ltb 4294967295 (other .bytes)) false (leb (bytes * other .span) (other .bytes * span)))
+
+-- whether a window that lasts `rest` without its last sample is the run of its first one, for a scale s, and no higher than the best run
+unfoldable pub noHigherRun : ℕ → ℕ → ℕ → ℕ → RatedRun → Bool
+noHigherRun rest span bytes s best = cond (leb s rest) false (cond (ltb span s) false (noHigher bytes span best))
+
+-- whether two entries of stts have one sample each
+unfoldable pub areSingle : List ℕ → List ℕ → Bool
+areSingle a b = eqb (u32At a 0) 1 && eqb (u32At b 0) 1
 
 -- a best run whose rate is that of its bytes and its span
 abbrev pub IsRated : ℕ → Best → Type 0

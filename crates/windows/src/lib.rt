@@ -9,13 +9,11 @@ use runs::cursor::run_ready;
 use runs::cursor::run_start;
 use words::size_of;
 ghost use mathlib.Core.Path.{_≡_};
-ghost use mathlib.Core.Bool.{true};
-ghost use Prim.Native.Nat.{_+_, _-_, _*_, _≤_, _<_};
+ghost use Prim.Native.Nat.{_+_, _-_, _≤_, _<_};
 ghost use lib.ListN.{length};
-ghost use Rattle.bigendian.specs.BigEndian.{u32At};
 ghost use Rattle.runs.specs.Runs.{perSample};
 ghost use Rattle.words.specs.Words.{sizes};
-ghost use Rattle.windows.specs.Windows.{Timed, startWindow, grownBy, Slides, Reaches, ratedRun, IsRated, noHigher, Raises};
+ghost use Rattle.windows.specs.Windows.{Timed, startWindow, grownBy, Slides, Reaches, ratedRun, IsRated, noHigher, noHigherRun, areSingle, Raises};
 
 // The samples from index `first` up to, not including, `stop`: how long they last, their bytes, and a cursor of stts at each end.
 pub struct Window {
@@ -146,7 +144,7 @@ fn is_no_higher(bytes: u64, span: u64, other: RatedRun) -> bool
 // Whether a window that lasts `rest` without its last sample is the run of its first one, and no higher than the best run.
 pub fn is_no_higher_run(rest: u64, span: u64, bytes: u64, scale: u32, best: RatedRun) -> bool
     requires { ⌜ (span < 4294967296) × (best .span < 4294967296) ⌝ }
-    ensures { λ r. ⌜ (r ≡ true → (rest < scale) × (scale ≤ span) × (bytes * best .span ≤ best .bytes * span)) ⌝ }
+    ensures { λ r. ⌜ r ≡ noHigherRun rest span bytes scale best ⌝ }
 {
     if scale as u64 <= rest {
         return false;
@@ -160,7 +158,7 @@ pub fn is_no_higher_run(rest: u64, span: u64, bytes: u64, scale: u32, best: Rate
 // Whether two entries have one sample each.
 pub fn are_single(a: &[u8], b: &[u8]) -> bool
     requires { ⌜ (8 ≤ length (now a)) × (8 ≤ length (now b)) ⌝ }
-    ensures { λ r. ⌜ (r ≡ true → (u32At (now (a .entry)) 0 ≡ 1) × (u32At (now (b .entry)) 0 ≡ 1)) ⌝ }
+    ensures { λ r. ⌜ r ≡ areSingle (now (a .entry)) (now (b .entry)) ⌝ }
 {
     if whole32(a, 0) != 1 {
         return false;

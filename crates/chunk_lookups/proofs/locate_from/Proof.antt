@@ -5,7 +5,7 @@ use mathlib.Core.Path.{ap, _∙_}
 use native.Mathlib.Omega.{arith}
 use denote.Ref.{now}
 use lib.ListN.{length, length-drop}
-use Rattle.chunk_lookups.proofs.From.{found-in, located-past}
+use Rattle.chunk_lookups.proofs.From.{found-in, located-past, located-early, located-late}
 use borrow.Author.Needs.{needs}
 use Rattle.chunk_lookups.proofs.locate_from.Statement.{statement}
 use Rattle.chunk_lookups.proofs.locate_from.Tie as tie
@@ -26,7 +26,12 @@ locate-requires : tie.Need-locate-requires
 locate-requires c κs = search needs
 
 returns : tie.Need-returns
-returns c = search needs
+returns c =
+    let u = c .before .before .before .last-upto in
+    record {
+      answer = located-early _ _ _ _ _ (u .result) _ (u .ensures .4) (c .before .before .number-at .ensures) _ (c .locate .ensures) (c .before .if1 .taken);
+      right = λ cs ts b. c .locate .ensures;
+    }
 
 mul-after : tie.Need-mul-after
 mul-after c = search needs
@@ -53,11 +58,19 @@ wrapping-add-u64-requires : tie.Need-wrapping-add-u64-requires
 wrapping-add-u64-requires c κs = search needs
 
 returns-2 : tie.Need-returns-2
-returns-2 c = λ cs ts b.
+returns-2 c =
     let u = c .before .before .before .before .before .before .last-upto in
-    let i = found-in (u .result) _ (c .before .before .before .before .before .before .before .before .before .pre .1) (u .ensures .1) in
-    located-past (now (c .before .before .before .before .before .before .before .before .before .args .stsc)) _ (u .result) _ _ _ (c .before .number-at2 .ensures ∙ cs (u .result) i) (c .before .before .before .before .before .number-at .ensures ∙ ts (u .result) i) (c .before .before .before .before .if1 .left) b _
-    (rw (c .before .before .before .after .ensures) at (c .before .before .locate2 .ensures)) _ (c .wrapping-add-u64 .ensures)
+    let s = c .before .before .before .before .before .before .before .before .before in
+    let a = s .args in
+    let i = found-in (u .result) _ (s .pre .1) (u .ensures .1) in
+    let n = c .before .before .before .before .before .number-at .ensures in
+    let m = c .before .number-at2 .ensures in
+    let h = c .before .before .before .before .if1 .left in
+    let f = rw (c .before .before .before .after .ensures) at (c .before .before .locate2 .ensures) in
+    record {
+      answer = located-late (now (a .stsc)) (now (a .points)) (a .count) (a .chunks) (a .index) (u .result) _ (u .ensures .4) n h _ m _ f _ (c .wrapping-add-u64 .ensures);
+      right = λ cs ts b. located-past (now (a .stsc)) _ (u .result) _ _ _ (m ∙ cs (u .result) i) (n ∙ ts (u .result) i) h b _ f _ (c .wrapping-add-u64 .ensures);
+    }
 
 pub locate-from-spec : {M : Type 1} → statement M
 locate-from-spec =

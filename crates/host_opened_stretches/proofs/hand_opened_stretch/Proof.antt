@@ -24,7 +24,7 @@ returns-2 : tie.Need-returns-2
 returns-2 c =
     let h = c .before .before .before .handle-in .result in
     stretch-whole _ _ _ _ _ _ _ _ _ (c .before .before .before .before .if1 .left) h (c .before .before .before .handle-in .ensures) (
-    too-few _ _ _ _ _ _ _ _ (by-judged _ h _ _ _) refl (c .before .before .if2 .taken) (rw (← c .before .refusal-by .ensures) (c .or-short .ensures)))
+    too-few _ _ _ _ _ _ _ _ (by-judged _ h _ _ _) refl (c .before .before .if2 .taken) (rw (← c .before .refusal-by .ensures .said) (c .or-short .ensures)))
 
 stretch-by-requires : tie.Need-stretch-by-requires
 stretch-by-requires c κs = search needs

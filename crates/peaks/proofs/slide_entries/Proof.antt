@@ -3,11 +3,12 @@
 use borrow.Author.Needs.{needs}
 use borrow.Author.Tests.{not-false}
 use Prim.Native.Nat.{_-_}
-use mathlib.Core.Path.{refl}
+use mathlib.Core.Path.{refl, sym, _∙_}
 use native.Mathlib.Omega.{arith}
 use denote.Ref.{now}
 use lib.ListN.{length, length-drop}
 use Rattle.bigendian.proofs.Parts.{rest as part-rest}
+use Rattle.windows.proofs.Bests.{no-higher-run-known, single-known}
 use Rattle.peaks.proofs.Skipping.{skips-none}
 use Rattle.peaks.proofs.EntrySlides.{Enters, enters-start, some-entries, some-sizes, leaves-span, leaves-bytes, span-next, moves-on, enters-next, may-stand}
 use Rattle.peaks.proofs.slide_entries.Statement.{statement}
@@ -244,8 +245,8 @@ loop-again c =
     let s = l .before .before .before .before .before .before .before .before .before .before .before .before in
     let p = s .pre in
     let e = l .loop .inv in
-    let r = n .is-no-higher-run .ensures (not-false _ (q .before .if2 .left)) in
-    let u = q .are-single .ensures (not-false _ (v .before .before .if3 .left)) in
+    let r = no-higher-run-known _ _ _ _ _ (sym (n .is-no-higher-run .ensures) ∙ not-false _ (q .before .if2 .left)) in
+    let u = single-known _ _ (sym (q .are-single .ensures) ∙ not-false _ (v .before .before .if3 .left)) in
     rw (part-rest 8 (now (l .loop .h)), part-rest 8 (now (l .loop .t)), part-rest 4 (now (l .loop .o)), part-rest 4 (now (l .loop .i)), v .whole323 .ensures, a .whole324 .ensures)
     (enters-next _ _ _ (p .1) _ _ (p .5) _ _ _ _ _ e (f .if1 .left) (t .loop-test .taken) (x .whole32 .ensures) (y .whole322 .ensures) (omega (arith, x .whole32 .ok)) (u .0) (u .1) (r .0) (p .3 _ refl .0) (r .1) (r .2))
 

@@ -3,7 +3,7 @@
 use mathlib.Core.Path.{_∙_}
 use denote.Ref.{now}
 use Rattle.bigendian.proofs.Halves.{kept}
-use Rattle.run_lookups.proofs.From.{found-in, offset-past}
+use Rattle.run_lookups.proofs.From.{found-in, offset-past, offset-early, offset-late}
 use borrow.Author.Needs.{needs}
 use Rattle.run_lookups.proofs.offset_from.Statement.{statement}
 use Rattle.run_lookups.proofs.offset_from.Tie as tie
@@ -21,7 +21,14 @@ composition-offset-requires : tie.Need-composition-offset-requires
 composition-offset-requires c κs = search needs
 
 returns : tie.Need-returns
-returns c = search needs
+returns c =
+    let u = c .before .before .before .last-upto in
+    let o = c .composition-offset in
+    rw (kept (o .result) (o .ok)) (record {
+      answer = offset-early _ _ _ _ (u .result) _ (u .ensures .4) (c .before .before .number-at .ensures) _ (o .ensures .0) (c .before .if1 .taken);
+      right = λ cs. o .ensures .0;
+      low = o .ensures .1;
+    })
 
 mul-after : tie.Need-mul-after
 mul-after c = search needs
@@ -43,10 +50,15 @@ returns-2 c =
     let u = c .before .before .before .before .last-upto in
     let o = c .composition-offset2 in
     let i = found-in (u .result) _ (c .before .before .before .before .before .before .before .pre .0) (u .ensures .1) in
-    rw (kept (o .result) (o .ok)) (
-      λ cs. offset-past (now (c .before .before .before .before .before .before .before .args .ctts)) (u .result) _ _ (c .before .before .before .number-at .ensures ∙ cs (u .result) i) (c .before .before .if1 .left) _ (rw (c .before .after .ensures) at (o .ensures .0)),
-      o .ensures .1,
-    )
+    let a = c .before .before .before .before .before .before .before .args in
+    let n = c .before .before .before .number-at .ensures in
+    let h = c .before .before .if1 .left in
+    let f = rw (c .before .after .ensures) at (o .ensures .0) in
+    rw (kept (o .result) (o .ok)) (record {
+      answer = offset-late (now (a .ctts)) (now (a .points)) (a .count) (a .index) (u .result) _ (u .ensures .4) n h _ f;
+      right = λ cs. offset-past (now (a .ctts)) (u .result) _ _ (n ∙ cs (u .result) i) h _ f;
+      low = o .ensures .1;
+    })
 
 pub offset-from-spec : {M : Type 1} → statement M
 offset-from-spec =

@@ -2,7 +2,7 @@
 -- Assumes nothing.
 use mathlib.Core.Path.{_∙_}
 use denote.Ref.{now}
-use Rattle.run_lookups.proofs.From.{found-in, timing-past}
+use Rattle.run_lookups.proofs.From.{found-in, timing-past, timing-early, timing-late}
 use borrow.Author.Needs.{needs}
 use Rattle.run_lookups.proofs.timing_from.Statement.{statement}
 use Rattle.run_lookups.proofs.timing_from.Tie as tie
@@ -20,7 +20,12 @@ timing-of-requires : tie.Need-timing-of-requires
 timing-of-requires c κs = search needs
 
 returns : tie.Need-returns
-returns c = search needs
+returns c =
+    let u = c .before .before .before .last-upto in
+    record {
+      answer = timing-early _ _ _ _ (u .result) _ (u .ensures .4) (c .before .before .number-at .ensures) _ (c .timing-of .ensures) (c .before .if1 .taken);
+      right = λ cs ts b. c .timing-of .ensures;
+    }
 
 mul-after : tie.Need-mul-after
 mul-after c = search needs
@@ -50,11 +55,18 @@ wrapping-add-u64-requires : tie.Need-wrapping-add-u64-requires
 wrapping-add-u64-requires c κs = search needs
 
 returns-2 : tie.Need-returns-2
-returns-2 c = λ cs ts b.
+returns-2 c =
     let u = c .before .before .before .before .before .before .last-upto in
+    let a = c .before .before .before .before .before .before .before .before .before .args in
     let i = found-in (u .result) _ (c .before .before .before .before .before .before .before .before .before .pre .0) (u .ensures .1) in
-    timing-past (now (c .before .before .before .before .before .before .before .before .before .args .stts)) (u .result) _ _ (c .before .before .before .before .before .number-at .ensures ∙ cs (u .result) i) (c .before .before .before .before .if1 .left) _ (c .before .number-at2 .ensures ∙ ts (u .result) i) b _
-    (rw (c .before .before .before .after .ensures) at (c .before .before .timing-of2 .ensures)) _ (c .wrapping-add-u64 .ensures)
+    let n = c .before .before .before .before .before .number-at .ensures in
+    let h = c .before .before .before .before .if1 .left in
+    let m = c .before .number-at2 .ensures in
+    let f = rw (c .before .before .before .after .ensures) at (c .before .before .timing-of2 .ensures) in
+    record {
+      answer = timing-late (now (a .stts)) (now (a .points)) (a .count) (a .index) (u .result) _ (u .ensures .4) n h _ m _ f _ (c .wrapping-add-u64 .ensures);
+      right = λ cs ts b. timing-past (now (a .stts)) (u .result) _ _ (n ∙ cs (u .result) i) h _ (m ∙ ts (u .result) i) b _ f _ (c .wrapping-add-u64 .ensures);
+    }
 
 pub timing-from-spec : {M : Type 1} → statement M
 timing-from-spec =

@@ -2,8 +2,9 @@
 -- up all, and the sum so far is at most the largest number for each sample counted.
 -- Assumes nothing.
 use borrow.Author.Needs.{needs}
+use borrow.Author.Tests.{eq-eqb, ne-eqb}
 use Prim.Native.Nat.{ℕ, _+_, _*_, _-_, _≤_}
-use mathlib.Core.Path.{_≡_, sym, ap, _∙_}
+use mathlib.Core.Path.{_≡_, refl, sym, ap, _∙_}
 use native.Mathlib.Nat.{mul-le-mul-left}
 use native.Mathlib.Omega.{arith}
 use denote.Ref.{now}
@@ -47,13 +48,13 @@ u32-at-requires c κs = search needs
 returns : tie.Need-returns Inv-loop μ-loop
 returns c =
     let l = c .before .before .before in
-    (sym (count-zero _ _ _ (c .before .u32-at .ensures) (c .before .before .loop-test .taken) (c .if1 .taken)) ∙ l .loop .inv .0, λ e. let z : _≡_ {A = ℕ} 0 1 = cc in omega arith)
+    (sym (count-zero _ _ _ (c .before .u32-at .ensures) (c .before .before .loop-test .taken) (c .if1 .taken)) ∙ l .loop .inv .0, refl)
 
 returns-2 : tie.Need-returns-2 Inv-loop μ-loop
 returns-2 c =
     let l = c .before .before .before .before in (
       sym (count-over _ _ _ (c .before .before .u32-at .ensures) (c .before .before .before .loop-test .taken) (c .before .if1 .left) (c .if2 .taken)) ∙ l .loop .inv .0,
-      λ e. let z : _≡_ {A = ℕ} 0 1 = cc in omega arith,
+      refl,
     )
 
 cast-total : tie.Need-cast-total Inv-loop μ-loop
@@ -99,8 +100,13 @@ loop-again c =
 
 returns-3 : tie.Need-returns-3 Inv-loop μ-loop
 returns-3 c =
-    let l = c .before .loop in
-    (sym (count-end _ _ (c .loop-test .left)) ∙ l .inv .0, λ e. adds-end _ _ _ (c .loop-test .left) (l .inv .1))
+    let l = c .before .before .loop in
+    (sym (ne-eqb _ 0 (c .if3 .taken)) ∙ sym (count-end _ _ (c .before .loop-test .left)) ∙ l .inv .0, refl)
+
+returns-4 : tie.Need-returns-4 Inv-loop μ-loop
+returns-4 c =
+    let l = c .before .before .loop in
+    (sym (eq-eqb _ 0 (c .if3 .left)) ∙ sym (count-end _ _ (c .before .loop-test .left)) ∙ l .inv .0, adds-end _ _ _ (c .before .loop-test .left) (l .inv .1))
 
 pub count-and-total-spec : {M : Type 1} → statement M
 count-and-total-spec =
@@ -123,4 +129,5 @@ count-and-total-spec =
     part-t-end
     loop-less
     loop-again
-    returns-3)
+    returns-3
+    returns-4)

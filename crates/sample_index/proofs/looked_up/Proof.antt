@@ -6,7 +6,7 @@ use denote.Ref.{now}
 use native.Mathlib.Omega.{arith}
 use lib.ListN.{length}
 use Rattle.bigendian.proofs.Parts.{rest}
-use Rattle.bigendian.proofs.Halves.{kept}
+use Rattle.questions.proofs.Shift.{narrowed, passed-narrow}
 use Rattle.sample_index.proofs.Answers.{looked-long, looked-found}
 use borrow.Author.Needs.{needs}
 use Rattle.sample_index.proofs.looked_up.Statement.{statement}
@@ -48,6 +48,9 @@ part-offset-from-end c = search needs
 offset-from-requires : tie.Need-offset-from-requires
 offset-from-requires c κs = search needs
 
+cast-sample-found : tie.Need-cast-sample-found
+cast-sample-found c = let o = c .offset-from in narrowed (o .result) (o .ensures .low)
+
 mul-locate-from : tie.Need-mul-locate-from
 mul-locate-from c = search needs
 
@@ -88,10 +91,10 @@ returns-2 c =
     let i = now (e .args .index) in
     looked-found _ (e .args .h) i (e .args .count) _ (c .before .before .before .before .before .before .before .before .before .before .timing-from .result) (o .result) (c .before .before .before .before .before .locate-from .result) (c .before .before .before .is-sync-rising .result) _
     (rw (c .before .before .before .before .before .before .before .before .before .before .before .part-of2 .ensures) at (c .before .before .before .before .before .before .before .before .before .before .timing-from .ensures))
-    (rw (c .before .before .before .before .before .before .before .before .before .part-of3 .ensures, rest (2 * e .args .count) i) at (o .ensures .0))
+    (rw (c .before .before .before .before .before .before .before .before .before .part-of3 .ensures, rest (2 * e .args .count) i) at (o .ensures))
     (rw (c .before .before .before .before .before .before .before .before .before .before .before .before .before .part-of .ensures, rest (4 * e .args .count) i) at (c .before .before .before .before .before .locate-from .ensures))
     (rw (c .before .before .before .before .part-of4 .ensures) at (c .before .before .before .is-sync-rising .ensures))
-    (rw (kept (o .result) (o .ok), c .before .before .part-of5 .ensures, c .before .part-of6 .ensures) at (c .sample-found .ensures))
+    (rw (passed-narrow (o .result) (o .ensures .low), c .before .before .part-of5 .ensures, c .before .part-of6 .ensures) at (c .sample-found .ensures))
 
 pub looked-up-spec : {M : Type 1} → statement M
 looked-up-spec =
@@ -109,6 +112,7 @@ looked-up-spec =
     part-offset-from-start
     part-offset-from-end
     offset-from-requires
+    cast-sample-found
     mul-locate-from
     sub-locate-from
     part-locate-from-start

@@ -60,7 +60,8 @@ returns-4 c =
     let j = c .judge-movie .ensures in
     record {
       refusal = simp (← c .before .before .before .before .before .before .before .before .is-too-long .ensures, c .before .before .before .before .before .before .before .if1 .left, ← c .before .before .before .before .before .has-wrong-atoms .ensures, c .before .before .before .before .if2 .left, sym (ap (λ x. x .present) (c .before .before .before .before .before .before .check-tree .ensures)) ∙ not-false _ (c .before .before .if3 .left), ← m) (j .refusal);
-      movie = λ z. rw m at (j .movie);
+      movie = λ z. rw m at (j .movie z);
+      none = j .none;
     }
 
 pub judge-spec : {M : Type 1} → statement M

@@ -45,7 +45,7 @@ measure-chunks-requires c κs =
     let l = i .before .before .loop in
     let e = sym (i .before .is-past .ensures) ∙ not-true (i .before .is-past .result) (i .if1 .taken) in
     let s = i .before .before .before .before .before .before .before in
-    let o = c .chunks-at-once .ensures in
+    let o = c .chunks-at-once .ensures .0 in
     (begins-low _ [] [] _ _ _ _ (l .inv .0 .place) e, o, walking-fits _ _ _ _ _ _ _ (l .inv .0) e _ o, measure-next (l .inv .1) _ _ (walking-split _ _ _ _ _ _ _ (l .inv .0) e _ o) (s .pre .2))
 
 both-requires : tie.Need-both-requires Inv-loop μ-loop
@@ -54,7 +54,7 @@ both-requires c κs =
     let l = i .before .before .loop in
     let e = sym (i .before .is-past .ensures) ∙ not-true (i .before .is-past .result) (i .if1 .taken) in
     let s = i .before .before .before .before .before .before .before in
-    measure-fits (l .inv .1) _ _ (walking-split _ _ _ _ _ _ _ (l .inv .0) e _ (c .before .chunks-at-once .ensures)) (s .pre .2) _ (c .measure-chunks .ensures)
+    measure-fits (l .inv .1) _ _ (walking-split _ _ _ _ _ _ _ (l .inv .0) e _ (c .before .chunks-at-once .ensures .0)) (s .pre .2) _ (c .measure-chunks .ensures)
 
 place-past-requires : tie.Need-place-past-requires Inv-loop μ-loop
 place-past-requires c κs =
@@ -64,7 +64,7 @@ place-past-requires c κs =
     let e = sym (i .before .is-past .ensures) ∙ not-true (i .before .is-past .result) (i .if1 .taken) in
     let k = i .before .before .before .before .before .before in
     let s = k .before in
-    step-fits _ _ _ _ _ (l .inv .0 .place) e (s .pre .0) (s .fits .chunks .fits) (λ x. k .shared-slice-known .given x .fits) (s .fits .stop .fits) _ _ _ (o .chunks-at-once .ensures)
+    step-fits _ _ _ _ _ (l .inv .0 .place) e (s .pre .0) (s .fits .chunks .fits) (λ x. k .shared-slice-known .given x .fits) (s .fits .stop .fits) _ _ _ (o .chunks-at-once .ensures .0)
 
 loop-less : tie.Need-loop-less Inv-loop μ-loop
 loop-less c =
@@ -72,7 +72,7 @@ loop-less c =
     let i = o .before in
     let l = i .before .before .loop in
     let e = sym (i .before .is-past .ensures) ∙ not-true (i .before .is-past .result) (i .if1 .taken) in
-    let w = o .chunks-at-once .ensures in
+    let w = o .chunks-at-once .ensures .0 in
     rw (c .place-past .ensures) (past-less _ [] [] _ _ _ _ (l .inv .0 .place) e _ (w .few) (w .some))
 
 loop-again : tie.Need-loop-again Inv-loop μ-loop
@@ -81,7 +81,7 @@ loop-again c =
     let i = o .before in
     let l = i .before .before .loop in
     let e = sym (i .before .is-past .ensures) ∙ not-true (i .before .is-past .result) (i .if1 .taken) in
-    let w = o .chunks-at-once .ensures in
+    let w = o .chunks-at-once .ensures .0 in
     let t = walking-turn _ _ _ _ _ _ _ (l .inv .0) e _ w _ (c .place-past .ensures) in
     (t .0, same-rest (sym (t .1)) (measuring-turn (l .inv .1) _ _ (walking-split _ _ _ _ _ _ _ (l .inv .0) e _ w) _ _ (c .before .before .measure-chunks .ensures) (c .before .both .ensures)))
 

@@ -46,7 +46,7 @@ write-chunks-requires c κs =
     let l = i .before .before .loop in
     let e = sym (i .before .is-past .ensures) ∙ not-true (i .before .is-past .result) (i .if1 .taken) in
     let s = i .before .before .before .before .before .before .before .before in
-    let w = o .chunks-at-once .ensures in
+    let w = o .chunks-at-once .ensures .0 in
     (begins-low _ [] [] _ _ _ _ (l .inv .0 .place) e, w, walking-fits _ _ _ _ _ _ _ (l .inv .0) e _ w, write-next (l .inv .1) _ _ (walking-split _ _ _ _ _ _ _ (l .inv .0) e _ w) (s .pre .2))
 
 place-past-requires : tie.Need-place-past-requires Inv-loop μ-loop
@@ -57,7 +57,7 @@ place-past-requires c κs =
     let e = sym (i .before .is-past .ensures) ∙ not-true (i .before .is-past .result) (i .if1 .taken) in
     let k = i .before .before .before .before .before .before .before in
     let s = k .before in
-    step-fits _ _ _ _ _ (l .inv .0 .place) e (s .pre .0) (s .fits .chunks .fits) (λ x. k .shared-slice-known .given x .fits) (s .fits .stop .fits) _ _ _ (o .chunks-at-once .ensures)
+    step-fits _ _ _ _ _ (l .inv .0 .place) e (s .pre .0) (s .fits .chunks .fits) (λ x. k .shared-slice-known .given x .fits) (s .fits .stop .fits) _ _ _ (o .chunks-at-once .ensures .0)
 
 loop-less : tie.Need-loop-less Inv-loop μ-loop
 loop-less c =
@@ -65,7 +65,7 @@ loop-less c =
     let i = o .before in
     let l = i .before .before .loop in
     let e = sym (i .before .is-past .ensures) ∙ not-true (i .before .is-past .result) (i .if1 .taken) in
-    let w = o .chunks-at-once .ensures in
+    let w = o .chunks-at-once .ensures .0 in
     rw (c .place-past .ensures) (past-less _ [] [] _ _ _ _ (l .inv .0 .place) e _ (w .few) (w .some))
 
 loop-again : tie.Need-loop-again Inv-loop μ-loop
@@ -75,7 +75,7 @@ loop-again c =
     let i = o .before in
     let l = i .before .before .loop in
     let e = sym (i .before .is-past .ensures) ∙ not-true (i .before .is-past .result) (i .if1 .taken) in
-    let w = o .chunks-at-once .ensures in
+    let w = o .chunks-at-once .ensures .0 in
     let t = walking-turn _ _ _ _ _ _ _ (l .inv .0) e _ w _ (c .place-past .ensures) in
     (t .0, same-ahead (sym (t .1)) (writing-turn (l .inv .1) _ _ (walking-split _ _ _ _ _ _ _ (l .inv .0) e _ w) _ _ (d .write-chunks .ensures)))
 

@@ -10,7 +10,9 @@ use Rattle.runs.specs.Runs.{runsOf}
 use Rattle.runs.specs.Computed.{counting}
 use Rattle.track.specs.Refusals.{totalIn}
 use Rattle.track.specs.TrackRows.{timedRows, trackRows}
-use mathlib.Core.Path.{_≡_, sym, _∙_}
+use Prim.Native.Nat.{ℕ}
+use mathlib.Core.Path.{_≡_, sym, ap, _∙_}
+use mathlib.Core.Bool.{Bool, true, cond}
 use Rattle.track.proofs.Agreed.{stts-counts}
 use Rattle.track.proofs.Clauses.{counts-by}
 use Rattle.track.proofs.Rows.{rows-7, rows-8, rows-9, rows-timed, timed-over, total-by}
@@ -24,6 +26,10 @@ named c e = c .if1 .left (c .before .id-in .ensures ∙ e)
 -- nor is the scale
 scaled : (c : tie.Else2) → scaleOf (now (c .before .before .before .before .before .args .trak)) ≡ 0 → ⊥
 scaled c e = c .if2 .left (c .before .scale-in .ensures ∙ e)
+
+-- the sum that is given with a table that counts the samples
+agreed-total : {a : Bool} {t total : ℕ} → t ≡ cond a total 0 → a ≡ true → t ≡ total
+agreed-total {total = n} e h = e ∙ ap (λ q. cond q n 0) h
 
 -- whether stts counts the samples
 counted : (c : tie.After-count-and-total) →
@@ -41,7 +47,7 @@ total : (c : tie.Else3) →
 total c =
     let k = c .before .before in
     let h = k .before .before .before .before .before .before .before .before .before .pre .0 in
-    k .count-and-total .ensures .1 (counted k ∙ stts-counts _ (sym (c .before .is-contradictory .ensures) ∙ c .if3 .left)) ∙ total-by _ _ (k .before .part-of2 .ensures ∙ h .stts)
+    agreed-total (k .count-and-total .ensures .1) (counted k ∙ stts-counts _ (sym (c .before .is-contradictory .ensures) ∙ c .if3 .left)) ∙ total-by _ _ (k .before .part-of2 .ensures ∙ h .stts)
 
 -- the rows from 10 on decide
 rest : (c : tie.Else3) →

@@ -2,7 +2,7 @@
 -- Assumes nothing.
 use borrow.Author.Needs.{needs}
 use mathlib.Core.Path.{sym, ap, _∙_}
-use Rattle.bigendian.proofs.Halves.{kept}
+use Rattle.questions.proofs.Shift.{narrowed, passed-narrow}
 use Rattle.questions.proofs.Said.{found-said}
 use Rattle.questions.proofs.samples.sample_in.Statement.{statement}
 use Rattle.questions.proofs.samples.sample_in.Tie as tie
@@ -12,6 +12,9 @@ timing-of-requires c κs = tt
 
 composition-offset-requires : tie.Need-composition-offset-requires
 composition-offset-requires c κs = tt
+
+cast-sample-found : tie.Need-cast-sample-found
+cast-sample-found c = let o = c .composition-offset in narrowed (o .result) (o .ensures .1)
 
 locate-requires : tie.Need-locate-requires
 locate-requires c κs = search needs
@@ -29,7 +32,7 @@ returns : tie.Need-returns
 returns c =
     let o = c .before .before .before .composition-offset in
     c .sample-found .ensures
-    ∙ found-said _ _ _ _ _ _ _ _ _ _ _ _ (c .before .before .before .before .timing-of .ensures) (kept (o .result) (o .ok) ∙ o .ensures .0) (c .before .before .locate .ensures) (c .before .is-sync .ensures)
+    ∙ found-said _ _ _ _ _ _ _ _ _ _ _ _ (c .before .before .before .before .timing-of .ensures) (passed-narrow (o .result) (o .ensures .1) ∙ o .ensures .0) (c .before .before .locate .ensures) (c .before .is-sync .ensures)
 
 pub sample-in-spec : {M : Type 1} → statement M
 sample-in-spec =
@@ -37,6 +40,7 @@ sample-in-spec =
     (tie.spec
     timing-of-requires
     composition-offset-requires
+    cast-sample-found
     locate-requires
     add-is-sync
     is-sync-requires
