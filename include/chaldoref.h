@@ -486,6 +486,19 @@ uint32_t chaldoref_film_return(
     const uint8_t *file, size_t file_len,
     uint64_t *totals, size_t totals_len);
 
+/*
+ * Joins a film return to another: totals is then the return of both, its own scales first, then
+ * those of more that it has not, in their order. Where no film is refused 20 or 21, the return of
+ * some films joined to that of the films before them is the return of all of them.
+ * Refusals: 20 where that makes a thirty-third time scale, then 21 for a total that would reach
+ * 2^64, and 16 for fewer numbers in either; with them totals is left as it is.
+ * more:   the numbers of the return to be joined, which stay as they are.
+ * totals: the numbers of the return that it is joined to. Both are as in chaldoref_film_return.
+ */
+uint32_t chaldoref_join_returns(
+    const uint64_t *more, size_t more_len,
+    uint64_t *totals, size_t totals_len);
+
 /* The features' codes: average video and audio bit rate, greatest picture, highest frame rate,
    highest video and audio bit rate over one second. */
 #define CHALDOREF_AVVB UINT32_C(0x61767662)
@@ -1268,6 +1281,13 @@ static inline uint32_t chaldoref_add_moov(
     const uint8_t *moov, size_t moov_len, uint64_t length, struct chaldoref_totals *totals)
 {
     return chaldoref_moov_film_return(moov, moov_len, length, totals->numbers, CHALDOREF_FILM_RETURN_NUMBERS);
+}
+
+/* Joins another return to a return. Refusals 20, 21. */
+static inline uint32_t chaldoref_join_totals(const struct chaldoref_totals *more, struct chaldoref_totals *totals)
+{
+    return chaldoref_join_returns(more->numbers, CHALDOREF_FILM_RETURN_NUMBERS, totals->numbers,
+                                  CHALDOREF_FILM_RETURN_NUMBERS);
 }
 
 /* A return in words: the numbers but for those of its scales. */

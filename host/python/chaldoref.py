@@ -722,6 +722,22 @@ class FilmReturn:
         """The same by its moov alone, with the length of its file."""
         self._add("moov_film_return", _lent(moov), _number(length, 64))
 
+    def join(self, other: "FilmReturn") -> None:
+        """Joins another return to this one: its own time scales first, then those of the other that it has not, in their order.
+        Refusals 20, 21, with which this return is left as it was."""
+        answer = _join_returns(other._numbers, len(other._numbers), self._numbers, len(self._numbers))
+        if answer != 0:
+            raise Refused(answer)
+
+    def __add__(self, other: "FilmReturn") -> "FilmReturn":
+        """The return of both, by join."""
+        if not isinstance(other, FilmReturn):
+            return NotImplemented
+        both = FilmReturn()
+        both._numbers[:] = self._numbers[:]
+        both.join(other)
+        return both
+
     def _add(self, name: str, lent: bytes, *numbers: int) -> None:
         answer = _function(name)(lent, len(lent), *numbers, self._numbers, len(self._numbers))
         if answer != 0:
@@ -947,6 +963,9 @@ def _library_name() -> str:
 _library = ctypes.CDLL(_library_name())
 
 # 1 where the atom with that header is a fragment, else 0.
+_join_returns = _library.chaldoref_join_returns
+_join_returns.argtypes, _join_returns.restype = (ctypes.c_void_p, ctypes.c_size_t) * 2, ctypes.c_uint32
+
 _is_fragment = _library.chaldoref_is_fragment
 _is_fragment.argtypes, _is_fragment.restype = (ctypes.c_char_p, ctypes.c_size_t), ctypes.c_uint32
 

@@ -331,6 +331,25 @@ class Returns(Case):
         quarter.add_moov(W[:size], len(W))
         self.assertEqual((quarter.accepted, quarter.scales), (3, {600: 528}))
 
+    def test_returns_joined(self):
+        parts, whole = [], FilmReturn()
+        for film in (W, TWO_HOSES, b""):
+            parts.append(FilmReturn())
+            parts[-1].add(film)
+            whole.add(film)
+        both = parts[0] + parts[1]
+        self.assertEqual((parts[0].accepted, both.accepted), (1, 2))
+        self.assertEqual(list((both + parts[2])._numbers), list(whole._numbers))
+        great = FilmReturn()
+        great._numbers[17] = 2**64 - 1
+        before = list(great._numbers)
+        for join in (lambda: great.join(parts[0]), lambda: great + parts[0]):
+            with self.assertRaises(Refused) as caught:
+                join()
+            self.assertEqual(caught.exception.number, 21)
+        self.assertEqual(list(great._numbers), before)
+        self.assertRaises(TypeError, lambda: great + 1)
+
     def test_films_by_their_names(self):
         by_bytes, by_name = FilmReturn(), FilmReturn()
         with tempfile.TemporaryDirectory() as folder:
@@ -534,6 +553,7 @@ class Header(unittest.TestCase):
         declared = {name: parameters for name, parameters in re.findall(r"^uint32_t chaldoref_(\w+)\((.*?)\);", HEADER, re.M | re.S)}
         self.assertEqual(declared.pop("version"), "void")
         self.assertEqual(declared.pop("is_fragment"), "const uint8_t *header, size_t header_len")
+        self.assertEqual(" ".join(declared.pop("join_returns").split()), "const uint64_t *more, size_t more_len, uint64_t *totals, size_t totals_len")
         self.assertEqual(set(declared), set(chaldoref._PARAMETERS))
         for name, parameters in declared.items():
             # The last pointer and length are the answer's own.

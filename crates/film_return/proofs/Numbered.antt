@@ -2,10 +2,10 @@
 -- Assumes nothing.
 use Prim.Native.Nat.{ℕ, _<_}
 use mathlib.Core.Path.{_≡_, refl, sym, _∙_}
-use mathlib.Core.Bool.{Bool, true, false, cond, _&&_}
+use mathlib.Core.Bool.{Bool, true, false, cond, _&&_, _||_}
 use mathlib.Core.List.{List, [], _∷_}
 use lib.Dec.{ltb, eqb}
-use borrow.Author.Tests.{ltb-true}
+use borrow.Author.Tests.{ltb-true, ne-eqb}
 use Rattle.lists.proofs.Booleans.{and-left, and-right}
 use Rattle.structure.specs.declared.source.Source.{Source}
 use Rattle.structure.specs.Source.{lengthOf}
@@ -44,8 +44,11 @@ module _ (p : ℕ → Bool) (z : p 0 ≡ true) where
   film-passes s w a b = else-passes _ _ (first-passes _ (fileRows w) a) (first-passes _ (moovRows w (movieScale (moovOf s)) (lengthOf w s)) b)
 
 abbrev hasSlot : ℕ → Bool
-hasSlot n = ltb (slotOf n) 14
+hasSlot n = eqb n 0 || ltb (slotOf n) 14
 
-pub film-slot : (s : List ℕ) (w : Source) → slotOf (filmRefusal s w) < 14
+slot-passes : (s : List ℕ) (w : Source) → hasSlot (filmRefusal s w) ≡ true
 unfolding fileRows moovRows slotOf
-film-slot s w = ltb-true _ _ (film-passes hasSlot refl s w refl refl)
+slot-passes s w = film-passes hasSlot refl s w refl refl
+
+pub film-slot : (s : List ℕ) (w : Source) → (filmRefusal s w ≡ 0 → ⊥) → slotOf (filmRefusal s w) < 14
+film-slot s w n = ltb-true _ _ (rw (ne-eqb (filmRefusal s w) 0 n) at (slot-passes s w))

@@ -6,8 +6,8 @@ use Rattle.structure.specs.Movie.{moovOf, tracksOf}
 use Rattle.places.specs.declared.moov.Traks.{Traks}
 use Rattle.movie.specs.Traks.{FewTraks}
 use Rattle.track_list.specs.Lines.{TotalsFit}
-use Rattle.return_totals.specs.Returns.{Return, withTracks}
-use Rattle.return_totals.specs.Following.{Follows}
+use Rattle.return_totals.specs.Returns.{withTracks}
+use Rattle.return_totals.specs.Following.{Adds}
 use Rattle.return_totals.specs.declared.Filed.{Filed}
 use Rattle.film_return.specs.Films.{totalsOf}
 
@@ -16,4 +16,4 @@ abbrev pub Addable : List ℕ → Traks → Type 0
 Addable s r = FewTraks s (tracksOf (moovOf s)) r × TotalsFit (tracksOf (moovOf s)) × (length s < 2 ^ 32)
 
 abbrev pub AddsTracks : Filed → List (List ℕ) → Filed → Type 0
-AddsTracks f ts g = (s : Return) → Follows s f → Follows (withTracks (map totalsOf ts) s) g
+AddsTracks f ts g = Adds (withTracks (map totalsOf ts)) f g

@@ -13,7 +13,7 @@ use Rattle.structure.specs.Movie.{moovOf, tracksOf}
 use Rattle.words.specs.Words.{sizes}
 use Rattle.track.specs.Refusals.{totalIn}
 use Rattle.movie.specs.Refusals.{filmRefusal}
-use Rattle.return_totals.specs.Returns.{Return, withTracks, withAccepted, withRefused, limitRefusal, limited, returnOf}
+use Rattle.return_totals.specs.Returns.{Return, withTracks, withAccepted, withRefused, limitRefusal, limited, returnOf, KeepsRest}
 use Rattle.return_totals.specs.declared.FilmReturn.{FilmReturn}
 use Rattle.return_totals.specs.declared.TrackTotals.{TrackTotals}
 use Rattle.return_totals.specs.declared.Filed.{Filed}
@@ -35,9 +35,9 @@ filedRefusal r s w = limitRefusal (withFilm s w r)
 unfoldable pub filedReturn : Return → List ℕ → Source → Return
 filedReturn r s w = limited r (withFilm s w r)
 
--- the promise of `add_film`, of any state of the return. What stands in its arrays past the scales that are held is read by nobody, and may differ
--- from one correct program to another; a refusal leaves it too
+-- the promise of `add_film`, of any state of the return
 pub record Files (r : FilmReturn) (s : List ℕ) (w : Source) (f : Filed) : Type 0 where
   pub refusal : f .refusal ≡ filedRefusal (returnOf r) s w
   pub totals : returnOf (f .totals) ≡ filedReturn (returnOf r) s w
+  pub rest : KeepsRest r (f .totals)
   pub left : (f .refusal ≡ 0 → ⊥) → f .totals ≡ r

@@ -29,28 +29,28 @@ use Rattle.film_return_theorems.proofs.Sums.{filed-in, filed-out, Fourt
 
 -- ---- without a limit
 
-abbrev unlimited : Return → List Film → Return
+abbrev pub unlimited : Return → List Film → Return
 unlimited r [] = r
 unlimited r (f ∷ fs) = unlimited (withIt f r) fs
 
 module _ (n : Return → ℕ) (a : Film → ℕ) (P : Return → Type 0) (h : (f : Film) (r : Return) → P r → (n (withIt f r) ≡ n r + a f) × P (withIt f r)) where
-  all-number : (fs : List Film) (r : Return) → P r → n (unlimited r fs) ≡ n r + sum (map a fs)
+  pub all-number : (fs : List Film) (r : Return) → P r → n (unlimited r fs) ≡ n r + sum (map a fs)
   all-number [] r p = omega arith
   all-number (f ∷ fs) r p = let x = h f r p in omega (arith, all-number fs (withIt f r) (x .1), x .0)
 
   order-number : {fs gs : List Film} → Reordered fs gs → (r : Return) → P r → n (unlimited r fs) ≡ n (unlimited r gs)
   order-number {fs} {gs} o r p = omega (arith, all-number fs r p, all-number gs r p, order-sum a o)
 
-all-fourteen : (fs : List Film) (r : Return) → Fourteen r → Fourteen (unlimited r fs)
+pub all-fourteen : (fs : List Film) (r : Return) → Fourteen r → Fourteen (unlimited r fs)
 all-fourteen [] r e = e
 all-fourteen (f ∷ fs) r e = all-fourteen fs (withIt f r) (film-adds f r .long ∙ e)
 
-all-scales : (fs : List Film) (r : Return) → unlimited r fs .scales ≡ withAll (joined tracksIn fs) (r .scales)
+pub all-scales : (fs : List Film) (r : Return) → unlimited r fs .scales ≡ withAll (joined tracksIn fs) (r .scales)
 all-scales [] r = refl
 all-scales (f ∷ fs) r =
     all-scales fs (withIt f r) ∙ ap (withAll (joined tracksIn fs)) (film-adds f r .scales) ∙ sym (all-append (tracksIn f) (joined tracksIn fs) (r .scales))
 
-abbrev Any : Return → Type 0
+abbrev pub Any : Return → Type 0
 Any r = Unit {0}
 
 module _ {fs gs : List Film} (o : Reordered fs gs) where
@@ -84,7 +84,7 @@ within-of : (r : Return) → limitRefusal r ≡ 0 → Limits r
 unfolding limitRefusal
 within-of r e = let x = not-20 (ltb 32 (length (r .scales))) _ e in record { few = ltb-false _ _ (x .0); none = not-21 _ (x .1) }
 
-of-within : (r : Return) → Limits r → limitRefusal r ≡ 0
+pub of-within : (r : Return) → Limits r → limitRefusal r ≡ 0
 unfolding limitRefusal
 of-within r w = rw (le-ltb 32 (length (r .scales)) (w .few), w .none)
 
@@ -110,7 +110,7 @@ all-back (f ∷ fs) r w = within-back f r (all-back fs (withIt f r) w)
 filed-none : (r : Return) (f : Film) → filedRefusal r (f .bytes) (f .source) ≡ 0 → filedReturn r (f .bytes) (f .source) ≡ withIt f r
 filed-none r f z = filed-in r f (eq-eqb _ 0 z)
 
-none-all : (fs : List Film) (r : Return) → Limits r → NoneRefused r fs → (filedAll r fs ≡ unlimited r fs) × Limits (unlimited r fs)
+pub none-all : (fs : List Film) (r : Return) → Limits r → NoneRefused r fs → (filedAll r fs ≡ unlimited r fs) × Limits (unlimited r fs)
 unfolding filedRefusal
 none-all [] r w n = (refl, w)
 none-all (f ∷ fs) r w n =
@@ -125,7 +125,7 @@ all-none (f ∷ fs) r w =
     let z = of-within (withIt f r) (all-back fs (withIt f r) w) in
     (z, rw (filed-none r f z) (all-none fs (withIt f r) w))
 
-empty-within : Limits emptyReturn
+pub empty-within : Limits emptyReturn
 empty-within = record { few = omega arith; none = refl }
 
 -- ---- the claim
@@ -147,7 +147,7 @@ same-limits r s o m t w =
           (over-append (r .refused) (unitsIn (s .scales)) ∙ or-neither (anyOver (r .refused)) _ (or-left _ _ e) (same-within (r .scales) (s .scales) o m (or-right (anyOver (r .refused)) _ e)))))));
     }
 
-any-order : {fs gs : List Film} → Reordered fs gs → NoneRefused emptyReturn fs → AnyOrder fs gs
+pub any-order : {fs gs : List Film} → Reordered fs gs → NoneRefused emptyReturn fs → AnyOrder fs gs
 any-order {fs} {gs} o n =
     let a = none-all fs emptyReturn empty-within n in
     let t = order-same o in

@@ -1,6 +1,6 @@
 -- What a film adds to each number of a return, without a limit.
 -- Assumes nothing.
-use Prim.Native.Nat.{ℕ, _+_, _<_}
+use Prim.Native.Nat.{ℕ, _+_, _-_, _<_}
 use mathlib.Core.Path.{_≡_, refl, sym, ap, _∙_}
 use mathlib.Core.Bool.{Bool, true, cond, _||_}
 use mathlib.Core.List.{List, [], _∷_, map}
@@ -9,7 +9,7 @@ use native.Mathlib.Decide.{ℕ-discrete}
 use lib.ListN.{length, getD, length-set}
 use lib.Seq.{getD-set-same, getD-set-other}
 use lib.Dec.{eqb, ltb}
-use borrow.Author.Tests.{eq-eqb, ne-eqb, ltb-true}
+use borrow.Author.Tests.{eq-eqb, ne-eqb, ltb-true, le-ltb}
 use Rattle.lists.specs.Lists.{sum}
 use Rattle.lists.proofs.Booleans.{and-left, and-right}
 use Rattle.structure.specs.Movie.{moovOf, tracksOf}
@@ -94,7 +94,7 @@ module _ (f : Film) (r : Return) where
       record {
         accepted = rw q (omega arith);
         long = rw q (length-set (r .refused) (slotOf (refusalOf f)) (getD (r .refused) (slotOf (refusalOf f)) 0 + 1));
-        slot = λ i l. rw q (one-more (r .refused) (slotOf (refusalOf f)) i (omega (arith, film-slot (f .bytes) (f .source))));
+        slot = λ i l. rw q (one-more (r .refused) (slotOf (refusalOf f)) i (omega (arith, film-slot (f .bytes) (f .source) n)));
         tracks = rw q (omega arith);
         samples = rw q (omega arith);
         bytes = rw q (omega arith);
@@ -115,16 +115,25 @@ number-low n d e =
     let g = rw (ne-eqb n 19 d) at e in
     (ltb-true 0 n (and-left _ _ g), ltb-true n 14 (and-right (ltb 0 n) _ g))
 
-slots-apart : (m n : ℕ) → isNumber m ≡ true → isNumber n ≡ true → slotOf m ≡ slotOf n → m ≡ n
+slot-last : (n : ℕ) → n ≡ 19 → slotOf n ≡ 13
 unfolding slotOf
+slot-last n e = rw (eq-eqb n 19 e)
+
+slot-low : (n : ℕ) → (n ≡ 19 → ⊥) → isNumber n ≡ true → (slotOf n ≡ n - 1) × (0 < n) × (n < 14)
+unfolding slotOf
+slot-low n d e =
+    let h = number-low n d e in
+    (rw (ne-eqb n 19 d, ne-eqb n 0 (λ z. omega (arith, h .0)), le-ltb 13 n (omega (arith, h .1))), h .0, h .1)
+
+slots-apart : (m n : ℕ) → isNumber m ≡ true → isNumber n ≡ true → slotOf m ≡ slotOf n → m ≡ n
 slots-apart m n a b e = elim (ℕ-discrete m 19) [
   | yes p ↦ elim (ℕ-discrete n 19) [
     | yes q ↦ p ∙ sym q
-    | no q ↦ let h = number-low n q b in let g = rw (eq-eqb m 19 p, ne-eqb n 19 q) at e in absurd (omega arith)
+    | no q ↦ let h = slot-low n q b in absurd (omega (arith, slot-last m p, h .0, h .1, h .2, e))
   ]
   | no p ↦ elim (ℕ-discrete n 19) [
-    | yes q ↦ let h = number-low m p a in let g = rw (ne-eqb m 19 p, eq-eqb n 19 q) at e in absurd (omega arith)
-    | no q ↦ let h = number-low m p a in let k = number-low n q b in let g = rw (ne-eqb m 19 p, ne-eqb n 19 q) at e in omega arith
+    | yes q ↦ let h = slot-low m p a in absurd (omega (arith, slot-last n q, h .0, h .1, h .2, e))
+    | no q ↦ let h = slot-low m p a in let k = slot-low n q b in omega (arith, h .0, h .1, k .0, k .1, e)
   ]
 ]
 

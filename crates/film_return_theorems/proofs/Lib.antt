@@ -4,3 +4,4 @@ pub mod Meeting
 pub mod Films
 pub mod Sums
 pub mod AnyOrder
+pub mod Joining

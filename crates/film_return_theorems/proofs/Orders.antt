@@ -29,7 +29,7 @@ past : {A : Type 0} (x : A) (b l : List A) → Reordered (x ∷ (b ++ l)) (b ++ 
 past x [] l = none
 past x (y ∷ b) l = then swap (keep (past x b l))
 
-exchanged : {A : Type 0} (a b l : List A) → Reordered (a ++ (b ++ l)) (b ++ (a ++ l))
+pub exchanged : {A : Type 0} (a b l : List A) → Reordered (a ++ (b ++ l)) (b ++ (a ++ l))
 exchanged [] b l = none
 exchanged (x ∷ a) b l = then (keep (exchanged a b l)) (past x b (a ++ l))
 

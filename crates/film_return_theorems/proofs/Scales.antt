@@ -20,7 +20,7 @@ abbrev pub totalOf : ℕ → List Scale → ℕ
 totalOf k [] = 0
 totalOf k (x ∷ xs) = cond (eqb (x .scale) k) (x .total) 0 + totalOf k xs
 
-abbrev isMet : ℕ → List Scale → Bool
+abbrev pub isMet : ℕ → List Scale → Bool
 isMet k [] = false
 isMet k (x ∷ xs) = eqb (x .scale) k || isMet k xs
 
@@ -66,7 +66,7 @@ or-same : (a c : Bool) → (a || c) ≡ (a || (a || c))
 or-same true c = refl
 or-same false c = refl
 
-units-met : (j u : ℕ) (l : List Scale) (k : ℕ) → isMet k (withUnits j u l) ≡ (eqb j k || isMet k l)
+pub units-met : (j u : ℕ) (l : List Scale) (k : ℕ) → isMet k (withUnits j u l) ≡ (eqb j k || isMet k l)
 units-met j u [] k = refl
 units-met j u (x ∷ xs) k = go (eqb (x .scale) j) refl (units-met j u xs k)
   where

@@ -12,6 +12,7 @@ use Rattle.structure.specs.Movie.{moovOf, tracksOf}
 use Rattle.movie.specs.Refusals.{filmRefusal}
 use Rattle.words.specs.Words.{listed}
 use Rattle.return_totals.specs.Returns.{Scale, Return, emptyReturn, slotOf, anyOver, totalsIn, returnOf}
+use Rattle.return_totals.specs.Joining.{joinedRefusal, joinedReturn, Joins}
 use Rattle.return_totals.specs.declared.FilmReturn.{FilmReturn}
 use Rattle.return_totals.specs.declared.Filed.{Filed}
 use Rattle.return_totals.specs.declared.TrackTotals.{TrackTotals}
@@ -158,3 +159,33 @@ pub record OfMany (fs : List Film) : Type 0 where
 -- 83 zeros are an empty return
 pub record ZerosEmpty (rest : List ℕ) : Type 0 where
   pub zeros : returnOf (returnIn (replicate 83 0 ++ rest)) ≡ emptyReturn
+
+-- ---- returns of parts of the films, joined
+
+-- the returns of some parts, joined to r in order
+abbrev pub partsReturn : Return → List (List Film) → Return
+partsReturn r [] = r
+partsReturn r (fs ∷ parts) = partsReturn (joinedReturn r (filedAll emptyReturn fs)) parts
+
+-- none of them is refused
+abbrev pub NoneUnjoined : Return → List (List Film) → Type 0
+NoneUnjoined r [] = Unit
+NoneUnjoined r (fs ∷ parts) = (joinedRefusal r (filedAll emptyReturn fs) ≡ 0) × NoneUnjoined (joinedReturn r (filedAll emptyReturn fs)) parts
+
+-- "joining the return of fs with that of gs is the return of fs and then gs, the scales' order too"
+pub record TwoJoined (fs gs : List Film) : Type 0 where
+  pub refusal : joinedRefusal (filedAll emptyReturn fs) (filedAll emptyReturn gs) ≡ 0
+  pub same : joinedReturn (filedAll emptyReturn fs) (filedAll emptyReturn gs) ≡ filedAll emptyReturn (fs ++ gs)
+  -- the same of the states of the code, joined by `join_returns`
+  pub run : (r s : FilmReturn) (x : Filed) → returnOf r ≡ filedAll emptyReturn fs → returnOf s ≡ filedAll emptyReturn gs → Joins r s x
+      → (x .refusal ≡ 0) × (returnOf (x .totals) ≡ filedAll emptyReturn (fs ++ gs))
+
+-- "any cutting of the films into parts, joined in order, gives the same return"
+pub record PartsJoined (parts : List (List Film)) : Type 0 where
+  pub none-refused : NoneUnjoined emptyReturn parts
+  pub same : partsReturn emptyReturn parts ≡ filedAll emptyReturn (joined (λ fs. fs) parts)
+
+-- "where no film is refused 20 or 21"
+pub record Joinable : Type 0 where
+  pub two : (fs gs : List Film) → NoneRefused emptyReturn (fs ++ gs) → TwoJoined fs gs
+  pub parts : (parts : List (List Film)) → NoneRefused emptyReturn (joined (λ fs. fs) parts) → PartsJoined parts

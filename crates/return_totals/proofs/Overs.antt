@@ -14,7 +14,9 @@ use lib.Dec.{leb, eqb}
 use borrow.Author.Tests.{leb-true, le-leb, lt-leb}
 use Rattle.lists.proofs.Booleans.{or-left, or-right, or-neither, or-second}
 use Rattle.return_totals.specs.Returns.{Scale, Return, withUnits, withTrack, withAccepted, withRefused, oneMore, slotOf, anyOver, totalsIn, scalesFrom}
-use Rattle.return_totals.specs.Following.{unitsIn}
+use Rattle.return_totals.specs.Joining.{addedEach, withScales}
+use Rattle.return_totals.specs.Following.{unitsIn, moreAt, withMet, withCounts, withSlots}
+use Rattle.return_totals.specs.declared.Counts.{Counts}
 use Rattle.return_totals.specs.declared.TrackTotals.{TrackTotals}
 
 pub or-first : (a b : Bool) → a ≡ true → (a || b) ≡ true
@@ -94,10 +96,14 @@ units-over k u (x ∷ l) e = go (eqb (x .scale) k) (units-over k u l)
     go true f = or-mono (leb 18446744073709551616 (x .total)) _ (anyOver (unitsIn l)) _ (over-more (x .total) (x .total + u) (omega arith)) (λ q. q) e
     go false f = or-mono (leb 18446744073709551616 (x .total)) _ (anyOver (unitsIn l)) _ (λ q. q) f e
 
-over-set-more : (l : List ℕ) (i : ℕ) → anyOver l ≡ true → anyOver (oneMore l i) ≡ true
-over-set-more [] i e = e
-over-set-more (x ∷ l) zero e = or-mono (leb 18446744073709551616 x) _ (anyOver l) _ (over-more x (x + 1) (omega arith)) (λ q. q) e
-over-set-more (x ∷ l) (suc i) e = or-mono (leb 18446744073709551616 x) _ (anyOver l) _ (λ q. q) (over-set-more l i) e
+scales-over : (m l : List Scale) → anyOver (unitsIn l) ≡ true → anyOver (unitsIn (withScales m l)) ≡ true
+scales-over [] l e = e
+scales-over (x ∷ m) l e = scales-over m (withUnits (x .scale) (x .total) l) (units-over (x .scale) (x .total) l e)
+
+pub over-set-more : (l : List ℕ) (i n : ℕ) → anyOver l ≡ true → anyOver (moreAt l i n) ≡ true
+over-set-more [] i n e = e
+over-set-more (x ∷ l) zero n e = or-mono (leb 18446744073709551616 x) _ (anyOver l) _ (over-more x (x + n) (omega arith)) (λ q. q) e
+over-set-more (x ∷ l) (suc i) n e = or-mono (leb 18446744073709551616 x) _ (anyOver l) _ (λ q. q) (over-set-more l i n) e
 
 tails-over : (a b c d : List ℕ) → (anyOver a ≡ true → anyOver c ≡ true) → (anyOver b ≡ true → anyOver d ≡ true) → anyOver (a ++ b) ≡ true → anyOver (c ++ d) ≡ true
 tails-over a b c d f g e = over-append c d ∙ or-mono (anyOver a) _ (anyOver b) _ f g (sym (over-append a b) ∙ e)
@@ -128,4 +134,17 @@ accepted-over s = grown-totals s (withAccepted s) (omega arith) (omega arith) (o
 
 pub refused-over : (n : ℕ) (s : Return) → anyOver (totalsIn s) ≡ true → anyOver (totalsIn (withRefused n s)) ≡ true
 unfolding withRefused
-refused-over n s = grown-totals s (withRefused n s) (omega arith) (omega arith) (omega arith) (omega arith) (over-set-more (s .refused) (slotOf n)) (λ q. q)
+refused-over n s = grown-totals s (withRefused n s) (omega arith) (omega arith) (omega arith) (omega arith) (over-set-more (s .refused) (slotOf n) 1) (λ q. q)
+
+-- the parts of another return
+pub met-over : (m : List Scale) (s : Return) → anyOver (totalsIn s) ≡ true → anyOver (totalsIn (withMet m s)) ≡ true
+unfolding withMet
+met-over m s = grown-totals s (withMet m s) (omega arith) (omega arith) (omega arith) (omega arith) (λ q. q) (scales-over m (s .scales))
+
+pub counts-over : (c : Counts) (s : Return) → anyOver (totalsIn s) ≡ true → anyOver (totalsIn (withCounts c s)) ≡ true
+unfolding withCounts
+counts-over c s = grown-totals s (withCounts c s) (omega arith) (omega arith) (omega arith) (omega arith) (λ q. q) (λ q. q)
+
+pub slots-over : (l : List ℕ) (s : Return) → (anyOver (s .refused) ≡ true → anyOver l ≡ true) → anyOver (totalsIn s) ≡ true → anyOver (totalsIn (withSlots l s)) ≡ true
+unfolding withSlots
+slots-over l s f = grown-totals s (withSlots l s) (omega arith) (omega arith) (omega arith) (omega arith) f (λ q. q)

@@ -14,15 +14,15 @@ use Rattle.return_totals.specs.Following.{placeOf, metIn, unitsIn}
 
 -- ---- a search through the first n of some numbers, from the one at i on
 
-module _ (x i n : ℕ) (l : List ℕ) (h : i < n) (g : n ≤ length l) where
-  at : drop i (take n l) ≡ getD l i 0 ∷ drop (suc i) (take n l)
-  at = drop-cons (take n l) i 0 (omega (arith, length-take n l)) ∙ ap (λ (y : ℕ). y ∷ drop (suc i) (take n l)) (getD-take n l i 0 h)
+pub taken-at : (i n : ℕ) (l : List ℕ) → i < n → n ≤ length l → drop i (take n l) ≡ getD l i 0 ∷ drop (suc i) (take n l)
+taken-at i n l h g = drop-cons (take n l) i 0 (omega (arith, length-take n l)) ∙ ap (λ (y : ℕ). y ∷ drop (suc i) (take n l)) (getD-take n l i 0 h)
 
+module _ (x i n : ℕ) (l : List ℕ) (h : i < n) (g : n ≤ length l) where
   pub place-here : getD l i 0 ≡ x → placeOf x (drop i (take n l)) ≡ 0
-  place-here e = rw (at, eq-eqb (getD l i 0) x e)
+  place-here e = rw (taken-at i n l h g, eq-eqb (getD l i 0) x e)
 
   pub place-on : (getD l i 0 ≡ x → ⊥) → placeOf x (drop i (take n l)) ≡ suc (placeOf x (drop (i + 1) (take n l)))
-  place-on e = let k : i + 1 ≡ suc i = omega arith in rw (at, ne-eqb (getD l i 0) x e, k)
+  place-on e = let k : i + 1 ≡ suc i = omega arith in rw (taken-at i n l h g, ne-eqb (getD l i 0) x e, k)
 
 pub place-past : (x i n : ℕ) (l : List ℕ) → n ≤ i → placeOf x (drop i (take n l)) ≡ 0
 place-past x i n l h = rw (drop-of-length-le (take n l) {i = i} (omega (arith, length-take n l)))

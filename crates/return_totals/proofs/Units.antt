@@ -14,6 +14,7 @@ use Rattle.return_totals.specs.Following.{placeOf, metIn, unitsIn, Sums,
 use Rattle.return_totals.specs.declared.FilmReturn.{FilmReturn}
 use Rattle.return_totals.specs.declared.Sum.{Sum}
 use Rattle.return_totals.proofs.Overs.{over-set}
+use Rattle.return_totals.proofs.Keeping.{keeps-self, keeps-changed, keeps-new}
 use Rattle.return_totals.proofs.Scales.{place-most, from-met, from-units, from-length, units-found, units-new, take-set}
 
 -- r with other scales, and with other units
@@ -67,10 +68,14 @@ module _ (r : FilmReturn) (k u : ℕ) (ls : length (r .scales) ≡ 32) (lu : len
       record {
         accepted = refl;
         refused = refl;
+        tracks = refl;
+        samples = refl;
+        bytes = refl;
         full = λ q. rw e (omega (arith, l, long, length-append (take n (r .scales)) (k ∷ []), place-within));
         over = λ q. absurd (omega arith);
         met = λ q. absurd (q refl);
         kept = λ q w. absurd (q refl);
+        keeps = keeps-self r ls lu;
       }
 
   -- a scale that was not met before
@@ -84,10 +89,14 @@ module _ (r : FilmReturn) (k u : ℕ) (ls : length (r .scales) ≡ 32) (lu : len
   new-scale g h = record {
     accepted = refl;
     refused = refl;
+    tracks = refl;
+    samples = refl;
+    bytes = refl;
     full = λ q. absurd (omega arith);
     over = λ q. absurd (omega arith);
     met = λ q. ap metIn (new-in h g);
     kept = λ q w. (refl, new-in h g);
+    keeps = keeps-new r (scaled r (n + 1) (set (r .scales) i k) (set (r .units) i u)) ls lu i k u (omega arith) refl refl g (h ∙ en);
   }
 
   -- a scale that was met
@@ -111,8 +120,12 @@ module _ (r : FilmReturn) (k u : ℕ) (ls : length (r .scales) ≡ 32) (lu : len
       record {
         accepted = refl;
         refused = refl;
+        tracks = refl;
+        samples = refl;
+        bytes = refl;
         full = λ d. absurd (not20 (x .over) (sym e ∙ d));
         over = λ d. rw (is-found h) (found-over (getD (r .units) i 0 + u) h (leb-true 18446744073709551616 _ (sym (z .over) ∙ is21 (x .over) (sym e ∙ d))));
         met = λ d. rw (found-in (x .sum), is-found h) (found-met (x .sum) (getD (r .units) i 0 + u));
         kept = λ d w. let b = not21 (x .over) q e w in (e ∙ rw b, rw (found-in (x .sum), is-found h, z .sum b));
+        keeps = keeps-changed r (scaled r (r .count) (r .scales) (set (r .units) i (x .sum))) ls lu i (x .sum) refl refl refl (omega (arith, h, en));
       }

@@ -1,9 +1,10 @@
 -- The film return as plain lists. Document 02: "The waste return wants totals over many movies: files accepted, files refused under each number,
 -- tracks, samples, film bytes (all sizes) and, for each media time scale met, its tracks' totals added."
 use Prim.Native.Nat.{ℕ, _+_, _-_, min}
-use mathlib.Core.Bool.{Bool, false, cond, _||_}
+use mathlib.Core.Path.{_≡_}
+use mathlib.Core.Bool.{Bool, false, cond, _||_, _&&_}
 use mathlib.Core.List.{List, [], _∷_, _++_, map}
-use lib.ListN.{length, getD, take, set, replicate}
+use lib.ListN.{length, getD, take, drop, set, replicate}
 use lib.Dec.{ltb, leb, eqb}
 use Rattle.return_totals.specs.declared.FilmReturn.{FilmReturn}
 use Rattle.return_totals.specs.declared.TrackTotals.{TrackTotals}
@@ -62,15 +63,15 @@ withAccepted r =
       scales = r .scales;
     }
 
--- the place of a refusal's number among the fourteen
+-- the place of a refusal's number among the fourteen, 1 to 13 and 19; 14, which is no place of them, for any other number
 unfoldable pub slotOf : ℕ → ℕ
-slotOf n = cond (eqb n 19) 13 (n - 1)
+slotOf n = cond (eqb n 19) 13 (cond (eqb n 0 || ltb 13 n) 14 (n - 1))
 
--- one more at a place
+-- one more at a place; nothing where there is no such place
 abbrev pub oneMore : List ℕ → ℕ → List ℕ
 oneMore l i = set l i (getD l i 0 + 1)
 
--- one file more that is refused with that number
+-- one file more that is refused with that number; a number that is none of the fourteen is not counted
 unfoldable pub withRefused : ℕ → Return → Return
 withRefused n r =
     record {
@@ -123,3 +124,24 @@ returnOf r =
       bytes = r .bytes;
       scales = scalesIn r;
     }
+
+-- the state of an empty return: zeros, also in the places of the arrays, none of which holds a scale
+abbrev pub emptyState : FilmReturn
+emptyState =
+    record {
+      accepted = 0;
+      refused = replicate 14 0;
+      tracks = 0;
+      samples = 0;
+      bytes = 0;
+      count = 0;
+      scales = replicate 32 0;
+      units = replicate 32 0;
+    }
+
+-- what `returnOf` does not say of the state after, by the state before: the count is that of the scales held, but a count above 32 stays; the places
+-- of the arrays past those scales are as they were
+pub record KeepsRest (before after : FilmReturn) : Type 0 where
+  pub count : after .count ≡ cond (ltb 32 (before .count)) (before .count) (length (scalesIn after))
+  pub scales : drop (length (scalesIn after)) (after .scales) ≡ drop (length (scalesIn after)) (before .scales)
+  pub units : drop (length (scalesIn after)) (after .units) ≡ drop (length (scalesIn after)) (before .units)

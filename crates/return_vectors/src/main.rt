@@ -1,11 +1,12 @@
 // Films filed in returns near their limits: totals of 2^64 - 1, and 31 and 32 scales. The films are the files that the arguments name; each is filed
-// in each state.
+// in each state. Then returns joined near the same limits.
 mod show;
 
 use film_return::add_film;
 use return_numbers::NUMBERS;
 use return_numbers::return_in;
 use return_totals::FilmReturn;
+use return_totals::join_returns;
 use structure::source::Source;
 
 // How many states there are.
@@ -86,6 +87,61 @@ fn file_named(name: &[u8]) {
     file_film(&film[..n]);
 }
 
+// How many pairs of returns are joined.
+const PAIRS: usize = 29;
+
+fn joined(r: FilmReturn, s: FilmReturn) -> FilmReturn {
+    let both = join_returns(r, s);
+    both.totals
+}
+
+// The scales 1 to 31 and then 600, or 600 and then those.
+fn scale_last() -> FilmReturn {
+    joined(with_scales(31, 31, 0), with_units(7))
+}
+
+fn scale_first() -> FilmReturn {
+    joined(with_units(5), with_scales(31, 31, 0))
+}
+
+fn left(k: usize) -> FilmReturn {
+    match k {
+        0 => with_scales(31, 31, 0),
+        1 => with_units(5),
+        2 => scale_last(),
+        3 => scale_first(),
+        4 => with_scales(32, 32, 0),
+        5 => with_units(7),
+        6 => with_scales(32, 40, 0),
+        7 | 8 => with_scales(32, 32, GREATEST),
+        9 => with_units(GREATEST - 7),
+        10 => with_units(GREATEST - 6),
+        _ => with_greatest(k % 18),
+    }
+}
+
+fn right(k: usize) -> FilmReturn {
+    match k {
+        0 | 4 | 9 | 10 => with_units(7),
+        1 => with_scales(31, 31, 0),
+        2 => scale_first(),
+        3 => scale_last(),
+        5 => with_scales(32, 32, 0),
+        6 => with_scales(17, 17, 0),
+        7 => with_scales(32, 32, 1),
+        8 => joined(with_scales(0, 0, 1), with_units(7)),
+        _ => with_greatest(k % 18),
+    }
+}
+
+fn join_pairs() {
+    let mut k: usize = 0;
+    while k < PAIRS {
+        show::filed(k, join_returns(left(k), right(k)));
+        k += 1;
+    }
+}
+
 fn main() {
     let count = os::arg_count();
     let mut i = 1;
@@ -95,4 +151,5 @@ fn main() {
         file_named(&name[..length]);
         i += 1;
     }
+    join_pairs();
 }

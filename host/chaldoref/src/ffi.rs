@@ -143,6 +143,12 @@ pub fn film_return(film: Film, totals: &mut FilmTotals) -> Result<(), Refusal> {
     answered(of_film!(film, chaldoref_film_return, chaldoref_moov_film_return, totals, len))
 }
 
+/// Joins a return to another.
+pub fn join_returns(more: &FilmTotals, totals: &mut FilmTotals) -> Result<(), Refusal> {
+    // SAFETY: The pointers are to as many numbers as is said, and the two are apart.
+    answered(unsafe { raw::chaldoref_join_returns(more.as_ptr(), more.len(), totals.as_mut_ptr(), totals.len()) })
+}
+
 pub fn feature(film: Film, id: u32, code: u32) -> Result<[u64; 1], Refusal> {
     ask(|places, len| of_film!(film, chaldoref_feature, chaldoref_moov_feature, id, code, places, len))
 }

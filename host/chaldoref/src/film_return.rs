@@ -67,6 +67,32 @@ impl FilmReturn {
         ffi::film_return(film.into(), &mut self.numbers)
     }
 
+    /// Joins another return to this one: its own time scales first, then those of the other that it has not, in their order. Where no
+    /// film is refused 20 or 21, the return of some films joined to that of the films before them is the return of all of them.
+    ///
+    /// ```
+    /// use chaldoref::FilmReturn;
+    ///
+    /// # std::env::set_current_dir("../..")?;
+    /// let [mut monday, mut tuesday, mut both] = [FilmReturn::new(), FilmReturn::new(), FilmReturn::new()];
+    /// monday.add(&std::fs::read("films/w.mov")?[..])?;
+    /// tuesday.add(&std::fs::read("films/two-hoses.mov")?[..])?;
+    /// for name in ["films/w.mov", "films/two-hoses.mov"] {
+    ///     both.add(&std::fs::read(name)?[..])?;
+    /// }
+    /// monday.join(&tuesday)?;
+    /// assert_eq!(monday, both);
+    /// # Ok::<(), Box<dyn std::error::Error>>(())
+    /// ```
+    ///
+    /// # Errors
+    ///
+    /// [`Refusal::TooManyScales`] where that makes a thirty-third time scale, then [`Refusal::TotalTooGreat`] where a total would reach
+    /// 2^64; this return is then left as it was.
+    pub fn join(&mut self, other: &FilmReturn) -> Result<(), Refusal> {
+        ffi::join_returns(&other.numbers, &mut self.numbers)
+    }
+
     /// How many films are accepted.
     #[must_use]
     pub fn accepted(&self) -> u64 {

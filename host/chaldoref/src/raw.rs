@@ -85,6 +85,8 @@ extern "C" {
 
     pub fn chaldoref_film_return(file: *const u8, file_len: usize, totals: *mut u64, totals_len: usize) -> u32;
 
+    pub fn chaldoref_join_returns(more: *const u64, more_len: usize, totals: *mut u64, totals_len: usize) -> u32;
+
     pub fn chaldoref_feature(
         file: *const u8,
         file_len: usize,

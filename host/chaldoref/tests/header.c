@@ -224,14 +224,16 @@ static void print_peak(const struct film *film)
 static void print_verdicts(const struct film *film)
 {
     uint64_t place[CHALDOREF_CHECK_PROFILE_PLACES], rule[CHALDOREF_CHECK_QUAY_PLACES];
-    struct chaldoref_totals totals = {{0}};
+    struct chaldoref_totals totals = {{0}}, twice = {{0}};
     struct chaldoref_totals_info all;
     size_t moov = (size_t)film->bytes[2] << 8 | film->bytes[3], i;
     uint32_t refusal = chaldoref_check_profile(film->bytes, film->len, ONE, place, CHALDOREF_CHECK_PROFILE_PLACES)
         + chaldoref_check_quay(film->bytes, film->len, rule, CHALDOREF_CHECK_QUAY_PLACES)
         + chaldoref_add_film(film->bytes, film->len, &totals)
         + chaldoref_add_moov(film->bytes, moov, film->len, &totals)
-        + chaldoref_add_film(film->bytes, 0, &totals);
+        + chaldoref_add_film(film->bytes, 0, &totals)
+        + chaldoref_join_totals(&totals, &twice)
+        + chaldoref_join_totals(&totals, &twice);
     printf("verdicts %" PRIu32 ": %" PRIu64 ", %" PRIu64 " %" PRIu64 "\n", refusal, place[0], rule[0], rule[1]);
     all = chaldoref_totals_of(&totals);
     printf("totals %" PRIu64 ", refused %" PRIu64 ": %" PRIu64 " %" PRIu64 " %" PRIu64 "\n", all.accepted,
@@ -240,6 +242,7 @@ static void print_verdicts(const struct film *film)
         struct chaldoref_scale_total scale = chaldoref_scale_total_of(&totals, i);
         printf("scale %" PRIu32 " %" PRIu64 "\n", scale.scale, scale.total);
     }
+    printf("twice %" PRIu64 "\n", chaldoref_totals_of(&twice).bytes);
 }
 
 static void print_slip(const uint8_t *slip, size_t len)

@@ -152,7 +152,10 @@ fn verdicts(movie: &Movie, film: &[u8]) -> String {
     let lines = format!("verdicts 0: {place}, {} {}\n", fault.rule.number(), fault.track.unwrap())
         + &format!("totals {}, refused {refused}: ", totals.accepted())
         + &format!("{} {} {}\n", totals.tracks(), totals.samples(), totals.bytes());
-    totals.scales().fold(lines, |lines, (scale, units)| lines + &format!("scale {scale} {units}\n"))
+    let lines = totals.scales().fold(lines, |lines, (scale, units)| lines + &format!("scale {scale} {units}\n"));
+    let mut twice = totals.clone();
+    twice.join(&totals).unwrap();
+    lines + &format!("twice {}\n", twice.bytes())
 }
 
 /// The length of the film's moov, which comes first in it.

@@ -57,6 +57,17 @@ fn places_of_a_step_over_the_top_level() {
     assert_eq!((top_level(&film[..16], start, 6).0, top_level(&film[..16], long, 6)), (0, (1, [0; 6])));
 }
 
+/// With fewer than 83 numbers in either return that is joined nothing is written.
+#[test]
+fn too_few_numbers_of_a_return_that_is_joined() {
+    let totals = [LEFT; 83];
+    for (more, len) in [(82, 83), (83, 82), (0, 83), (83, 0)] {
+        // SAFETY: The same.
+        let join = |room, len| unsafe { raw::chaldoref_join_returns(totals.as_ptr(), more, room, len) };
+        assert_eq!(called(totals, len, join), (16, totals), "{more} {len}");
+    }
+}
+
 /// Places past the scales held stay as they are; a number above 32 counts as 32 and stays too.
 #[test]
 fn places_of_a_return_that_are_not_in_use() {

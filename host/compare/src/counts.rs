@@ -93,7 +93,7 @@ fn can_meet(number: usize, kind: &str) -> bool {
     if ["step", "steps", "index"].contains(&kind) {
         return [0, 16].contains(&number);
     }
-    if kind == "film_return" {
+    if ["film_return", "join_returns"].contains(&kind) {
         return [0, 16, 20, 21].contains(&number);
     }
     if kind.starts_with("opened_") || kind.starts_with("indexed_") {

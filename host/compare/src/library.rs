@@ -104,6 +104,12 @@ pub fn film_return(lent: &[u8], way: Way, totals: &mut Lent<u64>) -> u32 {
     }
 }
 
+/// A return joined to another.
+pub fn join_returns(more: &Lent<u64>, totals: &mut Lent<u64>) -> u32 {
+    // SAFETY: both are lent as long as they are said to be.
+    unsafe { chaldoref_join_returns(more.elements().as_ptr(), more.len(), totals.pointer(), totals.len()) }
+}
+
 /// The position before a sample of a track.
 pub fn step_start(lent: &[u8], way: Way, id: u32, n: u32, stepper: &mut Lent<u64>) -> u32 {
     let (f, len) = (lent.as_ptr(), lent.len());

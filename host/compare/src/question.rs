@@ -59,7 +59,7 @@ const FUNCTIONS: [(&str, usize); 18] = [
 
 /// Every function of include/chaldoref.h but the step at top level: those of a whole file and of slips, then those of a moov alone, then the film
 /// return, the steps, those of a track that is opened once and those of its index.
-pub const KINDS: [&str; 2 * FUNCTIONS.len() - 3 + 16] = [
+pub const KINDS: [&str; 2 * FUNCTIONS.len() - 3 + 17] = [
     "track_list",
     "sample",
     "sample_bytes",
@@ -95,6 +95,7 @@ pub const KINDS: [&str; 2 * FUNCTIONS.len() - 3 + 16] = [
     "moov_fragments",
     "film_return",
     "moov_film_return",
+    "join_returns",
     "step_start",
     "moov_step_start",
     "step",

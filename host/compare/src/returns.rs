@@ -1,8 +1,8 @@
-//! The film return: every film filed into returns that are empty, nearly full, or of any numbers.
+//! The film return: every film filed into returns that are empty, nearly full, or of any numbers; and such returns joined.
 use crate::case::Difference;
 use crate::films::Comparison;
 use crate::lent::Lent;
-use crate::library::film_return;
+use crate::library::{film_return, join_returns};
 use crate::opened::{check, check_number, NO_ROOM};
 use crate::question::{kind_of, Film, Way};
 use reference::film_return::FilmReturn;
@@ -62,7 +62,45 @@ fn of_numbers(all: &[u64]) -> FilmReturn {
     }
 }
 
+/// The numbers of a return that goes on from others. A scale is the lowest 32 bits; a number of scales above the most stays, and so do the places
+/// past the scales held.
+fn numbers_of(all: &FilmReturn, before: &[u64]) -> Vec<u64> {
+    let number = |total: u128| u64::try_from(total).unwrap();
+    let mut numbers = before.to_vec();
+    numbers[0] = number(all.accepted);
+    (0..all.refused.len()).for_each(|place| numbers[1 + place] = number(all.refused[place]));
+    [numbers[15], numbers[16], numbers[17]] = [all.tracks, all.samples, all.bytes].map(number);
+    if before[COUNT] <= u64::try_from(MOST_SCALES).unwrap() {
+        numbers[COUNT] = u64::try_from(all.scales.len()).unwrap();
+    }
+    numbers[SCALES..UNITS].iter_mut().for_each(|scale| *scale &= 0xffff_ffff);
+    for (place, (scale, total)) in all.scales.iter().enumerate() {
+        (numbers[SCALES + place], numbers[UNITS + place]) = (*scale, number(*total));
+    }
+    numbers
+}
+
 impl Comparison {
+    /// Joins a return to another; too few numbers in either are refused 16, and with a refusal all stay.
+    fn join_into(&mut self, random: &mut Random, before: &[u64], more: &[u64]) -> Result<(), Box<Difference>> {
+        let (way, name) = (Way::Whole, "join_returns");
+        let mut totals = Lent::holding(before, random.bits());
+        let others = Lent::holding(more, random.bits());
+        let number = join_returns(&others, &mut totals);
+        check(way, name, &others, more)?;
+        let (mut refusal, mut after) = (NO_ROOM, before.to_vec());
+        if before.len().min(more.len()) >= NUMBERS {
+            let mut both = of_numbers(before);
+            refusal = both.join(&of_numbers(more));
+            if refusal == 0 {
+                after = numbers_of(&both, before);
+            }
+        }
+        check_number(way, name, number, refusal)?;
+        self.counts.question(kind_of(name), number);
+        check(way, name, &totals, &after)
+    }
+
     /// Files a film into a return; too few numbers are refused 16, and stay.
     fn file_into(
         &mut self,
@@ -87,11 +125,7 @@ impl Comparison {
         if number != 0 {
             return check(way, name, &totals, before);
         }
-        if of_numbers(&after) != expected || after[NUMBERS..] != before[NUMBERS..] {
-            let fault = format!("the return is {:?}, should be {expected:?}", of_numbers(&after));
-            return Err(crate::steps::difference(way, name, &fault));
-        }
-        Ok(())
+        check(way, name, &totals, &numbers_of(&expected, before))
     }
 
     /// Files a film into an empty return, into some others, and with too few numbers.
@@ -104,6 +138,13 @@ impl Comparison {
         }
         let fewer = numbers(random, film)[..random.below(NUMBERS)].to_vec();
         self.file_into(random, (lent, way), film, &fewer)?;
+        for _ in 0..3 {
+            let (before, more) = (numbers(random, film), numbers(random, film));
+            self.join_into(random, &before, &more)?;
+        }
+        let some = numbers(random, film);
+        self.join_into(random, &some, &fewer)?;
+        self.join_into(random, &fewer, &some)?;
         if film.strict != film.number() {
             self.counts.strict(kind_of(name_of(way)), 0);
         }

@@ -33,7 +33,10 @@ impl FilmReturn {
         self.tracks += 1;
         self.samples += u128::try_from(track.samples.len()).unwrap();
         self.bytes += track.samples.iter().map(|sample| u128::from(sample.size)).sum::<u128>();
-        let (scale, total) = (track.tables.scale, u128::from(track.total));
+        self.add_scale(track.tables.scale, u128::from(track.total));
+    }
+
+    fn add_scale(&mut self, scale: u64, total: u128) {
         match self.scales.iter_mut().find(|(met, _)| *met == scale) {
             Some((_, sum)) => *sum += total,
             None => self.scales.push((scale, total)),
@@ -74,7 +77,30 @@ impl FilmReturn {
 
     /// The same of a file that is read already, be it by its moov alone.
     pub fn file_read(&mut self, file: &Result<Movie, u32>) -> u32 {
-        let all = self.with(file);
+        self.become_within(self.with(file))
+    }
+
+    /// "the return of both, r's scales first, then those of s that r has not, in their order", which may be too much
+    fn with_return(&self, other: &FilmReturn) -> FilmReturn {
+        let mut all = self.clone();
+        all.accepted += other.accepted;
+        all.tracks += other.tracks;
+        all.samples += other.samples;
+        all.bytes += other.bytes;
+        for (films, more) in all.refused.iter_mut().zip(other.refused) {
+            *films += more;
+        }
+        other.scales.iter().for_each(|(scale, total)| all.add_scale(*scale, *total));
+        all
+    }
+
+    /// Joins another return to this one. "20 where that makes a thirty-third scale, then 21 where a total would reach 2^64; either leaves r as it was"
+    pub fn join(&mut self, other: &FilmReturn) -> u32 {
+        self.become_within(self.with_return(other))
+    }
+
+    /// Takes the place of this return, where it is within the limits.
+    fn become_within(&mut self, all: FilmReturn) -> u32 {
         if all.scales.len() > MOST_SCALES {
             return TOO_MANY_SCALES;
         }

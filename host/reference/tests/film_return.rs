@@ -228,6 +228,37 @@ fn number_20_before_21() {
     assert_eq!(all, before);
 }
 
+#[test]
+fn returns_joined() {
+    let films = [w().bytes(), scales([44_100, 600, 25]), vec![], scales([25, 1000])];
+    let whole = filed(&films);
+    for cut in 0..=films.len() {
+        let (mut first, second) = (filed(&films[..cut]), filed(&films[cut..]));
+        assert_eq!((first.join(&second), first), (0, whole.clone()), "{cut}");
+    }
+    // The scales of the first come first.
+    let (first, second) = (filed(&films[..1]), filed(&films[1..2]));
+    let mut other = second.clone();
+    assert_eq!(other.join(&first), 0);
+    assert_eq!(other.scales, [(44_100, 120), (600, 240), (25, 120)]);
+}
+
+#[test]
+fn joins_refused() {
+    let met = |from, to| FilmReturn { scales: (from..=to).map(|scale| (scale, 1)).collect(), ..FilmReturn::default() };
+    let joined = |first: &FilmReturn, second: &FilmReturn| {
+        let mut all = first.clone();
+        let refusal = all.join(second);
+        assert!(refusal == 0 || all == *first);
+        refusal
+    };
+    assert_eq!((joined(&met(1, 31), &met(20, 32)), joined(&met(1, 31), &met(20, 33))), (0, TOO_MANY_SCALES));
+    let bytes = |bytes| FilmReturn { bytes, ..FilmReturn::default() };
+    assert_eq!((joined(&bytes(MOST - 5), &bytes(5)), joined(&bytes(MOST - 5), &bytes(6))), (0, TOO_GREAT));
+    let (full, over) = (FilmReturn { bytes: MOST, ..met(1, 32) }, FilmReturn { bytes: 1, ..met(33, 33) });
+    assert_eq!(joined(&full, &over), TOO_MANY_SCALES);
+}
+
 /// The files that the program finds in these tests.
 fn contents(name: &[u8]) -> Option<Vec<u8>> {
     match name {

@@ -2,7 +2,7 @@
 -- Assumes nothing.
 use mathlib.Core.Path.{refl}
 use Rattle.track_list.proofs.Answers.{listed-few, fitting}
-use Rattle.film_return.proofs.Films.{numbered, short, filed-refused, filed-accepted}
+use Rattle.film_return.proofs.Films.{short, filed-refused, filed-accepted}
 use Rattle.film_return.proofs.add_film.Statement.{statement}
 use Rattle.film_return.proofs.add_film.Tie as tie
 
@@ -10,7 +10,7 @@ judge-requires : tie.Need-judge-requires
 judge-requires c κs = tt
 
 add-refused-requires : tie.Need-add-refused-requires
-add-refused-requires c κs = numbered _ _ _ (c .before .judge .ensures .refusal)
+add-refused-requires c κs = tt
 
 settle-requires : tie.Need-settle-requires
 settle-requires c κs = tt

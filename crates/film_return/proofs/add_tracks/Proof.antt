@@ -12,6 +12,7 @@ use Rattle.track_list.specs.Lines.{TotalsFit}
 use Rattle.track_list.proofs.Lines.{fits-here, fits-rest}
 use Rattle.return_totals.specs.Returns.{Return, withTracks}
 use Rattle.return_totals.specs.Following.{Follows}
+use Rattle.return_totals.specs.declared.FilmReturn.{FilmReturn}
 use Rattle.film_return.specs.Films.{totalsOf}
 use Rattle.film_return.proofs.Tracks.{Ahead, ahead-all, ahead-next, ahead-none}
 use Rattle.film_return.proofs.add_tracks.Statement.{statement}
@@ -21,13 +22,13 @@ abbrev Inv-loop : tie.InvT-loop
 Inv-loop lent traks count g₀ i₀ g i =
     (i ≤ count)
     × TotalsFit (drop i (tracksOf (moovOf lent)))
-    × ((s : Return) → Follows s g₀ → Ahead (withTracks (map totalsOf (tracksOf (moovOf lent))) s) (drop i (tracksOf (moovOf lent))) g)
+    × ((r : FilmReturn) (s : Return) → Follows r s g₀ → Ahead r (withTracks (map totalsOf (tracksOf (moovOf lent))) s) (drop i (tracksOf (moovOf lent))) g)
 
 abbrev μ-loop : tie.MeasureT-loop
 μ-loop lent traks count g₀ i₀ g i = count - i
 
 loop-holds : tie.Need-loop-holds Inv-loop μ-loop
-loop-holds c = (omega arith, c .before .pre .1, λ s w. ahead-all _ _ s w)
+loop-holds c = (omega arith, c .before .pre .1, λ r s w. ahead-all _ _ r s w)
 
 trak-at-requires : tie.Need-trak-at-requires Inv-loop μ-loop
 trak-at-requires c κs = omega (arith, in-room _ _ _ (c .before .before .before .pre .0) (c .before .loop .i) (c .loop-test .taken))
@@ -66,12 +67,12 @@ loop-again c =
     let h = c .before .before .before .before .before .loop-test .taken in
     let q = from-here _ (l .loop .i) (in-tracks _ _ _ p (l .loop .i) h) in
     let b = body-is _ _ _ p (l .loop .i) h _ (c .before .before .before .before .trak-at .ensures) _ (c .before .before .part-of .ensures) in
-    (omega (arith, h), fits-rest _ _ _ q (l .loop .inv .1), λ s w. ahead-next _ _ _ _ _ _ _ q (c .before .totals-of .ensures ∙ ap totalsOf b) (c .add-track .ensures) (l .loop .inv .2 s w))
+    (omega (arith, h), fits-rest _ _ _ q (l .loop .inv .1), λ r s w. ahead-next r _ _ _ _ _ _ _ q (c .before .totals-of .ensures ∙ ap totalsOf b) (c .add-track .ensures) (l .loop .inv .2 r s w))
 
 returns : tie.Need-returns Inv-loop μ-loop
-returns c s w =
+returns c r s w =
     let l = c .before in
-    ahead-none _ _ (l .loop .i) _ (omega (arith, l .before .before .pre .0 .count, c .loop-test .left)) (l .loop .inv .2 s w)
+    ahead-none r _ _ (l .loop .i) _ (omega (arith, l .before .before .pre .0 .count, c .loop-test .left)) (l .loop .inv .2 r s w)
 
 pub add-tracks-spec : {M : Type 1} → statement M
 add-tracks-spec =

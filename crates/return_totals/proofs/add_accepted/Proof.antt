@@ -1,18 +1,22 @@
 -- `return_totals::add_accepted` meets its contract.
 -- Assumes nothing.
 use borrow.Author.Needs.{needs}
-use Rattle.return_totals.proofs.Following.{one-accepted}
+use mathlib.Core.Path.{refl}
+use Rattle.return_totals.specs.Returns.{returnOf}
+use Rattle.return_totals.proofs.Following.{accepted-more}
 use Rattle.return_totals.proofs.add_accepted.Statement.{statement}
 use Rattle.return_totals.proofs.add_accepted.Tie as tie
 
-sum-of-requires : tie.Need-sum-of-requires
-sum-of-requires c κs = tt
+unchanged-return-requires : tie.Need-unchanged-return-requires
+unchanged-return-requires c κs = search needs
 
-over-refusal-requires : tie.Need-over-refusal-requires
-over-refusal-requires c κs = tt
+add-counts-requires : tie.Need-add-counts-requires
+add-counts-requires c κs = search needs
 
 returns : tie.Need-returns
-returns c = one-accepted _ _ _ (c .over-refusal .ensures) (c .before .sum-of .ensures)
+returns c =
+    let r = c .before .before .args .r in
+    rw (← accepted-more (record { accepted = 1; tracks = 0; samples = 0; bytes = 0 }) refl (returnOf r)) (c .add-counts .ensures r _ (c .before .unchanged-return .ensures .1))
 
 pub add-accepted-spec : {M : Type 1} → statement M
-add-accepted-spec = tie.close (tie.spec sum-of-requires over-refusal-requires returns)
+add-accepted-spec = tie.close (tie.spec unchanged-return-requires add-counts-requires returns)

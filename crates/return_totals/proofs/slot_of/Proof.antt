@@ -1,10 +1,11 @@
 -- `return_totals::slot_of` meets its contract.
 -- Assumes nothing.
 use borrow.Author.Needs.{needs}
-use borrow.Author.Tests.{eq-eqb, ne-eqb}
-use Prim.Native.Nat.{_-_}
-use mathlib.Core.Path.{_≡_}
+use lib.Dec.{eqb, ltb}
+use borrow.Author.Tests.{eq-eqb, ne-eqb, eqb-false, ltb-false}
+use mathlib.Core.Path.{sym, _∙_}
 use native.Mathlib.Omega.{arith}
+use Rattle.lists.proofs.Booleans.{or-left, or-right}
 use Rattle.return_totals.specs.Returns.{slotOf}
 use Rattle.return_totals.proofs.slot_of.Statement.{statement}
 use Rattle.return_totals.proofs.slot_of.Tie as tie
@@ -13,19 +14,25 @@ returns : tie.Need-returns
 unfolding slotOf
 returns c = rw (eq-eqb _ _ (c .if1 .taken))
 
+either-requires : tie.Need-either-requires
+either-requires c κs = search needs
+
+returns-2 : tie.Need-returns-2
+unfolding slotOf
+returns-2 c = rw (ne-eqb _ _ (c .before .before .if1 .left), sym (c .before .either .ensures) ∙ c .if2 .taken)
+
 sub-result : tie.Need-sub-result
-sub-result c = search needs
+sub-result c =
+    let number = c .before .before .before .args .number in
+    let n = sym (c .before .either .ensures) ∙ c .if2 .left in
+    omega (arith, eqb-false number 0 (or-left (eqb number 0) (ltb 13 number) n))
 
 cast-result : tie.Need-cast-result
 cast-result c = search needs
 
-returns-2 : tie.Need-returns-2
-unfolding slotOf
-returns-2 c = let e : c .before .before .args .number - 1 ≡ 0 = omega (arith, c .if2 .taken) in rw (ne-eqb _ _ (c .before .if1 .left), e)
-
 returns-3 : tie.Need-returns-3
 unfolding slotOf
-returns-3 c = rw (ne-eqb _ _ (c .before .if1 .left))
+returns-3 c = rw (ne-eqb _ _ (c .before .before .if1 .left), sym (c .before .either .ensures) ∙ c .if2 .left)
 
 pub slot-of-spec : {M : Type 1} → statement M
-slot-of-spec = tie.close (tie.spec returns sub-result cast-result returns-2 returns-3)
+slot-of-spec = tie.close (tie.spec returns either-requires returns-2 sub-result cast-result returns-3)

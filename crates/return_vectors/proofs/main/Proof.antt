@@ -44,6 +44,9 @@ loop-less c = search needs
 loop-again : tie.Need-loop-again Inv-loop μ-loop
 loop-again c = search needs
 
+join-pairs-requires : tie.Need-join-pairs-requires Inv-loop μ-loop
+join-pairs-requires c κs = search needs
+
 returns : tie.Need-returns Inv-loop μ-loop
 returns c = search needs
 
@@ -64,4 +67,5 @@ main-spec =
     add-i
     loop-less
     loop-again
+    join-pairs-requires
     returns)

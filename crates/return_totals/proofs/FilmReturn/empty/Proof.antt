@@ -7,7 +7,7 @@ use Rattle.return_totals.proofs.FilmReturn.empty.Tie as tie
 
 returns : tie.Need-returns
 unfolding returnOf scalesIn
-returns c = refl
+returns c = (refl, refl)
 
 pub empty-spec : {M : Type 1} → statement M
 empty-spec = tie.close (tie.spec returns)

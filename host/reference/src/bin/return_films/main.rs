@@ -1,4 +1,4 @@
-//! What crates/return_vectors is run on, and its lines, from the reference.
+//! What crates/return_vectors is run on, and its lines, from the reference: films filed, and then returns joined.
 //!
 //! Writes the films to the folder that is its first argument and their names to the file that is its second, and prints the lines.
 use reference::film::*;
@@ -49,6 +49,42 @@ fn states() -> Vec<FilmReturn> {
     states
 }
 
+/// Both, where they are within the limits.
+fn joined(mut all: FilmReturn, other: &FilmReturn) -> FilmReturn {
+    assert_eq!(all.join(other), 0);
+    all
+}
+
+/// Pairs of returns to be joined: 32 and 33 scales, the same scales in another order, and totals up to the limit and one past it.
+fn pairs() -> Vec<(FilmReturn, FilmReturn)> {
+    let (few, one) = (with_scales(31, 0), with_units(7));
+    let (last, first) = (joined(few.clone(), &one), joined(with_units(5), &few));
+    let mut pairs = vec![
+        (few.clone(), one.clone()),
+        (with_units(5), few),
+        (last.clone(), first.clone()),
+        (first, last),
+        (with_scales(32, 0), one.clone()),
+        (one.clone(), with_scales(32, 0)),
+        (with_scales(32, 0), with_scales(17, 0)),
+        (with_scales(32, GREATEST), with_scales(32, 1)),
+        (with_scales(32, GREATEST), joined(with_scales(0, 1), &one)),
+        (with_units(GREATEST - 7), one.clone()),
+        (with_units(GREATEST - 6), one),
+    ];
+    pairs.extend((11..29).map(|k| (with_greatest(k % 18), with_greatest(k % 18))));
+    pairs
+}
+
+fn print(k: usize, refusal: u32, all: &FilmReturn) {
+    let mut numbers = vec![u128::from(refusal), all.accepted];
+    numbers.extend(all.refused);
+    numbers.extend([all.tracks, all.samples, all.bytes]);
+    numbers.extend(all.scales.iter().flat_map(|(scale, total)| [u128::from(*scale), *total]));
+    let line: String = numbers.iter().map(|number| format!(" {number}")).collect();
+    println!("{k}{line}");
+}
+
 fn main() {
     let arguments: Vec<String> = std::env::args().collect();
     let [_, data, args] = &arguments[..] else {
@@ -60,13 +96,12 @@ fn main() {
         names += &format!("{name}\n");
         for (k, mut all) in states().into_iter().enumerate() {
             let refusal = all.file(&bytes);
-            let mut numbers = vec![u128::from(refusal), all.accepted];
-            numbers.extend(all.refused);
-            numbers.extend([all.tracks, all.samples, all.bytes]);
-            numbers.extend(all.scales.iter().flat_map(|(scale, total)| [u128::from(*scale), *total]));
-            let line: String = numbers.iter().map(|number| format!(" {number}")).collect();
-            println!("{k}{line}");
+            print(k, refusal, &all);
         }
+    }
+    for (k, (mut all, other)) in pairs().into_iter().enumerate() {
+        let refusal = all.join(&other);
+        print(k, refusal, &all);
     }
     std::fs::write(args, names).unwrap();
 }
