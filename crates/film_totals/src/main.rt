@@ -1,26 +1,22 @@
 // The film return of document 02: reads file names, one to a line, from standard input, up to 65,536 bytes in all, and prints `skipped` and the name
-// for each file that is not counted, and then the totals; for more bytes it prints only `too long`.
+// for each file that is not counted, and then the totals; for more bytes it prints only `too long`. Standard input that cannot be read is no empty
+// return: the program then writes to standard error alone.
 mod reading;
 mod show;
 
 use film_return::add_film;
-use reading::Read;
+use reading::read_from;
 use reading::read_named;
 use return_totals::FilmReturn;
 use structure::source::Source;
+ghost use mathlib.Core.Path.{_≡_};
 ghost use Prim.Native.Nat.{_≤_};
 ghost use lib.ListN.{length};
+ghost use Rattle.film_totals.specs.Names.{nameLength};
 
-// The most bytes of all names, and of a film.
-const MOST_BYTES: usize = 65536;
-
-// The return with the film in it that the first n bytes are, if it is counted.
-fn with_film(r: FilmReturn, bytes: &[u8], n: usize, name: &[u8]) -> FilmReturn {
-    if bytes.len() < n {
-        show::skipped(name);
-        return r;
-    }
-    let filed = add_film(r, &bytes[..n], Source::whole());
+// The return with the film in it, if it is counted.
+fn with_film(r: FilmReturn, film: &[u8], name: &[u8]) -> FilmReturn {
+    let filed = add_film(r, film, Source::whole());
     if filed.refusal != 0 {
         show::skipped(name);
     }
@@ -31,18 +27,22 @@ fn with_film(r: FilmReturn, bytes: &[u8], n: usize, name: &[u8]) -> FilmReturn {
 // The return with the film of that name in it, if it is counted.
 fn with_named(r: FilmReturn, name: &[u8]) -> FilmReturn {
     let mut room = io::large_buffer();
-    match read_named(name, &mut room) {
-        Read::Failed => {
-            show::skipped(name);
-            r
-        }
-        Read::Bytes(n) => with_film(r, &room, n, name),
+    let read = read_named(name, &mut room);
+    if read.failed {
+        show::skipped(name);
+        return r;
     }
+    if read.longer {
+        show::skipped(name);
+        return r;
+    }
+    let n = read.count;
+    with_film(r, &room[..n], name)
 }
 
 // How many bytes stand before the first line feed; all where there is none.
 fn name_length(names: &[u8]) -> usize
-    ensures { λ r. ⌜ r ≤ length (now (names .entry)) ⌝ }
+    ensures { λ r. ⌜ (r ≡ nameLength (now (names .entry))) × (r ≤ length (now (names .entry))) ⌝ }
 {
     let mut i: usize = 0;
     while i < names.len() {
@@ -70,20 +70,17 @@ fn print_return(names: &[u8]) {
     show::totals(r);
 }
 
-// Whether standard input has a byte more.
-fn has_more() -> bool {
-    let mut byte = [0u8; 1];
-    io::read_full(libc::STDIN_FILENO, &mut byte) > 0
-}
-
 fn main() {
     let mut names = io::large_buffer();
-    let n = io::read_full(libc::STDIN_FILENO, &mut names);
-    if n == MOST_BYTES {
-        if has_more() {
-            show::too_long();
-            return;
-        }
+    let read = read_from(libc::STDIN_FILENO, &mut names);
+    if read.failed {
+        os::fail(b"standard input");
+        return;
     }
+    if read.longer {
+        show::too_long();
+        return;
+    }
+    let n = read.count;
     print_return(&names[..n]);
 }

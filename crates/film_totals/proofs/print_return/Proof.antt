@@ -25,7 +25,7 @@ name-length-requires : tie.Need-name-length-requires Inv-loop μ-loop
 name-length-requires c κs = search needs
 
 slice-aggregate-with-named : tie.Need-slice-aggregate-with-named Inv-loop μ-loop
-slice-aggregate-with-named c = sym (length-take-le _ _ (c .before .name-length .ensures))
+slice-aggregate-with-named c = sym (length-take-le _ _ (c .before .name-length .ensures .1))
 
 with-named-requires : tie.Need-with-named-requires Inv-loop μ-loop
 with-named-requires c κs = search needs
