@@ -12,12 +12,10 @@ use lib.Dec.{eqb}
 use borrow.Author.Tests.{eqb-true, eq-eqb}
 use Rattle.lists.specs.Lists.{sum}
 use Rattle.lists.proofs.Booleans.{or-second}
-use Rattle.return_totals.specs.Returns.{Scale, Return, emptyReturn, withUnits, limitRefusal, limited, returnOf}
-use Rattle.return_totals.specs.Joining.{addedEach, withScales, withReturn, joinedRefusal, joinedReturn, Joins}
-use Rattle.return_totals.specs.declared.FilmReturn.{FilmReturn}
+use Rattle.return_totals.specs.Returns.{Scale, Return, emptyReturn, withUnits, limitRefusal, limited}
+use Rattle.return_totals.specs.Joining.{addedEach, withScales, withReturn, joinedRefusal, joinedReturn}
 use Rattle.return_totals.specs.declared.TrackTotals.{TrackTotals}
-use Rattle.return_totals.specs.declared.Filed.{Filed}
-use Rattle.film_return_theorems.specs.Filing.{Film, filedAll, NoneRefused, turnReturn, acceptedIn, tracksIn, samplesIn, bytesIn, joined, Reordered, partsReturn, NoneUnjoined, TwoJoined, PartsJoined, Joinable}
+use Rattle.film_return_theorems.specs.Filing.{Film, filedAll, NoneRefused, turnReturn, acceptedIn, tracksIn, samplesIn, bytesIn, joined, Reordered, partsReturn, NoneUnjoined, TwoJoined, Joinable}
 use Rattle.film_return_theorems.proofs.Scales.{withAll, isMet, units-met}
 use Rattle.film_return_theorems.proofs.Orders.{exchanged}
 use Rattle.film_return_theorems.proofs.Films.{withIt, slotIn, film-adds}

@@ -1,23 +1,13 @@
 -- The length of a name, byte by byte.
 -- Assumes nothing.
 use Prim.Native.Nat.{ℕ, suc, _+_, _≤_, _<_}
-use mathlib.Core.Path.{_≡_, refl}
-use mathlib.Core.Bool.{Bool, true, false, cond}
-use mathlib.Core.List.{List, [], _∷_}
+use mathlib.Core.Path.{_≡_}
+use mathlib.Core.List.{List}
 use native.Mathlib.Omega.{arith}
 use lib.ListN.{length, getD, drop, drop-of-length-le}
 use lib.Seq.{drop-cons}
-use lib.Dec.{eqb}
 use borrow.Author.Tests.{eq-eqb, ne-eqb}
 use Rattle.film_totals.specs.Names.{nameLength}
-
-pub name-most : (l : List ℕ) → nameLength l ≤ length l
-name-most [] = omega arith
-name-most (b ∷ l) = go (eqb b 10) (name-most l)
-  where
-    go : (e : Bool) → nameLength l ≤ length l → cond e 0 (suc (nameLength l)) ≤ suc (length l)
-    go true h = omega arith
-    go false h = omega arith
 
 module _ (l : List ℕ) (i : ℕ) where
   pub feed-here : i < length l → getD l i 0 ≡ 10 → nameLength (drop i l) ≡ 0

@@ -2,13 +2,13 @@
 -- Assumes nothing.
 use Prim.Native.Nat.{ℕ, _≤_, _<_}
 use mathlib.Core.Path.{_≡_, refl, sym, ap, _∙_}
-use mathlib.Core.Bool.{Bool, true, false, cond, _&&_}
+use mathlib.Core.Bool.{Bool, true, false, _&&_}
 use mathlib.Core.List.{List}
 use native.Mathlib.Omega.{arith}
 use native.Mathlib.Decide.{ℕ-discrete}
 use borrow.Author.Tests.{lt-leb, le-leb, eq-eqb}
 use lib.ListN.{length, drop}
-use lib.Dec.{leb, eqb}
+use lib.Dec.{leb}
 use Rattle.structure.specs.declared.source.Source.{Source}
 use Rattle.return_totals.specs.Returns.{Return, limitRefusal, limited, returnOf, KeepsRest}
 use Rattle.return_totals.specs.Joining.{joinedRefusal, joinedReturn, withReturn, Joins}
@@ -19,10 +19,10 @@ use Rattle.film_return.specs.Films.{filedRefusal, filedReturn, withFilm, Files}
 use Rattle.host_film_return.specs.Hands.{HandsReturn, FilesNumbers, JoinsNumbers, PutsFiled}
 
 pub refused-left : (f : Filed) (places : List ℕ) → (f .refusal ≡ 0 → ⊥) → PutsFiled f places (f .refusal) places
-refused-left f places n = record { result = refl; put = λ q. absurd (n q); left = λ q. refl }
+refused-left f places n = record { result = refl; put = λ q. absurd (n q); stays = λ q. refl }
 
 pub accepted-put : (f : Filed) (places after : List ℕ) → f .refusal ≡ 0 → PutsReturn (f .totals) places after → PutsFiled f places 0 after
-accepted-put f places after z p = record { result = sym z; put = λ q. p; left = λ q. absurd (q refl) }
+accepted-put f places after z p = record { result = sym z; put = λ q. p; stays = λ q. absurd (q refl) }
 
 neither : (a : Bool) → (a && false) ≡ false
 neither true = refl
@@ -58,9 +58,9 @@ module _ (enough : Bool) (e : enough ≡ true) (whole : Return) (places : List �
     placed = λ z. rw (p .put z .again) (p .put z .placed);
     rest = elim (ℕ-discrete r 0) [
       | yes z ↦ p .put z .rest
-      | no n ↦ ap (drop 83) (p .left n)
+      | no n ↦ ap (drop 83) (p .stays n)
     ];
-    left = p .left;
+    left = p .stays;
   }
 
 -- a film added to the return b that the places are

@@ -36,4 +36,4 @@ JoinsNumbers more places r after =
 pub record PutsFiled (f : Filed) (places : List ℕ) (r : ℕ) (after : List ℕ) : Type 0 where
   pub result : r ≡ f .refusal
   pub put : r ≡ 0 → PutsReturn (f .totals) places after
-  pub left : (r ≡ 0 → ⊥) → after ≡ places
+  pub stays : (r ≡ 0 → ⊥) → after ≡ places

@@ -7,11 +7,11 @@ use mathlib.Core.Bool.{Bool, true, false, cond, _||_}
 use mathlib.Core.List.{List, [], _∷_, _++_}
 use native.Mathlib.Omega.{arith}
 use native.Mathlib.Decide.{ℕ-discrete}
-use lib.ListN.{length, getD, set, take, length-take}
-use lib.Dec.{leb, ltb, eqb}
+use lib.ListN.{length, getD, set, take}
+use lib.Dec.{eqb}
 use borrow.Author.Tests.{eqb-true, eqb-false, eq-eqb, ne-eqb, lt-ltb, le-ltb, leb-true, lt-leb}
 use Rattle.lists.proofs.Booleans.{or-left, or-right, or-neither, or-second}
-use Rattle.return_totals.specs.Returns.{Scale, Return, withUnits, withTrack, withAccepted, withRefused, slotOf, oneMore, anyOver, totalsIn, limitRefusal, limited, scalesFrom, scalesIn, returnOf}
+use Rattle.return_totals.specs.Returns.{Scale, Return, withUnits, withTrack, withAccepted, withRefused, slotOf, anyOver, totalsIn, limitRefusal, limited, scalesIn, returnOf}
 use Rattle.return_totals.specs.Following.{metIn, unitsIn, Sums, Keeps, AddsUnits, Follows, Settles, laterRefusal, unchanged, withMet, withCounts, withSlots, moreAt, withMoreAt}
 use Rattle.return_totals.specs.declared.Counts.{Counts}
 use Rattle.return_totals.specs.declared.FilmReturn.{FilmReturn}

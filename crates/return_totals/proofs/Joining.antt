@@ -1,14 +1,14 @@
 -- Another return added: its scales one after the other, its numbers of refused files place by place, and the answer.
 -- Assumes nothing.
-use Prim.Native.Nat.{ℕ, zero, suc, _+_, _≤_, _<_, min}
+use Prim.Native.Nat.{ℕ, suc, _+_, _≤_, _<_, min}
 use mathlib.Core.Path.{_≡_, refl, sym, ap, _∙_}
 use mathlib.Core.List.{List, [], _∷_}
 use native.Mathlib.Omega.{arith}
-use lib.ListN.{length, getD, set, take, drop, drop-of-length-le, length-take}
+use lib.ListN.{length, getD, take, drop, drop-of-length-le, length-take}
 use lib.Seq.{drop-cons}
-use Rattle.return_totals.specs.Returns.{Scale, Return, withUnits, scalesFrom, scalesIn, returnOf}
-use Rattle.return_totals.specs.Joining.{addedEach, withScales, withReturn, joinedRefusal, joinedReturn, Joins}
-use Rattle.return_totals.specs.Following.{Adds, Follows, SettlesAll, unchanged, withMet, withCounts, withSlots, moreAt, withMoreAt, withEach}
+use Rattle.return_totals.specs.Returns.{Scale, Return, scalesFrom, scalesIn, returnOf}
+use Rattle.return_totals.specs.Joining.{addedEach, withReturn, joinedRefusal, joinedReturn, Joins}
+use Rattle.return_totals.specs.Following.{Adds, Follows, SettlesAll, withMet, withCounts, withSlots, moreAt, withMoreAt, withEach}
 use Rattle.return_totals.specs.declared.FilmReturn.{FilmReturn}
 use Rattle.return_totals.specs.declared.Counts.{Counts}
 use Rattle.return_totals.specs.declared.Filed.{Filed}

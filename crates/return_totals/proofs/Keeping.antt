@@ -9,7 +9,7 @@ use lib.ListN.{length, set, take, drop, length-take, length-set}
 use lib.Seq.{drop-drop}
 use lib.Dec.{ltb}
 use borrow.Author.Tests.{ltb-true, ltb-false, lt-ltb, le-ltb}
-use Rattle.return_totals.specs.Returns.{scalesFrom, scalesIn, KeepsRest}
+use Rattle.return_totals.specs.Returns.{scalesIn}
 use Rattle.return_totals.specs.Following.{Keeps}
 use Rattle.return_totals.specs.declared.FilmReturn.{FilmReturn}
 use Rattle.return_totals.proofs.Scales.{from-length, from-most}

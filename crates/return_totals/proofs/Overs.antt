@@ -14,7 +14,7 @@ use lib.Dec.{leb, eqb}
 use borrow.Author.Tests.{leb-true, le-leb, lt-leb}
 use Rattle.lists.proofs.Booleans.{or-left, or-right, or-neither, or-second}
 use Rattle.return_totals.specs.Returns.{Scale, Return, withUnits, withTrack, withAccepted, withRefused, oneMore, slotOf, anyOver, totalsIn, scalesFrom}
-use Rattle.return_totals.specs.Joining.{addedEach, withScales}
+use Rattle.return_totals.specs.Joining.{withScales}
 use Rattle.return_totals.specs.Following.{unitsIn, moreAt, withMet, withCounts, withSlots}
 use Rattle.return_totals.specs.declared.Counts.{Counts}
 use Rattle.return_totals.specs.declared.TrackTotals.{TrackTotals}

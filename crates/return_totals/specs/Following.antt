@@ -6,10 +6,9 @@ use mathlib.Core.Bool.{Bool, true, false, cond, _||_}
 use mathlib.Core.List.{List, [], _∷_, map}
 use lib.ListN.{length, getD, set}
 use lib.Dec.{leb, eqb}
-use Rattle.return_totals.specs.Returns.{Scale, Return, withUnits, withTrack, anyOver, totalsIn, limitRefusal, limited, scalesIn, returnOf, KeepsRest}
+use Rattle.return_totals.specs.Returns.{Scale, Return, withUnits, anyOver, totalsIn, limitRefusal, limited, scalesIn, returnOf, KeepsRest}
 use Rattle.return_totals.specs.Joining.{addedEach, withScales}
 use Rattle.return_totals.specs.declared.FilmReturn.{FilmReturn}
-use Rattle.return_totals.specs.declared.TrackTotals.{TrackTotals}
 use Rattle.return_totals.specs.declared.Counts.{Counts}
 use Rattle.return_totals.specs.declared.Sum.{Sum}
 use Rattle.return_totals.specs.declared.Filed.{Filed}

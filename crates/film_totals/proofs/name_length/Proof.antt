@@ -2,12 +2,12 @@
 -- Assumes nothing.
 use borrow.Author.Needs.{needs}
 use Prim.Native.Nat.{_+_, _-_, _≤_}
-use mathlib.Core.Path.{_≡_, refl}
+use mathlib.Core.Path.{_≡_}
 use native.Mathlib.Omega.{arith}
 use denote.Ref.{now}
 use lib.ListN.{length, drop}
 use Rattle.film_totals.specs.Names.{nameLength}
-use Rattle.film_totals.proofs.Names.{name-most, feed-here, feed-later, no-feed}
+use Rattle.film_totals.proofs.Names.{feed-here, feed-later, no-feed}
 use Rattle.film_totals.proofs.name_length.Statement.{statement}
 use Rattle.film_totals.proofs.name_length.Tie as tie
 

@@ -3,8 +3,8 @@
 use borrow.Author.Needs.{needs}
 use native.Mathlib.Omega.{arith}
 use Prim.Native.Nat.{_-_, _≤_}
-use mathlib.Core.Path.{_≡_, ap}
-use lib.ListN.{length, drop}
+use mathlib.Core.Path.{_≡_}
+use lib.ListN.{length}
 use Rattle.return_totals.specs.Returns.{Return, scalesIn}
 use Rattle.return_totals.specs.Following.{Follows, withMet}
 use Rattle.return_totals.specs.declared.FilmReturn.{FilmReturn}

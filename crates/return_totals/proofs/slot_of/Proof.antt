@@ -2,10 +2,10 @@
 -- Assumes nothing.
 use borrow.Author.Needs.{needs}
 use lib.Dec.{eqb, ltb}
-use borrow.Author.Tests.{eq-eqb, ne-eqb, eqb-false, ltb-false}
+use borrow.Author.Tests.{eq-eqb, ne-eqb, eqb-false}
 use mathlib.Core.Path.{sym, _∙_}
 use native.Mathlib.Omega.{arith}
-use Rattle.lists.proofs.Booleans.{or-left, or-right}
+use Rattle.lists.proofs.Booleans.{or-left}
 use Rattle.return_totals.specs.Returns.{slotOf}
 use Rattle.return_totals.proofs.slot_of.Statement.{statement}
 use Rattle.return_totals.proofs.slot_of.Tie as tie
