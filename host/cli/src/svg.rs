@@ -106,6 +106,15 @@ pub fn grouped(n: u64) -> String {
     out
 }
 
+/// Where the words of a tick stand: below it, but not past the picture's end, on a narrow page neither.
+fn below(x: f64, words: &str) -> (f64, &'static str) {
+    let (half, all) = (words.chars().count() as f64 * LETTER / 2.0, f64::from(ALL));
+    if x + half * NARROW < all {
+        return (x, "middle");
+    }
+    ((x + half).min(all - 4.0), "end")
+}
+
 /// A picture that is being drawn.
 pub struct Picture {
     axis: Axis,
@@ -124,8 +133,9 @@ impl Picture {
         for (i, (x, words)) in axis.ticks().into_iter().enumerate() {
             let (y, class) = (height, if i % 2 == 0 { "tick" } else { "tick odd" });
             picture.put(format_args!("<line class=\"grid\" x1=\"{x:.1}\" x2=\"{x:.1}\" y1=\"8\" y2=\"{y}\"/>"));
+            let (x, anchor) = below(x, &words);
             picture.put(format_args!(
-                "<text class=\"{class}\" x=\"{x:.1}\" y=\"{:.0}\" text-anchor=\"middle\">{words}</text>",
+                "<text class=\"{class}\" x=\"{x:.1}\" y=\"{:.0}\" text-anchor=\"{anchor}\">{words}</text>",
                 y + 18.0
             ));
         }
