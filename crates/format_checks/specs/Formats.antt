@@ -44,6 +44,6 @@ unfoldable pub isMissing : Track → Bool
 isMissing t = lacksOne (formatValues (t .subtype) (keptOf (t .profile))) (formats (t .descriptions))
 
 -- whether a record of those named above names a format that stsd has not, or a format is missing: of the records that are then at fault "the first
--- vfmt or afmt record not passed over" is the one that is answered
+-- vfmt or afmt record not passed over" is the one that is answered, unless an earlier record of another code is at fault
 unfoldable pub formatFault : Track → Bool → List ℕ → Bool
 formatFault t missing e = namesFormat (t .subtype) e && (missing || not (listed (recordValue e) (formats (t .descriptions))))
