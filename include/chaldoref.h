@@ -14,7 +14,7 @@
  * then 64-bit numbers, and the bytes of a sample are not offered.
  * chaldoref_top_level_step tells where in a file its moov is.
  *
- * A slice is a pointer and a length, counted in elements. Six kinds are lent:
+ * A slice is a pointer and a length, counted in elements. Seven kinds are lent:
  *
  *   file, moov,  bytes that are read
  *   slip
@@ -29,6 +29,8 @@
  *                questions read it
  *   index        checkpoints of the tables of an opened track: chaldoref_index
  *                writes it, as room, and lookups read it
+ *   totals,      a film return: totals is read and written, more is read and
+ *   more         joined to it
  *
  * Places fewer than a function names are refused 16 as room is, and then nothing
  * at all is written, whatever the refusal; so is a stepper or a handle of too few numbers
@@ -47,15 +49,16 @@
  *
  * Threads. The functions keep no state: any number of threads may call any of them
  * at once, also on the same file, as long as no two calls are lent the same room,
- * out, places or stepper, and none a handle or an index that another writes.
+ * out, places, stepper or totals, and none a handle or an index that another writes.
  *
  * What the host keeps to (the proofs assume it: docs/TRUST.md):
  *   - no pointer is NULL, also where its length is 0 (the chaldoref_lend_ functions
  *     below make such a NULL a pointer that may be lent); each is aligned for its
  *     type and valid for its length, and no length is over PTRDIFF_MAX bytes;
- *   - nothing writes to file, moov, slip or a handle or an index that is read during a call;
- *   - room, out, places, stepper, and a handle or an index that is written, overlap neither
+ *   - nothing writes to file, moov, slip, more or a handle or an index that is read during a call;
+ *   - room, out, places, stepper, totals, and a handle or an index that is written, overlap neither
  *     each other nor what is read, and nothing else reads or writes them during a call.
+ *     So a return that is joined to itself is lent as a copy.
  * Nothing of what is lent is kept after a call.
  *
  * What is proved are the functions that are only declared here. The static inline

@@ -725,7 +725,8 @@ class FilmReturn:
     def join(self, other: "FilmReturn") -> None:
         """Joins another return to this one: its own time scales first, then those of the other that it has not, in their order.
         Refusals 20, 21, with which this return is left as it was."""
-        answer = _join_returns(other._numbers, len(other._numbers), self._numbers, len(self._numbers))
+        more = type(other._numbers)(*other._numbers)  # a copy: a return may be joined to itself, and what is lent must not overlap
+        answer = _join_returns(more, len(more), self._numbers, len(self._numbers))
         if answer != 0:
             raise Refused(answer)
 

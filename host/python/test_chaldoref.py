@@ -340,6 +340,8 @@ class Returns(Case):
         both = parts[0] + parts[1]
         self.assertEqual((parts[0].accepted, both.accepted), (1, 2))
         self.assertEqual(list((both + parts[2])._numbers), list(whole._numbers))
+        both.join(both)
+        self.assertEqual((both.accepted, both.tracks), (4, 6))
         great = FilmReturn()
         great._numbers[17] = 2**64 - 1
         before = list(great._numbers)
