@@ -13,6 +13,11 @@ use std::time::Instant;
 const FRAMES: u32 = 25;
 const SECONDS: u32 = 75;
 
+/// A universal record of a profile.
+fn universal(code: &[u8; 4], value: u32) -> [u32; 4] {
+    [0, 0x2020_2020, u32::from_be_bytes(*code), value]
+}
+
 /// A hose of 75 seconds, a chunk a second, whose camera claims a highest bit rate.
 fn hose(id: u32, claim: u32) -> Track {
     let samples = FRAMES * SECONDS;
@@ -20,7 +25,6 @@ fn hose(id: u32, claim: u32) -> Track {
     let size = |i: u32| if i % FRAMES == 0 { 2000 } else { (500.0 + 300.0 * wave(i)) as u32 };
     let sizes: Vec<u32> = (0..samples).map(size).collect();
     let chunk = |second: u32| 60_000 + (2 * second + id - 1) * 30_000;
-    let code = |text: &[u8; 4]| u32::from_be_bytes(*text);
     Track {
         id,
         duration: samples * 24,
@@ -29,7 +33,7 @@ fn hose(id: u32, claim: u32) -> Track {
         stsc: vec![(1, FRAMES, 1)],
         stsz: Sizes::Each(sizes),
         stco: (0..SECONDS).map(chunk).collect(),
-        profile: Some(vec![[0, 0x2020_2020, code(b"mvbr"), claim]]),
+        profile: Some(vec![universal(b"mvbr", claim)]),
         ..w_track()
     }
 }
@@ -146,6 +150,26 @@ fn keep(name: &str, page: &str) {
         fs::create_dir_all(&to).unwrap();
         fs::write(format!("{to}/{name}.html"), page).unwrap();
     }
+}
+
+/// A record that claims no bit rate and is not true stands beside the peak, whatever the other records say.
+#[test]
+fn untrue_beside_bit_rates() {
+    let folder = Folder::new("untrue");
+    let both = Track { profile: Some(vec![universal(b"mvbr", 200_000), universal(b"vfps", 1)]), ..hose(1, 0) };
+    let frames = Track { profile: Some(vec![universal(b"vfps", 1)]), ..hose(2, 0) };
+    let tracks = film::Movie { duration: SECONDS * 600, ..movie(&[both, frames]) };
+    folder.file("f.mov", &tracks.file_of(4_700_000).bytes());
+    let (page, ran) = page(&folder, "f.mov");
+    assert_eq!((ran.status, ran.err.as_str()), (0, ""));
+    for words in
+        ["(mvbr): true; its vfps in the profile: not true", "claims no bit rate; its vfps in the profile: not true"]
+    {
+        assert!(page.contains(words), "{words}");
+    }
+    let good =
+        page.split("class=\"good\"").skip(1).filter(|rest| rest.split("</span>").next().unwrap().contains("Mbit/s"));
+    assert_eq!(good.count(), 0);
 }
 
 /// The greatest value that is drawn of each track is the library's highest bit rate, and so is that of the series.

@@ -30,7 +30,7 @@ const MOST_PARTS: usize = 128;
 /// Of more tracks the summary does not name each.
 const NAMED_TRACKS: usize = 4;
 
-const NO_CLAIM: &str = "the camera claims nothing";
+const NO_CLAIM: &str = "the camera claims no bit rate";
 
 /// As many slips are named that file the same time.
 const NAMED_SLIPS: usize = 3;
@@ -77,19 +77,24 @@ impl<'m> Rates<'m> {
         })
     }
 
-    /// The claims on bit rates that the profile has, each with whether it is true.
-    pub fn claims(&self) -> impl Iterator<Item = (&ProfileRecord, bool)> {
-        let is_rate = |record: &ProfileRecord| {
-            !matches!(
-                Feature::from_code(record.code),
-                None | Some(Feature::GreatestPicture | Feature::HighestFrameRate)
-            )
-        };
-        let judged = self.profile.records.iter().filter(move |judged| is_rate(&judged.record));
-        judged.filter_map(|judged| Some((&judged.record, judged.verdict.as_ref()?.0)))
+    /// The records of the profile that are judged, each with whether it is true.
+    fn verdicts(&self) -> impl Iterator<Item = (&ProfileRecord, bool)> {
+        self.profile.records.iter().filter_map(|judged| Some((&judged.record, judged.verdict.as_ref()?.0)))
     }
 
-    /// The peak, and whether what the camera claims of bit rates is true.
+    /// Those that are claims on bit rates.
+    pub fn claims(&self) -> impl Iterator<Item = (&ProfileRecord, bool)> {
+        self.verdicts().filter(|(record, _)| is_rate(record))
+    }
+
+    /// What the profile says of other things and is not true.
+    fn untrue_beside(&self) -> Option<String> {
+        let untrue = self.verdicts().filter(|(record, is_true)| !*is_true && !is_rate(record));
+        let codes: Vec<String> = untrue.map(|(record, _)| record.code.to_string()).collect();
+        (!codes.is_empty()).then(|| format!("its {} in the profile: not true", codes.join(", ")))
+    }
+
+    /// The peak, and whether what the camera claims is true.
     fn in_words(&self) -> (Option<Mark>, String) {
         let id = self.track.id;
         let (Ok(rate), Some(peak)) = (self.highest, &self.peak) else {
@@ -102,12 +107,24 @@ impl<'m> Rates<'m> {
             let verdict = if *is_true { "true" } else { "not true" };
             format!("the camera claims at most {} ({}): {verdict}", rate_in_words(record.value.into()), record.code)
         };
+        let mut words: Vec<String> = claims.iter().map(said).collect();
         if claims.is_empty() {
-            return (None, format!("{peak}; {NO_CLAIM}"));
+            words.push(NO_CLAIM.to_string());
         }
-        let mark = if claims.iter().all(|(_, is_true)| *is_true) { Mark::Good } else { Mark::Bad };
-        (Some(mark), format!("{peak}; {}", claims.iter().map(said).collect::<Vec<_>>().join("; ")))
+        words.extend(self.untrue_beside());
+        let mark = if self.verdicts().any(|(_, is_true)| !is_true) {
+            Some(Mark::Bad)
+        } else {
+            (!claims.is_empty()).then_some(Mark::Good)
+        };
+        (mark, format!("{peak}; {}", words.join("; ")))
     }
+}
+
+/// Whether a record claims a bit rate.
+fn is_rate(record: &ProfileRecord) -> bool {
+    let feature = Feature::from_code(record.code);
+    !matches!(feature, None | Some(Feature::GreatestPicture | Feature::HighestFrameRate))
 }
 
 /// The row and the section of a film that is accepted.
@@ -243,7 +260,7 @@ fn tracks_in_words(ids: &[TrackId]) -> String {
 fn peaks_in_words(rates: &[Rates]) -> Vec<(Option<Mark>, String)> {
     let in_words = |one: &Rates| {
         let (mark, words) = one.in_words();
-        (mark, words.replace(NO_CLAIM, "no claim"))
+        (mark, words.replace(NO_CLAIM, "no rate claimed"))
     };
     if rates.len() <= NAMED_TRACKS {
         return rates.iter().map(in_words).collect();
