@@ -321,11 +321,15 @@ fn several_films_and_slips() {
     well_formed(&made);
     let sections: Vec<&str> = made.split("<section ").collect();
     let (head, w, a, e) = (sections[0], sections[1], sections[2], sections[3]);
-    assert!(head.contains("Slips of no film") && head.contains("bad.slip") && !head.contains("<bdi>a.slip"));
+    assert!(head.contains("Slips that are not good") && head.contains("bad.slip") && !head.contains("<bdi>a.slip"));
     assert!(!w.contains("a.slip") && w.contains("no slip is good of this film") && w.contains("rule 6 "));
     assert!(a.contains("a.slip") && a.contains("track 1: everything is filed"));
     assert!(e.contains("nothing shown") || e.contains("shows media from"));
     keep("several", &made);
+    // Of one film too they stand before its section.
+    let (made, _) = page(&folder, "a.mov --slips a.slip bad.slip none.slip");
+    let head = made.split("<section ").next().unwrap();
+    assert!(head.contains("bad.slip") && head.contains("none.slip") && !head.contains("<bdi>a.slip"));
     let (made, _) = page(&folder, "e.mov --leave-out edits");
     assert!(made.contains("the film was read without the edit lists") && made.contains("no slip is given"));
 }

@@ -103,7 +103,6 @@ fn told_of(request: &Request, file: &OsStr, number: usize, loose: &mut [Loose]) 
             Some(wrong) if !is_own => slip.reasons.push(wrong.reason.clone()),
             _ => slip.is_good = true,
         }
-        slip.is_good |= is_one;
         if is_own || is_one {
             slips.push(checked);
         }
@@ -147,7 +146,7 @@ const KEY: &str =
     "<p class=\"soft key\"><span class=\"good\"><b>✓</b> good</span> <span class=\"look\"><b>!</b> look at it</span> \
                    <span class=\"bad\"><b>✗</b> not good</span></p>\n";
 
-/// The slips that are of none of several films.
+/// The slips that are good of no film.
 fn of_no_film(loose: &[Loose]) -> String {
     let none: Vec<&Loose> = loose.iter().filter(|slip| !slip.is_good).collect();
     if none.is_empty() {
@@ -162,5 +161,5 @@ fn of_no_film(loose: &[Loose]) -> String {
         };
         vec![html::html(html::name(&input::called(slip.name))), html::html(Mark::Bad.says(&words))]
     });
-    format!("<h2>Slips of no film</h2>\n{}", table("", &["slip", "verdict"], rows))
+    format!("<h2>Slips that are not good</h2>\n{}", table("", &["slip", "verdict"], rows))
 }
