@@ -66,9 +66,9 @@ fn is_of_film(number: usize) -> bool {
     number <= 13 && number != 11 || number == 19
 }
 
-/// Whether a question reads or writes a slip.
-fn is_of_slip(kind: &str) -> bool {
-    kind.ends_with("slip")
+/// Whether a question is never answered of a film that is refused 11 strictly: it reads or writes a slip, or asks of no film.
+fn is_unasked_strictly(kind: &str) -> bool {
+    kind.ends_with("slip") || kind == "join_returns"
 }
 
 /// The questions that ask for no number in a track.
@@ -253,7 +253,7 @@ impl Counts {
             let never = AFTER_11.iter().filter(|number| self.strict[way][**number] == 0);
             all.extend(never.map(|number| format!("of {name} none was refused 11 strictly and {number} by default")));
         }
-        let unasked = KINDS.iter().zip(self.accepted).filter(|(kind, count)| *count == 0 && !is_of_slip(kind));
+        let unasked = KINDS.iter().zip(self.accepted).filter(|(kind, count)| *count == 0 && !is_unasked_strictly(kind));
         all.extend(unasked.map(|(kind, _)| format!("{kind} was never answered of a film that is refused 11 strictly")));
         let never = ["true", "at fault"].into_iter().zip(self.profiles).filter(|(_, count)| *count == 0);
         all.extend(never.map(|(verdict, _)| format!("no profile was {verdict}")));
