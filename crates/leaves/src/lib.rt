@@ -137,7 +137,7 @@ fn sizes_ok(atom: &[u8]) -> bool
 }
 
 // Whether an atom of that form has its size.
-fn size-ok(f: Form, atom: &[u8]) -> bool
+fn size_ok(f: Form, atom: &[u8]) -> bool
     ensures { result ≡ size_ok f atom.now }
 {
     match f {
@@ -156,6 +156,6 @@ pub fn leaf_ok(rule: LeafRule, f: Form, atom: &[u8]) -> bool
 {
     match rule {
         LeafRule::Version => version_ok(f, atom),
-        LeafRule::Size => size-ok(f, atom),
+        LeafRule::Size => size_ok(f, atom),
     }
 }

@@ -56,7 +56,7 @@ pub fn nothing_counted() -> Counts
     }
 }
 
-fn one-more(n: u8) -> u8
+fn one_more(n: u8) -> u8
     ensures { result ≡ one_more n }
 {
     if n == 0 { 1 } else { 2 }
@@ -68,26 +68,26 @@ pub fn with_kind(counts: Counts, kind: u32) -> Counts
 {
     let mut c = counts;
     match kind {
-        kinds::MOOV => c.moov = one-more(c.moov),
-        kinds::MVHD => c.mvhd = one-more(c.mvhd),
-        kinds::TKHD => c.tkhd = one-more(c.tkhd),
-        kinds::EDTS => c.edts = one-more(c.edts),
-        kinds::ELST => c.elst = one-more(c.elst),
-        kinds::MDIA => c.mdia = one-more(c.mdia),
-        kinds::MDHD => c.mdhd = one-more(c.mdhd),
-        kinds::HDLR => c.hdlr = one-more(c.hdlr),
-        kinds::MINF => c.minf = one-more(c.minf),
-        kinds::DINF => c.dinf = one-more(c.dinf),
-        kinds::DREF => c.dref = one-more(c.dref),
-        kinds::STBL => c.stbl = one-more(c.stbl),
-        kinds::STSD => c.stsd = one-more(c.stsd),
-        kinds::STTS => c.stts = one-more(c.stts),
-        kinds::CTTS => c.ctts = one-more(c.ctts),
-        kinds::STSC => c.stsc = one-more(c.stsc),
-        kinds::STSZ => c.stsz = one-more(c.stsz),
-        kinds::STCO => c.stco = one-more(c.stco),
-        kinds::CO64 => c.co64 = one-more(c.co64),
-        kinds::STSS => c.stss = one-more(c.stss),
+        kinds::MOOV => c.moov = one_more(c.moov),
+        kinds::MVHD => c.mvhd = one_more(c.mvhd),
+        kinds::TKHD => c.tkhd = one_more(c.tkhd),
+        kinds::EDTS => c.edts = one_more(c.edts),
+        kinds::ELST => c.elst = one_more(c.elst),
+        kinds::MDIA => c.mdia = one_more(c.mdia),
+        kinds::MDHD => c.mdhd = one_more(c.mdhd),
+        kinds::HDLR => c.hdlr = one_more(c.hdlr),
+        kinds::MINF => c.minf = one_more(c.minf),
+        kinds::DINF => c.dinf = one_more(c.dinf),
+        kinds::DREF => c.dref = one_more(c.dref),
+        kinds::STBL => c.stbl = one_more(c.stbl),
+        kinds::STSD => c.stsd = one_more(c.stsd),
+        kinds::STTS => c.stts = one_more(c.stts),
+        kinds::CTTS => c.ctts = one_more(c.ctts),
+        kinds::STSC => c.stsc = one_more(c.stsc),
+        kinds::STSZ => c.stsz = one_more(c.stsz),
+        kinds::STCO => c.stco = one_more(c.stco),
+        kinds::CO64 => c.co64 = one_more(c.co64),
+        kinds::STSS => c.stss = one_more(c.stss),
         _ => {}
     }
     c

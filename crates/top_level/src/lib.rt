@@ -62,7 +62,7 @@ fn size_ahead(header: &[u8], rest: u64) -> u64
 }
 
 // One moov more; 2 stands for more than one.
-fn one-more(moovs: u64) -> u64
+fn one_more(moovs: u64) -> u64
     ensures { result ≡ one_more moovs }
 {
     if moovs == 0 { 1 } else { 2 }
@@ -110,7 +110,7 @@ impl Walk {
         let mut walk = self;
         walk.place = self.place + size;
         if u32_at(header, 4) == kinds::MOOV {
-            walk.moovs = one-more(self.moovs);
+            walk.moovs = one_more(self.moovs);
             walk.at = self.place;
             walk.size = size;
         }
