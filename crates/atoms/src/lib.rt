@@ -1,4 +1,6 @@
 // Atoms of a movie file: each is found and handed on as a part of the lent file.
+#![tactic(auto)]
+
 pub mod kinds;
 
 ghost use Rattle.std.specs.Prelude.{◌≡◌, ◌≤◌, length};

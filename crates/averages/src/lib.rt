@@ -1,5 +1,7 @@
 // The average rate of what an edit list shows: the samples that each entry covers, added once for each entry. The tables are read as they stand in the
 // file. `scale` is the media's time scale and `movie` the movie's.
+#![tactic(auto)]
+
 ghost use Rattle.std.specs.Prelude.{◌≡◌, true, ◌<◌, ◌≤◌, ◌^◌, length};
 ghost use Rattle.std.specs.Int.Signed.{mag};
 ghost use Rattle.lists.specs.Lists.{sum};
@@ -16,7 +18,7 @@ use runs::{Hit, Looked, look_up};
 use words::bytes_between;
 
 // The sizes and the durations of some samples, added.
-#[derive(Drop)]
+#[derive(Clone, Copy)]
 pub struct Added {
     pub bytes: u64,
     pub units: u64,

@@ -1,4 +1,6 @@
 // Big-endian numbers at any place of a slice, and the part that follows a place. A byte past the end counts as 0.
+#![tactic(auto)]
+
 ghost use Rattle.std.specs.Prelude.{◌≡◌, ◌+◌, ◌*◌, ◌^◌, ◌<◌, ◌≤◌, length, get_or, drop};
 ghost use Rattle.std.specs.Int.Signed.{mag};
 ghost use Rattle.bigendian.specs.BigEndian.{be_at, u16_at, u32_at, u64_at, signed32, i32_at};

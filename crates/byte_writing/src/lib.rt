@@ -1,4 +1,6 @@
 // Bytes written into a slice from an offset on.
+#![tactic(auto)]
+
 ghost use Rattle.std.specs.Prelude.{◌≡◌, ◌+◌, ◌≤◌, length, take, replicate};
 ghost use Rattle.std.proofs.lemmas.List.Edits.{sets};
 ghost use Rattle.byte_writing.specs.Bytes.{be32, Fits, Wrote};

@@ -1,5 +1,7 @@
 // The questions of documents 01 and 02 for programs in C and Rust: numbers and slices alone. Each function answers the number of a refusal, or 0, and
 // puts the values into lent places, in the order of the documents. Each is one call: a function that is exported must stand in this crate.
+#![tactic(auto)]
+
 mod checks;
 mod compacting;
 mod filing;

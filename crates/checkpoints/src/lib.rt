@@ -1,4 +1,6 @@
 // Checkpoints of a table of runs: before each 64th run the counts and the values so far, in lent room. A lookup starts at the last one before its answer.
+#![tactic(auto)]
+
 ghost use Rattle.std.specs.Prelude.{◌≡◌, ◌+◌, ◌*◌, ◌^◌, ◌<◌, ◌≤◌, length, take, slice_index};
 ghost use Rattle.std.proofs.lemmas.List.Edits.{sets};
 ghost use Rattle.runs.specs.Runs.{runs_in, runs_of};
@@ -13,7 +15,7 @@ pub const RUNS: usize = 64;
 pub const BYTES: usize = 512;
 
 // The counts of some runs, added, and their values, each as often as its count says; modulo 2^64.
-#[derive(Drop)]
+#[derive(Clone, Copy)]
 pub struct Sums {
     pub count: u64,
     pub total: u64,

@@ -1,4 +1,6 @@
 // What refusal 9 asks of stsc alone: whether its entries agree with the numbers of chunks and of descriptions, and deal all samples.
+#![tactic(auto)]
+
 ghost use Rattle.std.specs.Prelude.{◌≡◌, ◌&&◌, eqb};
 ghost use Rattle.lists.specs.Lists.{sum};
 ghost use Rattle.chunks.specs.Chunks.{per_chunk};

@@ -1,5 +1,7 @@
 // Whether the chunks of a track end within a limit (refusal 12): stsc with stco or co64 and stsz, one pass over each. Listed sizes are added chunk by chunk;
 // with a common size the chunks of a run are asked at once.
+#![tactic(auto)]
+
 ghost use Rattle.std.specs.Prelude.{◌≡◌, ◌+◌, ◌-◌, ◌*◌, ◌^◌, ◌≤◌, ◌<◌, min, max, ltb, length, take, replicate};
 ghost use Rattle.bigendian.specs.BigEndian.{u32_at};
 ghost use Rattle.words.specs.Words.{numbers_in, words_in, sizes, width_of, chunk_offsets};

@@ -1,4 +1,6 @@
 // Checkpoints of stsc, as runs of chunks, and the chunk of a sample by them.
+#![tactic(auto)]
+
 ghost use Rattle.std.specs.Prelude.{◌≡◌, ◌*◌, ◌^◌, ◌<◌, ◌≤◌, length, take};
 ghost use Rattle.std.proofs.lemmas.List.Edits.{sets};
 ghost use Rattle.checkpoints.specs.Points.{with_runs, point_numbers};

@@ -1,4 +1,6 @@
 // Whether the chunks of a track rise in the file and none overlaps the one before it: stsc with stco or co64 and stsz, one pass over each.
+#![tactic(auto)]
+
 ghost use Rattle.std.specs.Prelude.{◌≡◌, ◌||◌, ◌<◌, ◌^◌};
 ghost use Rattle.bigendian.specs.BigEndian.{u32_at};
 ghost use Rattle.lists.specs.Lists.{sum};

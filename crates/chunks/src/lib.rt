@@ -1,6 +1,8 @@
 // Samples dealt to chunks: stsc, with stco and stsz, read as they stand in the file, one pass each and never expanded. Chunks are numbered from 1 in stsc;
 // elsewhere a chunk and a sample are named by their index from 0. No function asks that the tables agree: what they say where they do not is defined too.
 // The length below 2 ^ 32 that some of them ask of a table is that of any part of a file that passed refusal 1.
+#![tactic(auto)]
+
 ghost use Rattle.std.specs.Prelude.{◌≡◌, ◌-◌, ◌^◌, ◌≤◌, ◌<◌, min, length};
 ghost use Rattle.words.specs.Words.{sizes, chunk_offsets};
 ghost use Rattle.chunks.specs.Chunks.{deals_in, first_of, per_chunk, description_ids};
@@ -28,7 +30,7 @@ pub fn span(first: u64, next: u64) -> u64
 }
 
 // A place in stsc: how many chunks remain of a run, with the samples and the description ID of each, and where the entries not yet read begin.
-#[derive(Drop)]
+#[derive(Clone, Copy)]
 pub struct ChunkCursor {
     pub at: usize,
     pub remaining: u64,
@@ -94,7 +96,7 @@ pub fn pass(c: ChunkCursor, count: u64) -> ChunkCursor
 }
 
 // A sample found: a cursor before its chunk, the index of the chunk, and its own index in the chunk.
-#[derive(Drop)]
+#[derive(Clone, Copy)]
 pub struct Sought {
     pub cursor: ChunkCursor,
     pub chunk: u64,
@@ -134,7 +136,7 @@ pub fn seek(stsc: &[u8], chunks: u32, index: u32) -> Sought
 }
 
 // Where a sample lies: the index of its chunk, its index in the chunk, and the chunk's description ID.
-#[derive(Drop)]
+#[derive(Clone, Copy)]
 pub struct Located {
     pub chunk: u64,
     pub within: u32,

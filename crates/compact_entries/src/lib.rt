@@ -1,4 +1,6 @@
 // The entries of stts and stsc written with the fewest that say the same.
+#![tactic(auto)]
+
 ghost use Rattle.std.specs.Prelude.{◌≡◌, ◌^◌, ◌<◌, length};
 ghost use Rattle.lists.specs.Entries.{rows_of};
 ghost use Rattle.byte_writing.specs.Bytes.{joined, Fits, Wrote};

@@ -1,1 +1,2 @@
 // What compaction keeps: laws, no code.
+#![tactic(auto)]

@@ -1,4 +1,6 @@
 // The body of an stbl written with its stts and stsc compact and the bytes that this frees as one free atom.
+#![tactic(auto)]
+
 ghost use Rattle.std.specs.Prelude.{◌≡◌, ◌+◌, ◌^◌, ◌≤◌, ◌<◌, length};
 ghost use Rattle.std.proofs.lemmas.List.Edits.{sets};
 ghost use Rattle.lists.specs.Entries.{entries};

@@ -1,4 +1,6 @@
 // A moov atom's body written with every track's tables compact.
+#![tactic(auto)]
+
 ghost use Rattle.std.specs.Prelude.{◌≡◌, ◌^◌, ◌<◌, length, take};
 ghost use Rattle.atoms.specs.Atoms.{header_of};
 ghost use Rattle.byte_writing.specs.Bytes.{Fits, Wrote};

@@ -1,4 +1,6 @@
 // A film's moov atom written with its tables compact: each stts and stsc with the fewest entries that say the same.
+#![tactic(auto)]
+
 ghost use Rattle.compaction.specs.Compaction.{Compacts};
 
 use atoms::{body_of, kinds};
@@ -9,7 +11,7 @@ use places::{Part, child_part, part_of};
 use structure::source::Source;
 
 // The length of the moov atom, or the number of a refusal.
-#[derive(Drop)]
+#[derive(Clone, Copy)]
 pub enum Compacted {
     Written(usize),
     Refused(u32),

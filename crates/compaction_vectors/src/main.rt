@@ -1,6 +1,8 @@
 // Writes the moov atoms of films with their tables compact, and for each film a line with the answer and the bytes of the room after it. Each file
 // that its arguments name is a film: the length of its file in 64 bits, or 0 for a whole file; the length of the room in 32 bits; and then the moov
 // or the whole file. The films and the lines are those that the reference in host/reference writes.
+#![tactic(auto)]
+
 use bigendian::{after, u32_at, u64_at};
 use compaction::{Compacted, compact_moov};
 use structure::source::Source;

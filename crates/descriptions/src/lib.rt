@@ -1,4 +1,6 @@
 // The sample descriptions of an stsd, and the greatest picture that they describe.
+#![tactic(auto)]
+
 ghost use Rattle.std.specs.Prelude.{◌≡◌, max, length};
 ghost use Rattle.descriptions.specs.Descriptions.{descriptions, picture_size};
 
@@ -29,7 +31,7 @@ pub fn description_count(stsd: &[u8], least: usize) -> usize
 }
 
 // A width and a height, which need not be of one description.
-#[derive(Drop)]
+#[derive(Clone, Copy)]
 pub struct PictureSize {
     pub width: u16,
     pub height: u16,

@@ -1,5 +1,7 @@
 // Edit lists, read as they stand in the file: their total, whether refusal 13 applies, and where a movie time falls in the
 // media. `scale` is the media's time scale and `movie` the movie's; `total` is the total of the sample durations.
+#![tactic(auto)]
+
 ghost use Rattle.std.specs.Prelude.{◌≡◌, ◌+◌, ◌-◌, ◌≤◌, ◌<◌, ◌^◌};
 ghost use Rattle.std.specs.Int.Signed.{mag};
 ghost use Rattle.lists.specs.Totals.{total_of};
@@ -9,15 +11,15 @@ use bigendian::{after, i32_at, u32_at};
 use lists::Total;
 
 // A time of the movie, in the movie's scale.
-#[derive(Drop)]
+#[derive(Clone, Copy)]
 pub struct MovieTime(pub u32);
 
 // A time of the media, in the track's own scale.
-#[derive(Drop)]
+#[derive(Clone, Copy)]
 pub struct MediaTime(pub u32);
 
 // Where a movie time falls in the media.
-#[derive(Drop)]
+#[derive(Clone, Copy)]
 pub enum Mapped {
     Media(MediaTime),
     Nothing,
@@ -25,7 +27,7 @@ pub enum Mapped {
 }
 
 // An entry of an edit list. The media time is signed.
-#[derive(Drop)]
+#[derive(Clone, Copy)]
 pub struct Edit {
     pub duration: u32,
     pub media: i64,
@@ -33,7 +35,7 @@ pub struct Edit {
 }
 
 // What a signed media time stands for: a place of the media, nothing (-1), or no right value.
-#[derive(Drop)]
+#[derive(Clone, Copy)]
 pub enum EditStart {
     From(u64),
     Empty,

@@ -1,4 +1,6 @@
 // The records of a track's own profile that claim a feature, against the feature as it is computed.
+#![tactic(auto)]
+
 ghost use Rattle.std.specs.Prelude.{◌≡◌, ◌≤◌, ◌<◌};
 ghost use Rattle.places.specs.Places.{AreParts};
 ghost use Rattle.track.specs.Track.{track_of};
@@ -62,7 +64,7 @@ fn is_below(code: u32, value: u64, bound: u64) -> bool
 
 // One more than the bound of each code whose feature has been computed, 0 for the others: each is computed at most once, and only where a record
 // asks for it.
-#[derive(Drop)]
+#[derive(Clone, Copy)]
 pub struct Bounds {
     pub of: [u64; 6],
 }
@@ -88,7 +90,7 @@ fn with_bound(trak: &[u8], p: Parts, movie: u32, code: u32, i: usize, bounds: Bo
 }
 
 // Whether a record is at fault, and the bounds that are known then.
-#[derive(Drop)]
+#[derive(Clone, Copy)]
 pub struct Judged {
     pub fault: bool,
     pub bounds: Bounds,

@@ -1,4 +1,6 @@
 // A feature of a track, by its code, and where its peak is.
+#![tactic(auto)]
+
 ghost use Rattle.std.specs.Prelude.{◌≡◌};
 ghost use Rattle.feature_questions.specs.Feature.{to_value, Computes, to_run, Locates};
 
@@ -10,7 +12,7 @@ use rates::Feature;
 use structure::source::Source;
 
 // The answer of `feature_by_code`: the feature's value; or the number of a refusal.
-#[derive(Drop)]
+#[derive(Clone, Copy)]
 pub enum FeatureAnswer {
     Value(u32),
     Refused(u32),
@@ -40,7 +42,7 @@ pub fn feature_by_code(lent: &[u8], source: Source, id: u32, code: u32) -> Featu
 
 // The answer of `peak_by_code`: the number of the first sample of the run with the highest rate, from 1, and how many samples that
 // run has; or the number of a refusal.
-#[derive(Drop)]
+#[derive(Clone, Copy)]
 pub enum PeakAnswer {
     Run(u32, u32),
     Refused(u32),

@@ -1,4 +1,6 @@
 // Features of a track: rates, rounded up, and the greatest picture.
+#![tactic(auto)]
+
 ghost use Rattle.std.specs.Prelude.{◌≡◌, ◌<◌, ◌^◌, length};
 ghost use Rattle.atoms.specs.Kinds.{vide};
 ghost use Rattle.structure.specs.Track.{subtype_of};

@@ -1,4 +1,6 @@
 // The film return: totals over many films, each judged and added whole or not at all.
+#![tactic(auto)]
+
 ghost use Rattle.std.specs.Prelude.{◌≡◌, ◌<◌, ◌^◌, length};
 ghost use Rattle.structure.specs.Movie.{moov_of, tracks_of};
 ghost use Rattle.places.specs.Places.{AreParts};

@@ -1,6 +1,8 @@
 // The film return of document 02: reads file names, one to a line, from standard input, up to 65,536 bytes in all, and prints `skipped` and the name
 // for each file that is not counted, and then the totals; for more bytes it prints only `too long`. Standard input that cannot be read is no empty
 // return: the program then writes to standard error alone.
+#![tactic(auto)]
+
 mod reading;
 mod show;
 

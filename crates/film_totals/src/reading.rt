@@ -2,7 +2,7 @@
 ghost use Rattle.std.specs.Prelude.{◌≤◌, length};
 
 // How many bytes stand in the room; or that a read failed, or that there are more than the room takes.
-#[derive(Drop)]
+#[derive(Clone, Copy)]
 pub struct Read {
     pub failed: bool,
     pub longer: bool,

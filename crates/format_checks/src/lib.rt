@@ -1,4 +1,6 @@
 // The formats that a track's own profile names, against those of its stsd.
+#![tactic(auto)]
+
 ghost use Rattle.std.specs.Prelude.{◌≡◌, ◌&&◌, eqb};
 ghost use Rattle.words.specs.Words.{listed};
 ghost use Rattle.descriptions.specs.Descriptions.{descriptions};

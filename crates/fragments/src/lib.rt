@@ -1,4 +1,6 @@
 // Whether a film has fragments. Samples in fragments are not read, so a film that has them is not read whole.
+#![tactic(auto)]
+
 ghost use Rattle.std.specs.Prelude.{◌≡◌, ltb, eqb};
 ghost use Rattle.bigendian.specs.BigEndian.{u32_at};
 ghost use Rattle.atoms.specs.Atoms.{count_in};
@@ -17,7 +19,7 @@ const MOOF: u32 = 0x6d6f6f66;
 const MVEX: u32 = 0x6d766578;
 
 // The answer of `fragments`: whether the moov has an mvex, and whether the file has a moof at top level; or the number of a refusal.
-#[derive(Drop)]
+#[derive(Clone, Copy)]
 pub enum FragmentsAnswer {
     Told(bool, bool),
     Refused(u32),

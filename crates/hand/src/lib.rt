@@ -1,4 +1,6 @@
 // Values into lent places, for a caller in another language.
+#![tactic(auto)]
+
 ghost use Rattle.std.specs.Prelude.{◌≡◌};
 ghost use Rattle.structure.specs.Rows.{or_else};
 ghost use Rattle.hand.specs.Places.{Hands};

@@ -15,7 +15,7 @@ const BYTES: usize = 131072;
 const PLACES: usize = 65536;
 
 // The film time that a slip files, or the number of the refusal.
-#[derive(Drop)]
+#[derive(Clone, Copy)]
 enum FilmTime {
     Units(u32),
     Refused(u32),

@@ -1,5 +1,7 @@
 // Answers the regulator's three questions for a film of hoses, of up to 65,536 bytes, which is read from standard input; prints `refused` and a number for
 // one that is refused, and `too long` for a longer one. With arguments it answers for each file that they name, one after the other; `-` is standard input.
+#![tactic(auto)]
+
 mod answers;
 mod filing;
 mod show;

@@ -1,4 +1,6 @@
 // A slip of either form that is read, for a caller in another language: its pairs in lent room of 64-bit numbers, the values in lent places.
+#![tactic(auto)]
+
 ghost use Rattle.std.specs.Prelude.{◌≡◌, true};
 ghost use Rattle.slip.specs.Slip.{slip_in};
 ghost use Rattle.hand.specs.Places.{Fills};

@@ -1,4 +1,6 @@
 // A film's moov atom with its tables compact, for a caller in another language: its bytes in a lent room, its length in a lent place.
+#![tactic(auto)]
+
 ghost use Rattle.compaction.specs.Compaction.{compact_moov};
 ghost use Rattle.hand.specs.Places.{Fills};
 ghost use Rattle.host_compaction.specs.Numbers.{of_compaction};

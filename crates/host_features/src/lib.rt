@@ -1,4 +1,6 @@
 // A feature of a track, by its code, and where its peak is, for a caller in another language: the values in lent places.
+#![tactic(auto)]
+
 ghost use Rattle.hand.specs.Places.{Answers};
 ghost use Rattle.host_features.specs.Numbers.{of_feature, of_peak};
 

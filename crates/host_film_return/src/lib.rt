@@ -1,4 +1,6 @@
 // The film return for a caller in another language: its state as 83 numbers in lent places.
+#![tactic(auto)]
+
 ghost use Rattle.std.specs.Prelude.{◌≤◌, length};
 ghost use Rattle.host_film_return.specs.Hands.{FilesNumbers, JoinsNumbers, PutsFiled};
 

@@ -1,4 +1,6 @@
 // Whether a film has fragments, for a caller in another language: the values in lent places.
+#![tactic(auto)]
+
 ghost use Rattle.std.specs.Prelude.{◌≡◌};
 ghost use Rattle.fragments.specs.Fragments.{bit};
 ghost use Rattle.hand.specs.Places.{Answers};

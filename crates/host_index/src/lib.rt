@@ -1,4 +1,6 @@
 // The index of a track, for a caller in another language: filled once in lent room, and the questions by it.
+#![tactic(auto)]
+
 ghost use Rattle.host_index.specs.Hands.{HandsIndex, HandsIndexedSample, HandsIndexedNumber};
 
 use edits::MediaTime;

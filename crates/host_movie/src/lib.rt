@@ -1,5 +1,7 @@
 // The movie's time scale and stored duration, and a track's edit list, for a caller in another language: the values in lent places, the entries in
 // lent room.
+#![tactic(auto)]
+
 ghost use Rattle.hand.specs.Places.{Answers, Fills};
 ghost use Rattle.movie_times.specs.Entries.{edit_numbers, edits_asked};
 ghost use Rattle.host_movie.specs.Numbers.{of_movie, of_edits};

@@ -1,4 +1,6 @@
 // A track opened once, for a caller in another language: the handle as 19 numbers in lent places, and the questions by it.
+#![tactic(auto)]
+
 ghost use Rattle.std.specs.Prelude.{◌≡◌};
 ghost use Rattle.host_opened.specs.Handle.{opened_in, HandsHandle};
 ghost use Rattle.host_opened.specs.Hands.{HandsOpening, HandsSample, HandsNumber, HandsTime};

@@ -1,4 +1,6 @@
 // The start of stepping by the handle of a track, for a caller in another language.
+#![tactic(auto)]
+
 ghost use Rattle.host_opened_steps.specs.Hands.{HandsStartBy};
 
 use host_opened::{NUMBERS, handle_in};

@@ -1,4 +1,6 @@
 // The byte ranges of a stretch of media time by the handle of a track, for a caller in another language.
+#![tactic(auto)]
+
 ghost use Rattle.host_opened_stretches.specs.Hands.{HandsStretch};
 
 use edits::MediaTime;

@@ -1,4 +1,6 @@
 // Whether a track's own profile is true, for a caller in another language: the answer in a lent place.
+#![tactic(auto)]
+
 ghost use Rattle.hand.specs.Places.{Answers};
 ghost use Rattle.host_profile_checks.specs.Numbers.{of_profile_check};
 

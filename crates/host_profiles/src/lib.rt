@@ -1,4 +1,6 @@
 // The stored profile of a movie or of one of its tracks, for a caller in another language: records in lent room, their number in a lent place.
+#![tactic(auto)]
+
 ghost use Rattle.profiles.specs.Profiles.{profile_numbers};
 ghost use Rattle.hand.specs.Places.{Fills};
 ghost use Rattle.host_profiles.specs.Numbers.{of_profile};

@@ -1,4 +1,6 @@
 // Whether a film keeps the quay film profile, for a caller in another language: the values in lent places.
+#![tactic(auto)]
+
 ghost use Rattle.hand.specs.Places.{Answers};
 ghost use Rattle.host_quay.specs.Numbers.{of_quay};
 

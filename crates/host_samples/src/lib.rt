@@ -1,4 +1,6 @@
 // A sample by its number, and where its bytes are, for a caller in another language: the values in lent places.
+#![tactic(auto)]
+
 ghost use Rattle.hand.specs.Places.{Answers, SignedAnswers};
 ghost use Rattle.questions.specs.Samples.{sample_numbers};
 ghost use Rattle.host_samples.specs.Numbers.{Signable, of_sample, of_sample_bytes};

@@ -1,4 +1,6 @@
 // A slip that is read, for a caller in another language: its pairs in lent room, the values in lent places.
+#![tactic(auto)]
+
 ghost use Rattle.std.specs.Prelude.{◌≡◌, false};
 ghost use Rattle.slip.specs.Slip.{slip_in};
 ghost use Rattle.hand.specs.Places.{Fills};

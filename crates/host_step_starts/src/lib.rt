@@ -1,4 +1,6 @@
 // The start of stepping through a track for a caller in another language: a position as numbers in lent places.
+#![tactic(auto)]
+
 ghost use Rattle.host_step_starts.specs.Hands.{StartHanded, HandsStart};
 
 use hand::hand;

@@ -1,4 +1,6 @@
 // Stepping through a track for a caller in another language: the position as numbers in lent places, and samples in lent places or room.
+#![tactic(auto)]
+
 ghost use Rattle.std.specs.Prelude.{◌≤◌, length};
 ghost use Rattle.host_steps.specs.Hands.{Advanced, HandsStep, HandsSteps};
 

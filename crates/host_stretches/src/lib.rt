@@ -1,4 +1,6 @@
 // The byte ranges of a stretch of media time, for a caller in another language: pairs in lent room, the values in lent places.
+#![tactic(auto)]
+
 ghost use Rattle.pairs.specs.Pairs.{flat};
 ghost use Rattle.structure.specs.Source.{whole_file};
 ghost use Rattle.stretch.specs.Stretches.{stretch_pairs};

@@ -1,4 +1,6 @@
 // The sample at a media time, and movie time to media time, for a caller in another language: the values in lent places.
+#![tactic(auto)]
+
 ghost use Rattle.hand.specs.Places.{Answers};
 ghost use Rattle.time_questions.specs.Times.{number_numbers, time_numbers};
 ghost use Rattle.host_times.specs.Numbers.{of_sample_at, of_media_time};

@@ -1,4 +1,6 @@
 // The walk over a file's top-level atoms for a caller in another language: its state in lent places.
+#![tactic(auto)]
+
 ghost use Rattle.std.specs.Prelude.{◌≡◌};
 ghost use Rattle.hand.specs.Places.{Answers};
 ghost use Rattle.host_top_level.specs.Numbers.{walk_in, of_step};

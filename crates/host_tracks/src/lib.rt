@@ -1,4 +1,6 @@
 // The track list, for a caller in another language: the list in lent room, how many tracks in a lent place.
+#![tactic(auto)]
+
 ghost use Rattle.track_list.specs.TrackList.{track_lines};
 ghost use Rattle.hand.specs.Places.{Fills};
 ghost use Rattle.host_tracks.specs.Numbers.{of_track_list};

@@ -1,4 +1,6 @@
 // The byte ranges of a stretch of media time with offsets of 64 bits, by either way in, for a caller in another language.
+#![tactic(auto)]
+
 ghost use Rattle.pairs.specs.Pairs.{flat};
 ghost use Rattle.stretch.specs.Stretches.{stretch_pairs};
 ghost use Rattle.hand.specs.Places.{Fills};

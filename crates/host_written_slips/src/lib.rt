@@ -1,4 +1,6 @@
 // The slip of a stretch of media time, for a caller in another language: its bytes in lent room, its length in a lent place.
+#![tactic(auto)]
+
 ghost use Rattle.slip_writing.specs.Slips.{slip_of_stretch};
 ghost use Rattle.hand.specs.Places.{Fills};
 ghost use Rattle.hand.specs.Times.{media};

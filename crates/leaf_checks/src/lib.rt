@@ -1,4 +1,6 @@
 // Sizes of profiles and of the descriptions of pictures: what refusal 5 asks beside the size of each read leaf, which the walk over the tree looks at.
+#![tactic(auto)]
+
 ghost use Rattle.std.specs.Prelude.{◌≡◌};
 ghost use Rattle.leaf_checks.specs.LeafChecks.{profile_ok, short_video_description, wrong_track_size};
 ghost use Rattle.structure.specs.Track.{profile_of};

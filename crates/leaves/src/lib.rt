@@ -1,4 +1,6 @@
 // The read leaves of a movie: which atoms they are, their version and their size.
+#![tactic(auto)]
+
 ghost use Rattle.std.specs.Prelude.{◌≡◌, cond, ◌≤◌, length};
 ghost use Rattle.leaves.specs.Leaves.{form_of, skipped, version_ok, holds_entries, size_entry, filled_with, sized_entries, size_ok, leaf_ok};
 
@@ -7,7 +9,7 @@ use bigendian::{byte_at, u32_at};
 
 // How an atom's size is judged: not at all, an atom that is skipped; a number of bytes; 16 bytes and entries of one width;
 // stsz; 16 bytes and entries that state their own size, at least so many bytes each.
-#[derive(Drop)]
+#[derive(Clone, Copy)]
 pub enum Form {
     Skipped,
     Exactly(usize),
@@ -18,7 +20,7 @@ pub enum Form {
 }
 
 // What is asked of a read leaf.
-#[derive(Drop)]
+#[derive(Clone, Copy)]
 pub enum LeafRule {
     Version,
     Size,

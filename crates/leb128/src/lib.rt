@@ -1,4 +1,6 @@
 // Numbers in groups of seven bits, lowest group first, the top bit set on all but the last, in the fewest bytes: unsigned LEB128.
+#![tactic(auto)]
+
 pub mod number;
 pub mod write;
 

@@ -5,7 +5,7 @@ ghost use Rattle.leb128.specs.Joining.{joined};
 ghost use Rattle.leb128.specs.declared.number.NumberRead.TheVariants.{Good};
 
 // What stands at a place: a number and the place past it, a broken one and its first byte, or one cut short and the end of the bytes.
-#[derive(Drop)]
+#[derive(Clone, Copy)]
 pub enum NumberRead {
     Good(u64, usize),
     Broken(usize),

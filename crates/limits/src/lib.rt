@@ -1,4 +1,6 @@
 // How many tracks, samples, chunks, edits, descriptions, data references and records there are: refusal 6.
+#![tactic(auto)]
+
 ghost use Rattle.std.specs.Prelude.{◌≡◌, ◌||◌, ltb};
 ghost use Rattle.bigendian.specs.BigEndian.{u32_at};
 ghost use Rattle.structure.specs.Track.{profile_of};

@@ -1,5 +1,7 @@
 // The listing program of document 01: reads a film of up to 65,536 bytes from standard input and prints the list of its tracks, or `refused` and a number,
 // or `too long`. With arguments it lists each file that they name, one after the other; `-` is standard input.
+#![tactic(auto)]
+
 mod show;
 
 use structure::source::Source;

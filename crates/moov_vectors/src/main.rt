@@ -1,5 +1,7 @@
 // Asks films by their moov atom alone, with the length of their file, and writes a line for each question. Each file that its arguments name is a film: the
 // length of its file in 64 bits, and then its moov. The films and the lines are those that the reference in host/reference writes.
+#![tactic(auto)]
+
 mod ask;
 mod show;
 

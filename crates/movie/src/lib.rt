@@ -1,4 +1,6 @@
 // A film: refusals 1 to 13 and 19 as one answer.
+#![tactic(auto)]
+
 mod tracks;
 
 ghost use Rattle.std.specs.Prelude.{◌≡◌, ◌<◌, ◌^◌, length};

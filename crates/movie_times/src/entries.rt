@@ -40,7 +40,7 @@ fn put_edits(part: &[u8], room: &mut [i64])
 }
 
 // The answer of `stored_edits`: how many entries; or the number of a refusal.
-#[derive(Drop)]
+#[derive(Clone, Copy)]
 pub enum EditsAnswer {
     Entries(usize),
     Refused(u32),

@@ -6,7 +6,7 @@ use places::part_of;
 use structure::source::Source;
 
 // The answer of `movie_header`: the movie's time scale and stored duration; or the number of a refusal.
-#[derive(Drop)]
+#[derive(Clone, Copy)]
 pub enum MovieAnswer {
     Movie(u32, u32),
     Refused(u32),

@@ -1,5 +1,7 @@
 // Writes, for each film that its arguments name, the number, 1 to 13 or 19, with which the crate movie refuses it, 0 for none, by default and where strict
 // reading is asked for, and what the list of its tracks answers and puts into rooms of several lengths. The films and the lines are those that the reference in host/reference writes.
+#![tactic(auto)]
+
 mod rooms;
 mod show;
 

@@ -1,4 +1,6 @@
 // The byte ranges of some samples, put into lent 32-bit numbers.
+#![tactic(auto)]
+
 ghost use Rattle.std.specs.Prelude.{◌≡◌, [], ◌∷◌, ◌+◌, ◌≤◌, ◌<◌, ◌^◌, length};
 ghost use Rattle.std.proofs.lemmas.List.Edits.{sets};
 ghost use Rattle.lists.specs.Lists.{sum};
@@ -141,7 +143,7 @@ fn put_listed(
 }
 
 // How many pairs were put, and their lengths, added.
-#[derive(Drop)]
+#[derive(Clone, Copy)]
 pub struct PairsPut {
     pub pairs: usize,
     pub bytes: u64,

@@ -1,11 +1,13 @@
 // The cursor over a slip's numbers, document 01's "reading place": it moves past each number and counts the numbers read.
+#![tactic(auto)]
+
 ghost use Rattle.std.specs.Prelude.{◌≡◌};
 ghost use Rattle.number_cursor.specs.Cursors.{counted_up, step_at};
 
 use leb128::{NumberRead, number_at};
 
 // A place in the bytes, how many numbers were read before it, and whether numbers may be 2^32 or more.
-#[derive(Drop)]
+#[derive(Clone, Copy)]
 pub struct Cursor {
     pub at: usize,
     pub count: usize,
@@ -13,7 +15,7 @@ pub struct Cursor {
 }
 
 // What was read at a cursor, and the cursor after it.
-#[derive(Drop)]
+#[derive(Clone, Copy)]
 pub struct Step {
     pub cursor: Cursor,
     pub read: NumberRead,

@@ -1,4 +1,6 @@
 // The values of numbers that stand one after the other, stored in lent room.
+#![tactic(auto)]
+
 ghost use Rattle.std.specs.Prelude.{◌≡◌, ◌++◌, ◌≤◌, length, drop};
 ghost use Rattle.number_values.specs.Values.{value_of, next_of, values_from};
 

@@ -1,4 +1,6 @@
 // A track opened once: where its tables stand and its numbers, held by value. A question by it does not judge the film again, and walks over no atoms.
+#![tactic(auto)]
+
 ghost use Rattle.opened.specs.Opened.{OpenAnswers, SampleBy, NumberBy, TimeBy};
 
 use bigendian::u32_at;
@@ -13,7 +15,7 @@ use track::{media_total, scale_in};
 
 // The sample tables of the track and its edit list, the numbers of its samples and chunks, the media's and the movie's time scale, and the total of the
 // sample durations.
-#[derive(Drop)]
+#[derive(Clone, Copy)]
 pub struct Opened {
     pub tables: Tables,
     pub elst: Part,
@@ -25,7 +27,7 @@ pub struct Opened {
 }
 
 // The answer of `Opened::of`: the handle; or the number of a refusal.
-#[derive(Drop)]
+#[derive(Clone, Copy)]
 pub enum Opening {
     Track(Opened),
     Refused(u32),

@@ -1,4 +1,6 @@
 // A position in a track by its handle: the film is not judged again, and no atoms are walked over.
+#![tactic(auto)]
+
 ghost use Rattle.opened_steps.specs.Steps.{StartBy};
 
 use opened::Opened;

@@ -1,4 +1,6 @@
 // A stretch by the handle of a track: the film is not judged again, and no atoms are walked over.
+#![tactic(auto)]
+
 ghost use Rattle.opened_stretches.specs.Stretches.{RefusalBy, StretchBy};
 
 use edits::MediaTime;

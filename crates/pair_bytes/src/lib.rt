@@ -1,4 +1,6 @@
 // The two numbers of a pair as a slip writes them: measured, and written.
+#![tactic(auto)]
+
 ghost use Rattle.std.specs.Prelude.{◌≡◌, ◌||◌, [], ◌∷◌, ◌+◌, ◌≤◌, ◌<◌, ◌^◌, length};
 ghost use Rattle.slip_head.specs.Bytes.{any_wide};
 ghost use Rattle.pair_bytes.specs.Measures.{pair_bytes, measured_of, Wrote};
@@ -7,7 +9,7 @@ use leb128::{number_len, store_number};
 use pairs::Pair;
 
 // How many bytes some pairs are written in, and whether one of their numbers is 2^32 or more.
-#[derive(Drop)]
+#[derive(Clone, Copy)]
 pub struct Measured {
     pub bytes: usize,
     pub wide: bool,

@@ -1,4 +1,6 @@
 // Whether the byte ranges of some samples are numbers of 64 bits, by the bytes of the tables, whatever these are.
+#![tactic(auto)]
+
 ghost use Rattle.std.specs.Prelude.{◌≡◌, ◌<◌, ◌^◌};
 ghost use Rattle.pair_checks.specs.Fits.{pairs_fit, start_fits};
 

@@ -1,6 +1,8 @@
 // The byte ranges of some samples, chunk after chunk: one pass over the entries of stsc, stsz and the chunk offsets that they touch. Samples are named by their index,
 // `from` up to, not including, `stop`. The functions that walk have a place by value, so that each use of the pairs is a loop of its own and no list of
 // pairs is kept.
+#![tactic(auto)]
+
 pub mod listed;
 
 ghost use Rattle.std.specs.Prelude.{◌≡◌, ◌||◌, eqb, leb, ◌+◌, ◌*◌, ◌-◌, ◌≤◌, ◌<◌, ◌^◌, min, max, length, get_or, take, drop};
@@ -16,14 +18,14 @@ use chunks::{ChunkCursor, pass, ready, seek};
 use words::{bytes_between, chunk_offset, first_sum, is_long, number_in};
 
 // A range of bytes of the file.
-#[derive(Drop)]
+#[derive(Clone, Copy)]
 pub struct Pair {
     pub offset: u64,
     pub length: u64,
 }
 
 // A place before a chunk: a cursor in stsc, the chunk's index, and the index of its first sample.
-#[derive(Drop)]
+#[derive(Clone, Copy)]
 pub struct ChunkPosition {
     pub cursor: ChunkCursor,
     pub chunk: u64,
@@ -207,7 +209,7 @@ pub fn common_at_once(stsz: &[u8], offsets: &[u8], p: ChunkPosition, from: u32, 
 
 // What whole chunks of a run have in common: whether their offsets have 64 bits, how many samples each has, whether the sizes of these are listed, and if
 // not, how many bytes each has.
-#[derive(Drop)]
+#[derive(Clone, Copy)]
 pub struct WholeRun {
     pub long: bool,
     pub listed: bool,

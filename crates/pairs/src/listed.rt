@@ -11,7 +11,7 @@ use chunks::{ChunkCursor, pass, ready};
 use words::sum_words;
 
 // A place that a walk came to, with the next place of the room and the bytes of the pairs put.
-#[derive(Drop)]
+#[derive(Clone, Copy)]
 pub struct Moved {
     pub place: ChunkPosition,
     pub at: usize,

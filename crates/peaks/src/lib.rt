@@ -1,5 +1,7 @@
 // The highest rate over a second: one pass over stts and stsz with two positions, the ends of a window, that only move forward. The tables are read
 // as they stand in the file and never expanded.
+#![tactic(auto)]
+
 ghost use Rattle.std.specs.Prelude.{◌≡◌, true, ◌+◌, ◌-◌, ◌*◌, ◌≤◌, ◌<◌, length};
 ghost use Rattle.runs.specs.Runs.{per_sample};
 ghost use Rattle.words.specs.Words.{words_in, sizes};
@@ -17,14 +19,14 @@ use windows::{
 };
 
 // The highest rate, the number of the first sample whose run has it, from 1, and how many samples that run has; or that it cannot be computed.
-#[derive(Drop)]
+#[derive(Clone, Copy)]
 pub enum Peak {
     Highest { rate: u32, first: u32, count: u32 },
     NotComputed,
 }
 
 // How far a window slides, and its bytes there.
-#[derive(Drop)]
+#[derive(Clone, Copy)]
 pub struct Slide {
     pub moved: u32,
     pub bytes: u64,
@@ -128,7 +130,7 @@ fn moved_by(stts: &[u8], w: Window, s: Slide) -> Window
 
 // A window that slides entry by entry: how many samples it has moved, the durations of the sample at its tail and of the one at its head, how long it lasts,
 // and its bytes as what entered without what left.
-#[derive(Drop)]
+#[derive(Clone, Copy)]
 pub struct EntrySlide {
     pub moved: u32,
     pub out: u32,

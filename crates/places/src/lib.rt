@@ -1,4 +1,5 @@
 // Parts of what is lent, by value: where a part begins and how long it is. All parts of a track are found in one walk over each container.
+#![tactic(auto)]
 
 pub mod moov;
 pub mod tables;
@@ -14,7 +15,7 @@ use atoms::{body_of, kinds, size_in};
 use bigendian::{after, u32_at};
 
 // It need not lie in what is lent: then it is what there is of it, or nothing.
-#[derive(Drop)]
+#[derive(Clone, Copy)]
 pub struct Part {
     pub at: usize,
     pub len: usize,

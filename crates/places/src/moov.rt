@@ -9,20 +9,20 @@ use atoms::{kinds, size_in};
 use bigendian::u32_at;
 
 // The header of a movie and its own profile, empty where it has none.
-#[derive(Drop)]
+#[derive(Clone, Copy)]
 pub struct MovieHeads {
     pub mvhd: Part,
     pub profile: Part,
 }
 
 // The first traks of a movie, up to 16, and how many there are: 17 where there are more than 16.
-#[derive(Drop)]
+#[derive(Clone, Copy)]
 pub struct Traks {
     pub count: usize,
     pub of: [Trak; 16],
 }
 
-#[derive(Drop)]
+#[derive(Clone, Copy)]
 pub struct Movie {
     pub heads: MovieHeads,
     pub traks: Traks,

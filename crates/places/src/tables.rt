@@ -9,7 +9,7 @@ use atoms::{kinds, size_in};
 use bigendian::u32_at;
 
 // The part of each, its header included; empty where it is absent. The offsets are those of stco, and where there is none those of co64.
-#[derive(Drop)]
+#[derive(Clone, Copy)]
 pub struct Tables {
     pub stts: Part,
     pub ctts: Part,
@@ -20,7 +20,7 @@ pub struct Tables {
 }
 
 // Those found so far in an stbl, and its descriptions.
-#[derive(Drop)]
+#[derive(Clone, Copy)]
 pub(crate) struct Found {
     pub stsd: Part,
     pub stts: Part,

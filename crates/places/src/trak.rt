@@ -10,7 +10,7 @@ use atoms::{kinds, size_in};
 use bigendian::{byte_at, u32_at};
 
 // Each with its header, and empty where it is absent, as places in the body of the trak. The offsets are those of stco, and where there is none those of co64.
-#[derive(Drop)]
+#[derive(Clone, Copy)]
 pub struct Parts {
     pub tkhd: Part,
     pub profile: Part,
@@ -28,14 +28,14 @@ pub struct Parts {
 }
 
 // The body of a trak, as a place in what is lent, and its parts.
-#[derive(Drop)]
+#[derive(Clone, Copy)]
 pub struct Trak {
     pub body: Part,
     pub parts: Parts,
 }
 
 // The first atoms of three kinds.
-#[derive(Drop)]
+#[derive(Clone, Copy)]
 pub(crate) struct Three {
     pub a: Part,
     pub b: Part,
@@ -97,7 +97,7 @@ fn find_three(lent: &[u8], p: Part, parent: u32, a: u32, b: u32, c: u32) -> Thre
 }
 
 // What the walk over a trak has found: the first atoms of three kinds, and the first prfl before the tkhd.
-#[derive(Drop)]
+#[derive(Clone, Copy)]
 pub(crate) struct Heads {
     pub tkhd: Part,
     pub mdia: Part,

@@ -1,4 +1,6 @@
 // A position of the stepper as 29 numbers, in the order of its structs' fields, for a caller in another language.
+#![tactic(auto)]
+
 ghost use Rattle.std.specs.Prelude.{◌≡◌, ◌<◌};
 ghost use Rattle.position_numbers.specs.Position.{run_at, cursor_at, moving_at, stepper_in, HandsPosition};
 

@@ -1,4 +1,6 @@
 // The places in all tables of a track before the sample with an index, whatever the tables are.
+#![tactic(auto)]
+
 ghost use Rattle.std.specs.Prelude.{◌≡◌, ◌<◌, ◌^◌, length};
 ghost use Rattle.position_seeks.specs.Seeks.{sought_moving};
 

@@ -10,7 +10,7 @@ use words::{HEAD, is_long, number_in, span};
 
 // How many chunks are begun; how many samples of the last of them are still to come, and the offset of the next of these; a cursor before the next chunk,
 // which still has the description ID of the one begun.
-#[derive(Drop)]
+#[derive(Clone, Copy)]
 pub struct Dealt {
     pub cursor: ChunkCursor,
     pub chunk: u32,
@@ -19,7 +19,7 @@ pub struct Dealt {
 }
 
 // What the head of stco or co64 says: how many chunks there are, and whether their offsets have 64 bits.
-#[derive(Drop)]
+#[derive(Clone, Copy)]
 pub struct OffsetHead {
     pub chunks: u32,
     pub long: bool,
@@ -36,7 +36,7 @@ pub fn offset_head(offsets: &[u8]) -> OffsetHead
 }
 
 // The place of a sample in a chunk begun; no more where there is none, or where its offset could not grow.
-#[derive(Drop)]
+#[derive(Clone, Copy)]
 pub enum Ahead {
     At(Dealt),
     End,

@@ -7,7 +7,7 @@ use super::dealt::{Ahead, Dealt, OffsetHead, dealt_pass, dealt_ready};
 use runs::cursor::{RunCursor, run_pass, run_ready};
 
 // The sample's index and decode time, and its places in stts, ctts, the chunks and stss.
-#[derive(Drop)]
+#[derive(Clone, Copy)]
 pub struct Moving {
     pub index: u32,
     pub decode: u64,
@@ -28,7 +28,7 @@ impl Moving {
 
 // The places with the entries read that the sample needs; no more where none lies ahead, or where its offset or decode time could not grow. Of a position
 // that stands in its own film that is so past the last sample alone.
-#[derive(Drop)]
+#[derive(Clone, Copy)]
 pub enum Readied {
     At(Moving),
     End,

@@ -23,7 +23,7 @@ pub fn sync_seek(stss: &[u8], index: u32) -> usize
 }
 
 // Whether a number stands at a place, and the place past it if so.
-#[derive(Drop)]
+#[derive(Clone, Copy)]
 pub struct SyncStep {
     pub listed: bool,
     pub at: usize,

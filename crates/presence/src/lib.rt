@@ -1,11 +1,13 @@
 // Which atoms a body must have, and which at most once: refusal 3. `wide` is true of a moov alone, in which co64 may stand for stco.
+#![tactic(auto)]
+
 ghost use Rattle.std.specs.Prelude.{◌≡◌, ◌&&◌};
 ghost use Rattle.presence.specs.Counts.{one_more, nothing_counted, with_kind, offsets_by, tables_by, present_by};
 
 use atoms::kinds;
 
 // How many atoms of each kind there are among those seen of a body; 2 stands for two or more.
-#[derive(Drop)]
+#[derive(Clone, Copy)]
 pub struct Counts {
     pub moov: u8,
     pub mvhd: u8,

@@ -1,4 +1,6 @@
 // Whether a track's own profile is true.
+#![tactic(auto)]
+
 ghost use Rattle.std.specs.Prelude.{◌≡◌};
 ghost use Rattle.profile_checks.specs.Checks.{to_fault, Checks};
 
@@ -8,7 +10,7 @@ use questions::Ask;
 use structure::source::Source;
 
 // The answer of `check_profile`: that the profile is true; the place of the first record at fault, from 1; or the number of a refusal.
-#[derive(Drop)]
+#[derive(Clone, Copy)]
 pub enum ProfileCheckAnswer {
     Yes,
     Fault(usize),

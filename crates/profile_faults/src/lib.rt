@@ -1,4 +1,6 @@
 // The first record at fault of a track's own profile: each against the feature or the formats that it speaks of.
+#![tactic(auto)]
+
 ghost use Rattle.std.specs.Prelude.{◌≡◌};
 ghost use Rattle.places.specs.Places.{AreParts};
 ghost use Rattle.track.specs.Track.{track_of};

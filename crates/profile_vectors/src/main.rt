@@ -1,5 +1,7 @@
 // Asks films whether the profiles of their tracks are true, and writes a line for each ID from 0 to 9. Its arguments are the films.
 // These and the lines are those that the reference in host/reference writes.
+#![tactic(auto)]
+
 use profile_checks::{ProfileCheckAnswer, check_profile};
 use structure::source::Source;
 

@@ -1,4 +1,6 @@
 // The stored profile of a movie or of one of its tracks, in lent 32-bit numbers.
+#![tactic(auto)]
+
 ghost use Rattle.std.specs.Prelude.{◌≡◌, [], ◌∷◌, ◌+◌, ◌*◌, ◌≤◌, ◌<◌, ◌^◌, length};
 ghost use Rattle.std.proofs.lemmas.List.Edits.{sets};
 ghost use Rattle.profiles.specs.Asking.{AsksProfile};
@@ -54,7 +56,7 @@ fn put_records(profile: &[u8], room: &mut [u32])
 }
 
 // The refusal before the room is looked at, and where there is none the profile that is asked for; empty where there is none.
-#[derive(Drop)]
+#[derive(Clone, Copy)]
 struct AskedProfile {
     pub refusal: u32,
     pub profile: Part,
@@ -90,7 +92,7 @@ pub fn id_refusal(lent: &[u8], source: Source, id: u32) -> u32
 }
 
 // The answer of `stored_profile`: how many records; or the number of a refusal.
-#[derive(Drop)]
+#[derive(Clone, Copy)]
 pub enum ProfileAnswer {
     Records(usize),
     Refused(u32),

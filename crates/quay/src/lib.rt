@@ -1,4 +1,6 @@
 // Whether a film keeps the quay film profile: the lowest rule that it breaks, and the first track that breaks it.
+#![tactic(auto)]
+
 ghost use Rattle.std.specs.Prelude.{◌≡◌, cond, eqb};
 ghost use Rattle.structure.specs.Track.{subtype_of};
 ghost use Rattle.structure.specs.Movie.{moov_of, tracks_of};
@@ -51,7 +53,7 @@ fn has_other_tracks(lent: &[u8], traks: Traks) -> bool
 }
 
 // The lowest rule that a track breaks, and the ID of the first track that breaks it; both 0 where none does.
-#[derive(Drop)]
+#[derive(Clone, Copy)]
 struct Broken {
     rule: u32,
     id: u32,
@@ -87,7 +89,7 @@ fn lowest_rule(lent: &[u8], traks: Traks, movie: u32) -> Broken
 
 // The answer of `check_quay`: yes; or the lowest rule that is broken, from 1, and the ID of the first track that breaks it, 0 for the
 // first rule; or the number of a refusal.
-#[derive(Drop)]
+#[derive(Clone, Copy)]
 pub enum QuayAnswer {
     Yes,
     Breaks(u32, u32),

@@ -1,4 +1,6 @@
 // Rules of the quay film profile, each of the tables that it speaks of, in one pass.
+#![tactic(auto)]
+
 ghost use Rattle.std.specs.Prelude.{◌≡◌, true, replicate};
 ghost use Rattle.runs.specs.Runs.{per_sample};
 ghost use Rattle.words.specs.Words.{words_in, sizes, syncs_agree};

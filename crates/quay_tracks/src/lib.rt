@@ -1,4 +1,6 @@
 // The lowest rule of the quay film profile that a track breaks.
+#![tactic(auto)]
+
 ghost use Rattle.std.specs.Prelude.{◌≡◌};
 ghost use Rattle.structure.specs.ByTracks.{of_track};
 ghost use Rattle.places.specs.Places.{AreParts};

@@ -1,6 +1,8 @@
 // Asks films whether they keep the quay film profile, and writes a line for each. Each file that its arguments name is a film: the
 // length of its file in 64 bits, and then its moov; or 0, and then the whole file. The films and the lines are those that the reference
 // in host/reference writes.
+#![tactic(auto)]
+
 use bigendian::{after, u64_at};
 use quay::{QuayAnswer, check_quay};
 use structure::source::Source;

@@ -1,5 +1,7 @@
 // Puts questions to films, and writes a line for each with all that is answered. Its arguments are files in pairs: a film, and the questions that it is
 // asked. The films, the questions and the lines are those that the reference in host/reference writes.
+#![tactic(auto)]
+
 mod answers;
 mod rooms;
 mod show;

@@ -1,4 +1,6 @@
 // What every question of one track begins with, and the questions of its samples: a sample by its number, and its bytes.
+#![tactic(auto)]
+
 pub mod samples;
 
 ghost use Rattle.std.specs.Prelude.{◌≡◌};
@@ -16,7 +18,7 @@ use track::id_in;
 
 // The refusal that is given before the question itself is looked at: the film's, or 14; 0 where there is none. Then the movie's time scale, and the trak of
 // the track that is asked; with a refusal 0 and the empty trak.
-#[derive(Drop)]
+#[derive(Clone, Copy)]
 pub struct Ask {
     pub refusal: u32,
     pub movie: u32,

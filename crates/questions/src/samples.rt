@@ -11,7 +11,7 @@ use structure::source::Source;
 use words::{is_sync, size_of};
 
 // What the tables say of a sample.
-#[derive(Drop)]
+#[derive(Clone, Copy)]
 pub struct Sample {
     pub decode: u64,
     pub duration: u32,
@@ -24,7 +24,7 @@ pub struct Sample {
 }
 
 // The answer of `sample_by_number`: the sample; or the number of a refusal.
-#[derive(Drop)]
+#[derive(Clone, Copy)]
 pub enum SampleAnswer {
     Found(Sample),
     Refused(u32),

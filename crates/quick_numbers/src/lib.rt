@@ -1,4 +1,6 @@
 // Numbers of at most four groups, read without a loop. What they read is what the crate leb128 reads, so loops over many numbers take this way first.
+#![tactic(auto)]
+
 ghost use Rattle.std.specs.Prelude.{◌≡◌, ◌<◌, length, get_or};
 ghost use Rattle.quick_numbers.specs.Quick.{quick_of};
 
@@ -10,7 +12,7 @@ fn byte_at(bytes: &[u8], at: usize) -> u64
 }
 
 // A number and how many bytes it has; 0 bytes where there is none.
-#[derive(Drop)]
+#[derive(Clone, Copy)]
 pub struct QuickNumber {
     pub value: u64,
     pub len: usize,

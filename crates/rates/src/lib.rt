@@ -1,4 +1,6 @@
 // Quotients rounded up, of products that are found out to be 2^64 or more before they are made.
+#![tactic(auto)]
+
 ghost use Rattle.std.specs.Prelude.{◌≡◌, ◌*◌, ◌<◌};
 ghost use Rattle.rates.specs.Rates.{Least, product_of, rate_of};
 
@@ -17,7 +19,7 @@ pub fn ceiling(n: u64, d: u64) -> u64
 }
 
 // A product, or that it would be 2^64 or more.
-#[derive(Drop)]
+#[derive(Clone, Copy)]
 pub enum Product {
     Exact(u64),
     TooLarge,
@@ -36,7 +38,7 @@ fn multiply(a: u64, b: u64) -> Product
 }
 
 // The value of a feature, or that it cannot be computed.
-#[derive(Drop)]
+#[derive(Clone, Copy)]
 pub enum Feature {
     Value(u32),
     NotComputed,

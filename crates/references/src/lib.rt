@@ -1,4 +1,6 @@
 // The data references of a dref, and whether the samples of every description are in the film's own file.
+#![tactic(auto)]
+
 ghost use Rattle.std.specs.Prelude.{◌≡◌, [], get_or};
 ghost use Rattle.descriptions.specs.Descriptions.{descriptions};
 ghost use Rattle.references.specs.References.{references, is_this_file, names_this_file, all_in_this_file};

@@ -1,4 +1,6 @@
 // A film return as 83 numbers, in the order of its fields, for a caller in another language.
+#![tactic(auto)]
+
 ghost use Rattle.std.specs.Prelude.{◌≡◌, map, ◌+◌, ◌≤◌, ◌<◌, ◌^◌, length, take, drop};
 ghost use Rattle.std.proofs.lemmas.List.Edits.{sets};
 ghost use Rattle.return_numbers.specs.Numbers.{low, return_in, PutsReturn};

@@ -1,4 +1,6 @@
 // The totals of a film return, held by value, and what is added to them: a track, a file accepted, a file refused, another return.
+#![tactic(auto)]
+
 ghost use Rattle.std.specs.Prelude.{◌≡◌, ◌||◌, cond, ◌≤◌, ◌<◌, min, length, take, [], ◌∷◌};
 ghost use Rattle.return_totals.specs.Returns.{empty_return, empty_state, with_track, with_accepted, with_refused, slot_of, scales_in, return_of};
 ghost use Rattle.return_totals.specs.Following.{place_of, Sums, AddsUnits, Adds, Follows, SettlesAll, later_refusal, unchanged};
@@ -10,7 +12,7 @@ pub const MOST_SCALES: usize = 32;
 
 // Files accepted, files refused under each of the numbers 1 to 13 and 19, tracks, samples, bytes, and the media time scales met, each with its
 // tracks' totals added. Of the scales the first `count` are held.
-#[derive(Drop)]
+#[derive(Clone, Copy)]
 pub struct FilmReturn {
     pub accepted: u64,
     pub refused: [u64; 14],
@@ -40,7 +42,7 @@ impl FilmReturn {
 }
 
 // What a return counts of a track: its scale, its total, its samples and the bytes of all its sizes.
-#[derive(Drop)]
+#[derive(Clone, Copy)]
 pub struct TrackTotals {
     pub scale: u32,
     pub total: u64,
@@ -49,7 +51,7 @@ pub struct TrackTotals {
 }
 
 // What is added to four of the totals at once.
-#[derive(Drop)]
+#[derive(Clone, Copy)]
 struct Counts {
     accepted: u64,
     tracks: u64,
@@ -58,14 +60,14 @@ struct Counts {
 }
 
 // A return after a file: 0, or 20 or 21, and the totals.
-#[derive(Drop)]
+#[derive(Clone, Copy)]
 pub struct Filed {
     pub refusal: u32,
     pub totals: FilmReturn,
 }
 
 // A sum; where it would reach 2^64 that is said, and the first number stays.
-#[derive(Drop)]
+#[derive(Clone, Copy)]
 struct Sum {
     over: bool,
     sum: u64,

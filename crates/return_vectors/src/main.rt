@@ -1,5 +1,7 @@
 // Films filed in returns near their limits: totals of 2^64 - 1, and 31 and 32 scales. The films are the files that the arguments name; each is filed
 // in each state. Then returns joined near the same limits.
+#![tactic(auto)]
+
 mod show;
 
 use film_return::add_film;

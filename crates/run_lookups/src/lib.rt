@@ -1,4 +1,6 @@
 // Lookups in stts and ctts by their checkpoints: from the last one before the answer on.
+#![tactic(auto)]
+
 ghost use Rattle.std.specs.Prelude.{◌+◌, ◌^◌, ◌<◌};
 ghost use Rattle.run_lookups.specs.From.{TimingFrom, OffsetFrom, NumberFrom};
 

@@ -5,7 +5,7 @@ ghost use Rattle.runs.specs.Cursors.{start_run, readied_run, past_run};
 use bigendian::{after, u32_at};
 
 // How many samples remain of a run, the number that each of them has, and where the entries not yet read begin.
-#[derive(Drop)]
+#[derive(Clone, Copy)]
 pub struct RunCursor {
     pub at: usize,
     pub count: u32,

@@ -1,4 +1,6 @@
 // Tables of runs, stts and ctts, read as they stand in the file: one pass each, never expanded. A sample is named by its index from 0.
+#![tactic(auto)]
+
 pub mod cursor;
 
 ghost use Rattle.std.specs.Prelude.{◌≡◌, cond, ◌<◌, ◌^◌, length, replicate};
@@ -12,7 +14,7 @@ use bigendian::{after, i32_at, u32_at};
 use lists::Total;
 
 // Whether a table counts the samples, and if it does, the sum of one number for each: of stts the durations. If it does not, the sum is 0.
-#[derive(Drop)]
+#[derive(Clone, Copy)]
 pub struct CountedTotal {
     pub agrees: bool,
     pub total: u64,
@@ -84,14 +86,14 @@ pub fn total_duration(stts: &[u8]) -> Total
 }
 
 // Where a media time falls.
-#[derive(Drop)]
+#[derive(Clone, Copy)]
 pub enum Lookup {
     At(u64),
     Outside,
 }
 
 // What a lookup by time finds: the sample's index, the position of its entry from 1, its decode time and its duration.
-#[derive(Drop)]
+#[derive(Clone, Copy)]
 pub struct Hit {
     pub index: u64,
     pub entry: u32,
@@ -99,7 +101,7 @@ pub struct Hit {
     pub duration: u32,
 }
 
-#[derive(Drop)]
+#[derive(Clone, Copy)]
 pub enum Looked {
     Hit(Hit),
     Outside,
@@ -149,7 +151,7 @@ pub fn sample_at(stts: &[u8], t: u32) -> Lookup
 }
 
 // A sample's decode time and duration.
-#[derive(Drop)]
+#[derive(Clone, Copy)]
 pub struct Timing {
     pub start: u64,
     pub duration: u32,

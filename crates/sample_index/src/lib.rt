@@ -1,5 +1,7 @@
 // An index of a track in lent room, filled once: the checkpoints of stts, ctts and stsc, one for each 64 samples begun. A lookup by it starts at the
 // checkpoint before its answer.
+#![tactic(auto)]
+
 ghost use Rattle.std.specs.Prelude.{◌≡◌, ◌+◌, ◌*◌, ◌≤◌, ◌<◌, ◌^◌, length};
 ghost use Rattle.sample_index.specs.Index.{checkpoints_of, IndexInto, SampleByIndex, NumberByIndex};
 ghost use Rattle.sample_index.specs.Looked.{LookedUp};

@@ -1,4 +1,6 @@
 // The shape of a film: refusals 1 to 6.
+#![tactic(auto)]
+
 ghost use Rattle.std.specs.Prelude.{◌≡◌, length, ltb};
 ghost use Rattle.structure.specs.Rows.{of_whole};
 ghost use Rattle.structure.specs.ByTracks.{of_track};
@@ -106,7 +108,7 @@ fn track_refusal(trak: &[u8], parts: Parts, wide: bool) -> u32
 }
 
 // The traks of a movie, and the earliest refusal that a track gives by itself; 0 where there is none.
-#[derive(Drop)]
+#[derive(Clone, Copy)]
 struct Walked {
     pub refusal: u32,
     pub traks: Traks,
@@ -139,7 +141,7 @@ fn walk_traks(lent: &[u8], moov: Part, wide: bool) -> Walked
 }
 
 // What judging a film finds: its refusal, 0 where it has none, and then the parts of its movie; with a refusal the empty movie.
-#[derive(Drop)]
+#[derive(Clone, Copy)]
 pub struct Judged {
     pub refusal: u32,
     pub movie: Movie,

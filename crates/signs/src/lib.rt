@@ -1,4 +1,6 @@
 // What programs write of a signed number: its absolute value, after a minus where it is negative.
+#![tactic(auto)]
+
 ghost use Rattle.std.specs.Prelude.{◌≡◌, nat_abs};
 
 // Taken from -1 where it is negative, since the least number has no opposite.

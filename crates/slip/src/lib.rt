@@ -1,4 +1,6 @@
 // Slips, document 01's word for a receipt: which bytes of film belong to a track's media times a to b. This crate knows nothing of movies.
+#![tactic(auto)]
+
 pub mod any;
 
 ghost use Rattle.std.specs.Prelude.{false};
@@ -10,7 +12,7 @@ pub use slip_head::{Head, head_len, put_head};
 use slip_scan::{SlipScan, find_slip};
 
 // The answer of reading a slip: the slip's numbers; or refusal 17, the slip is malformed, with the place where it goes wrong; or 16, the room is shorter than its pairs.
-#[derive(Drop)]
+#[derive(Clone, Copy)]
 pub enum SlipRead {
     Accepted(Head),
     Malformed(usize),

@@ -1,4 +1,6 @@
 // Writes document 01's slip, reads it back, and has a damaged copy refused.
+#![tactic(auto)]
+
 use slip::{Head, SlipRead};
 
 fn text(s: &[u8]) {

@@ -1,4 +1,6 @@
 // The numbers of a slip, document 01's word for a receipt, before its pairs, written into lent bytes. A writer puts the pairs after them with `put_number`.
+#![tactic(auto)]
+
 ghost use Rattle.std.specs.Prelude.{◌≡◌, Bool, [], length};
 ghost use Rattle.leb128.specs.Numbers.{writes};
 ghost use Rattle.leb128.specs.Writing.{put_at, past_put};
@@ -7,7 +9,7 @@ ghost use Rattle.slip_head.specs.Bytes.{form_for, head_numbers};
 use leb128::{number_len, put_number};
 
 // A slip's numbers without its pairs: track ID, time scale, media times a to b, and the number of pairs.
-#[derive(Drop)]
+#[derive(Clone, Copy)]
 pub struct Head {
     pub id: u64,
     pub scale: u64,

@@ -1,4 +1,6 @@
 // The numbers of a slip, checked one after the other by document 01's rules for them.
+#![tactic(auto)]
+
 mod ends;
 
 ghost use Rattle.std.specs.Prelude.{◌≡◌, ◌≤◌};
@@ -38,7 +40,7 @@ fn rule_allows(i: usize, prev: u64, n: u64) -> bool
 }
 
 // Whether numbers were all there: the place past them, or the place of the first fault.
-#[derive(Drop)]
+#[derive(Clone, Copy)]
 pub enum Checked {
     All(usize),
     Stopped(usize),

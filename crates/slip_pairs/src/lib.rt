@@ -1,4 +1,6 @@
 // The numbers of the pairs as a slip writes them: measured, and written, one pair after the other.
+#![tactic(auto)]
+
 ghost use Rattle.std.specs.Prelude.{◌≡◌, ◌+◌, ◌≤◌, ◌<◌, ◌^◌, length};
 ghost use Rattle.words.specs.Words.{numbers_in, words_in, width_of};
 ghost use Rattle.leb128.specs.Numbers.{writes};

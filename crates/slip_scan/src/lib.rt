@@ -1,4 +1,6 @@
 // Stepping through a slip: its form, its head and its pairs.
+#![tactic(auto)]
+
 ghost use Rattle.std.specs.Prelude.{◌≡◌, ◌<◌};
 ghost use Rattle.leb128.specs.Reading.{more_of, top_of};
 ghost use Rattle.slip_scan.specs.Steps.{rest_in, wide_in, scan_in};
@@ -10,7 +12,7 @@ use slip_head::Head;
 use slip_numbers::{Checked, check_numbers, check_pairs};
 
 // A slip's head and the place where its pairs begin; or the place of the first fault.
-#[derive(Drop)]
+#[derive(Clone, Copy)]
 pub enum SlipScan {
     Slip(Head, usize),
     Malformed(usize),

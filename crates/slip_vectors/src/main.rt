@@ -1,5 +1,7 @@
 // Puts cases to the crates leb128 and slip, and writes a line for each with the whole answer. Each file that its arguments name is a case. The cases and
 // the lines are those that the reference in host/reference writes.
+#![tactic(auto)]
+
 mod reading;
 mod show;
 mod writing;

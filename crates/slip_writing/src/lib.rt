@@ -1,4 +1,6 @@
 // The slip of a stretch, into lent bytes.
+#![tactic(auto)]
+
 ghost use Rattle.std.specs.Prelude.{◌≡◌, ◌+◌, ◌≤◌, ◌<◌, ◌^◌, length};
 ghost use Rattle.pairs.specs.Pairs.{flat};
 ghost use Rattle.slip_head.specs.Bytes.{slip_bytes};
@@ -54,7 +56,7 @@ fn write_in(trak: &[u8], p: Parts, s: Span, out: &mut [u8], at: usize) -> usize
 }
 
 // The answer of `write_slip` and `write_slip_of`: the slip's length in bytes; or the number of a refusal.
-#[derive(Drop)]
+#[derive(Clone, Copy)]
 pub enum SlipAnswer {
     Written(usize),
     Refused(u32),

@@ -1,4 +1,6 @@
 // The samples of a stretch of a track, and their byte ranges in lent numbers of 32 bits.
+#![tactic(auto)]
+
 ghost use Rattle.std.specs.Prelude.{◌≡◌, ◌≤◌, ◌<◌, ◌*◌, ◌/◌, ◌^◌, leb, length};
 ghost use Rattle.std.proofs.lemmas.List.Edits.{sets};
 ghost use Rattle.lists.specs.Lists.{sum, holder};
@@ -17,14 +19,14 @@ use places::trak::Parts;
 use runs::Lookup;
 
 // Samples by their indices: from the first up to, not including, `stop`.
-#[derive(Drop)]
+#[derive(Clone, Copy)]
 pub struct Span {
     pub from: u32,
     pub stop: u32,
 }
 
 // What a stretch asks for: its samples; or the number of the refusal that is given before the room is looked at.
-#[derive(Drop)]
+#[derive(Clone, Copy)]
 pub enum Asked {
     Samples(Span),
     Refused(u32),

@@ -1,4 +1,6 @@
 // A step by the places in the tables: the sample that they stand before, and the places past it.
+#![tactic(auto)]
+
 ghost use Rattle.std.specs.Prelude.{◌≡◌, true, ◌<◌};
 ghost use Rattle.words.specs.Words.{size_head};
 ghost use Rattle.positions.specs.Moving.{may_move};
@@ -12,7 +14,7 @@ use questions::samples::{Sample, shifted};
 use words::{SizeHead, size_by, size_head};
 
 // What the heads of stsz and of the chunk offsets say, read once for many steps.
-#[derive(Drop)]
+#[derive(Clone, Copy)]
 pub struct Heads {
     pub sizes: SizeHead,
     pub offsets: OffsetHead,
@@ -28,7 +30,7 @@ pub fn heads_of(stsz: &[u8], offsets: &[u8]) -> Heads
 }
 
 // The sample and the places past it; no more where they stand before none, or where a number could not grow.
-#[derive(Drop)]
+#[derive(Clone, Copy)]
 pub enum Move {
     To(Sample, Moving),
     End,

@@ -2,6 +2,8 @@
 // IDs 1 to 3, is started at 0, 1, its middle, its last sample and one past it, and stepped to its end and once more; each position is then used on
 // the other film, of which only that the steps end is written. The films and the lines are those that the reference in host/reference writes. Each
 // start is made by a handle too: a line more says so where it is refused or stepped otherwise, or where its steps on the other film do not end.
+#![tactic(auto)]
+
 mod handles;
 mod show;
 

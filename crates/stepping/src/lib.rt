@@ -1,4 +1,6 @@
 // Stepping through a track: a position in each of its tables, held by value, made at a sample number, and moved past one sample after the other.
+#![tactic(auto)]
+
 pub mod parts;
 
 ghost use Rattle.stepping.specs.Stepping.{Starts, Steps};
@@ -15,7 +17,7 @@ use structure::source::Source;
 
 // The tables of the track, the number of its samples, and the places before the next of them. The sizes of headers and entries by which a step goes are
 // associated constants of the position (`Moving`) and of its cursors (`RunCursor`, `ChunkCursor`).
-#[derive(Drop)]
+#[derive(Clone, Copy)]
 pub struct Stepper {
     pub tables: Tables,
     pub samples: u32,
@@ -23,14 +25,14 @@ pub struct Stepper {
 }
 
 // The answer of `Stepper::at`: the position; or the number of a refusal.
-#[derive(Drop)]
+#[derive(Clone, Copy)]
 pub enum Start {
     At(Stepper),
     Refused(u32),
 }
 
 // The answer of `step`: the next sample, and the position past it; or done, where no sample follows.
-#[derive(Drop)]
+#[derive(Clone, Copy)]
 pub enum Step {
     Next(Sample, Stepper),
     Done,

@@ -1,4 +1,6 @@
 // The next samples of a track, put into lent room one after the other.
+#![tactic(auto)]
+
 ghost use Rattle.std.specs.Prelude.{◌≡◌, ◌+◌, ◌/◌, ◌≤◌, ◌<◌, ◌^◌, length};
 ghost use Rattle.std.proofs.lemmas.List.Edits.{sets};
 ghost use Rattle.questions.specs.Samples.{sample_values};
@@ -38,7 +40,7 @@ fn put_sample(x: Sample, room: &mut [i64], at: usize)
 }
 
 // How many samples are put, and the position past them.
-#[derive(Drop)]
+#[derive(Clone, Copy)]
 pub struct Reached {
     pub count: usize,
     pub position: Stepper,

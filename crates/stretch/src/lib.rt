@@ -1,4 +1,6 @@
 // The byte ranges of a stretch of media time, in lent numbers of 32 or 64 bits.
+#![tactic(auto)]
+
 pub mod tables;
 
 ghost use Rattle.std.specs.Prelude.{◌≡◌};
@@ -40,7 +42,7 @@ pub fn span_refusal(lent: &[u8], source: Source, id: u32, a: MediaTime, b: Media
 }
 
 // The answer of `stretch_of` and `stretch_wide`: how many pairs, and the total of bytes; or the number of a refusal.
-#[derive(Drop)]
+#[derive(Clone, Copy)]
 pub enum StretchAnswer {
     Pairs(usize, u64),
     Refused(u32),

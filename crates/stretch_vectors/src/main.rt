@@ -1,5 +1,7 @@
 // Asks films for stretches and slips, and writes a line for each with all that is answered. Its arguments are files in pairs: a film, and the questions
 // that it is asked. The films, the questions and the lines are those that the reference in host/reference writes.
+#![tactic(auto)]
+
 mod show;
 mod slips;
 mod stretches;
@@ -18,7 +20,7 @@ const QUESTION: usize = 20;
 const FILM: usize = 131584;
 
 // A question but for its kind.
-#[derive(Drop)]
+#[derive(Clone, Copy)]
 pub struct Ask {
     pub id: u32,
     pub a: u32,

@@ -1,4 +1,6 @@
 // How a film is lent, and refusals in the order of judging; the definitions of a movie and its tracks, for the crates above.
+#![tactic(auto)]
+
 pub mod source;
 
 ghost use Rattle.std.specs.Prelude.{◌≡◌, ◌||◌};

@@ -3,7 +3,7 @@ ghost use Rattle.std.specs.Prelude.{◌≡◌};
 ghost use Rattle.structure.specs.Source.{whole_file, moov_alone, strictly, length_of};
 
 // Whether refusal 11 is asked for; whether the lent bytes are a moov atom alone, and then the length of its file.
-#[derive(Drop)]
+#[derive(Clone, Copy)]
 pub struct Source {
     pub strict: bool,
     pub alone: bool,

@@ -1,5 +1,7 @@
 // Writes, for each film that its arguments name, the number from 1 to 6 with which the crate shape refuses it, 0 for none. The films and the
 // lines are those that the reference in host/reference writes.
+#![tactic(auto)]
+
 use libc::STDOUT_FILENO;
 use structure::source::Source;
 

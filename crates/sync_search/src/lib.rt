@@ -1,4 +1,6 @@
 // Whether a sample is sync, by halving stss, whose numbers rise.
+#![tactic(auto)]
+
 ghost use Rattle.std.specs.Prelude.{◌≡◌};
 ghost use Rattle.sync_search.specs.Search.{last_upto, Searched};
 

@@ -1,4 +1,6 @@
 // Places of tables, and other numbers held by value, as a caller in another language keeps them: one number after the other, 64 bits each.
+#![tactic(auto)]
+
 ghost use Rattle.std.specs.Prelude.{◌≡◌, ◌<◌, ◌^◌, get_or};
 ghost use Rattle.table_numbers.specs.Numbers.{low_at, part_at, tables_at};
 

@@ -43,7 +43,7 @@ pub const MEDIA_AT: u32 = 19;
 
 // A question, and the numbers of the whole line: where the sum of sizes begins; the number of samples dealt, or of descriptions; or the media's scale, the
 // movie's, and the total of the durations.
-#[derive(Drop)]
+#[derive(Clone, Copy)]
 pub struct Ask {
     pub question: u32,
     pub a: u32,

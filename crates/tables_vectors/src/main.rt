@@ -1,6 +1,8 @@
 // Puts questions to the functions on sample tables and edit lists, and writes a line for each with the answers. Each file that its arguments name is a set:
 // the atoms of an stbl and an elst one after the other, and among them atoms 'asks' with the questions. The sets and the lines are those that the reference
 // in host/reference writes.
+#![tactic(auto)]
+
 mod answers;
 mod asks;
 mod show;

@@ -1,4 +1,6 @@
 // The sample at a media time, and movie time to media time.
+#![tactic(auto)]
+
 ghost use Rattle.std.specs.Prelude.{◌≡◌};
 ghost use Rattle.edits.specs.Edits.{media_at};
 ghost use Rattle.time_questions.specs.Said.{number_said};
@@ -13,7 +15,7 @@ use structure::source::Source;
 use track::{media_total, scale_in};
 
 // The answer of `sample_at_time`: the sample's number and the position of its entry in stts, both from 1; or the number of a refusal.
-#[derive(Drop)]
+#[derive(Clone, Copy)]
 pub enum NumberAnswer {
     Number(u32, u32),
     Refused(u32),
@@ -54,7 +56,7 @@ pub fn sample_at_time(lent: &[u8], source: Source, id: u32, t: MediaTime) -> Num
 }
 
 // The answer of `media_time_of`: the media time that is shown; or that nothing is; or the number of a refusal.
-#[derive(Drop)]
+#[derive(Clone, Copy)]
 pub enum TimeAnswer {
     Shown(MediaTime),
     NothingShown,

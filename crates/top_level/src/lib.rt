@@ -1,4 +1,6 @@
 // The walk over a file's top-level atoms, header by header: the host reads up to 16 bytes at the place that it is told, and no more of the file.
+#![tactic(auto)]
+
 ghost use Rattle.std.specs.Prelude.{◌≡◌, ◌≤◌};
 ghost use Rattle.top_level.specs.Steps.{within, size_ahead, one_more, start, ended, stepped};
 
@@ -9,7 +11,7 @@ use bigendian::{u32_at, u64_at};
 pub const LONGEST: u64 = 9223372036854775807;
 
 // What is known of a file before the header at `place`: its length, how many moovs were met (2 for more than one), and of the last one its place and size.
-#[derive(Drop)]
+#[derive(Clone, Copy)]
 pub struct Walk {
     pub length: u64,
     pub place: u64,
@@ -19,7 +21,7 @@ pub struct Walk {
 }
 
 // Read on at the walk's place; or the moov's place and size; or the number of a refusal.
-#[derive(Drop)]
+#[derive(Clone, Copy)]
 pub enum Next {
     Read(Walk),
     Found(u64, u64),

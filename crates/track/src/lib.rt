@@ -1,4 +1,6 @@
 // The refusals of a track, 7 to 13 and 19, from the body of its trak.
+#![tactic(auto)]
+
 ghost use Rattle.std.specs.Prelude.{◌≡◌, ◌||◌, ◌<◌, ◌^◌, length, ltb, eqb};
 ghost use Rattle.structure.specs.ByTracks.{of_track};
 ghost use Rattle.atoms.specs.Kinds.{stts};

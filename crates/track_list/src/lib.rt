@@ -1,4 +1,6 @@
 // The list of a movie's tracks, in lent 32-bit numbers.
+#![tactic(auto)]
+
 ghost use Rattle.std.specs.Prelude.{◌≡◌, ◌+◌, ◌*◌, ◌≤◌, ◌<◌, length};
 ghost use Rattle.std.proofs.lemmas.List.Edits.{sets};
 ghost use Rattle.structure.specs.Movie.{moov_of, tracks_of};
@@ -19,7 +21,7 @@ use track::media_total;
 pub const LINE: usize = 8;
 
 // What the list says of a track.
-#[derive(Drop)]
+#[derive(Clone, Copy)]
 pub struct Line {
     pub id: u32,
     pub subtype: u32,
@@ -79,7 +81,7 @@ fn put_lines(lent: &[u8], traks: Traks, room: &mut [u32])
 }
 
 // The answer of `track_list`: how many tracks; or the number of a refusal.
-#[derive(Drop)]
+#[derive(Clone, Copy)]
 pub enum TrackList {
     Tracks(usize),
     Refused(u32),

@@ -1,4 +1,6 @@
 // The rules that hold of every body of the tree, all in one walk.
+#![tactic(auto)]
+
 ghost use Rattle.std.specs.Prelude.{◌≡◌, false};
 ghost use Rattle.tree.specs.Checks.{all_right, none_right, both_checks, leaf_checks, tree_checks, Unruled};
 
@@ -8,7 +10,7 @@ use leaves::{LeafRule, form_of, leaf_ok};
 use presence::{both, has_its_atoms, nothing_counted, with_kind};
 
 // Whether each rule holds: atoms fill a body exactly; it has the atoms that it must have; each read leaf has its version, and its size.
-#[derive(Drop)]
+#[derive(Clone, Copy)]
 pub struct Checks {
     pub filled: bool,
     pub present: bool,

@@ -1,5 +1,7 @@
 // The window of a pass over stts and stsz: the samples of the run that begins at its tail; and the best run so far. The tables are read as they stand in
 // the file and never expanded.
+#![tactic(auto)]
+
 ghost use Rattle.std.specs.Prelude.{◌≡◌, ◌+◌, ◌-◌, ◌≤◌, ◌<◌, length};
 ghost use Rattle.runs.specs.Runs.{per_sample};
 ghost use Rattle.words.specs.Words.{sizes};
@@ -11,7 +13,7 @@ use runs::cursor::{RunCursor, run_pass, run_ready, run_start};
 use words::size_of;
 
 // The samples from index `first` up to, not including, `stop`: how long they last, their bytes, and a cursor of stts at each end.
-#[derive(Drop)]
+#[derive(Clone, Copy)]
 pub struct Window {
     pub tail: RunCursor,
     pub head: RunCursor,
@@ -22,7 +24,7 @@ pub struct Window {
 }
 
 // A run with its rate: the number of its first sample, from 1, how many it has, their bytes, and how long they last.
-#[derive(Drop)]
+#[derive(Clone, Copy)]
 pub struct RatedRun {
     pub rate: u32,
     pub first: u32,
@@ -32,7 +34,7 @@ pub struct RatedRun {
 }
 
 // The best run so far, or that the rate of one cannot be computed.
-#[derive(Drop)]
+#[derive(Clone, Copy)]
 pub enum Best {
     Run(RatedRun),
     NotComputed,

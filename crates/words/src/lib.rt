@@ -1,5 +1,7 @@
 // Tables of numbers, read as they stand in the file: stsz, stco or co64, and stss. A sample and a chunk are named by their index from 0, a sync sample
 // by its number from 1. Past the last entry a size and an offset are 0.
+#![tactic(auto)]
+
 ghost use Rattle.std.specs.Prelude.{◌≡◌, ◌+◌, ◌*◌, ◌-◌, ◌/◌, ◌^◌, ◌≤◌, ◌<◌, min, eqb, length, get_or, take};
 ghost use Rattle.lists.specs.Lists.{sum, between};
 ghost use Rattle.atoms.specs.Atoms.{kind_of};
@@ -86,7 +88,7 @@ fn listed_between(part: &[u8], from: u32, to: u32) -> u64
 }
 
 // What the head of stsz says: the size that all samples have, or 0 where sizes are listed, and how many samples there are.
-#[derive(Drop)]
+#[derive(Clone, Copy)]
 pub struct SizeHead {
     pub common: u32,
     pub samples: u32,
