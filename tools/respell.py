@@ -82,8 +82,18 @@ def rust_words(text):
     return found | set(re.findall(r"\bfor ([a-z_]\w*)", text)) | set(re.findall(r"\b(?:const|static) (\w+)", text))
 
 
+def of_libraries(root):
+    """The names that some file takes from a library: they are the library's to spell."""
+    found = set()
+    for path in texts(root):
+        for module, items in re.findall(r"use ([^\s{;]+?)\.\{([^}]*)\}", read(path)):
+            if not module.startswith("Rattle.") or re.match(r"Rattle\.(?:std|core)\.", module):
+                found.update(it.split(" as ")[0].strip() for it in items.split(","))
+    return found
+
+
 def table_of(root):
-    names = declared_in(root)
+    names = declared_in(root) - of_libraries(root)
     table = {it: spelled(it) for it in names if spelled(it) != it}
     said = []
     changed = True

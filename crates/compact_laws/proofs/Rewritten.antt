@@ -7,7 +7,7 @@ use mathlib.Core.List.{List, [], ◌∷◌, ◌++◌, map}
 use mathlib.Core.Bool.{Bool, true, false}
 use native.Mathlib.Omega.{arith}
 use lib.ListN.{length, take, drop, length-append, length-drop, take-append-drop}
-use lib.Seq.{take-append-le, take_at, drop_at, take_take, length-take-le}
+use lib.Seq.{take-append-le, take_at, drop_at, take-take, length-take-le}
 use lib.Dec.{ltb}
 use borrow.Author.Tests.{ltb-true, ltb-false}
 use Rattle.atoms.specs.Pieces.{pieces_after}
@@ -85,7 +85,7 @@ module _ (p : ℕ) (g : List ℕ → List ℕ) where
         let hf = header_fits p s z e h in
         let hs = header_same s z (omega arith) in
         let q : take (header_of s) (written s) ≡ take (header_of s) s =
-        ap (take (header_of s)) written_next ∙ take-append-le (header_of s) (g a) t (omega (arith, la, hf)) ∙ rw hs at k.1 ∙ take_take (header_of s) z s hf in
+        ap (take (header_of s)) written_next ∙ take-append-le (header_of s) (g a) t (omega (arith, la, hf)) ∙ rw hs at k.1 ∙ take-take (header_of s) z s hf in
         let e' : z ≡ size_in p (written s) = e ∙ sym (size_same p (written s) s l q) in
         record {
           lengths = l;

@@ -221,9 +221,9 @@ free_twice n = go (ltb n 8) refl
     go true e = refl
     go false e = ap (λ x. x ∷ []) (other_table free (free_atom n) (kind_free n (ltb-false n 8 e)) (λ z. omega arith) (λ z. omega arith))
 
-map_append : (l m : List (List ℕ)) → map compact_table (l ++ m) ≡ map compact_table l ++ map compact_table m
-map_append [] m = refl
-map_append (a ∷ l) m = ap (λ x. compact_table a ∷ x) (map_append l m)
+map-append : (l m : List (List ℕ)) → map compact_table (l ++ m) ≡ map compact_table l ++ map compact_table m
+map-append [] m = refl
+map-append (a ∷ l) m = ap (λ x. compact_table a ∷ x) (map-append l m)
 
 opened : (s : List ℕ) → compact_tables s ≡ joined (map compact_table (atoms stbl s)) ++ free_atom (length s - length (joined (map compact_table (atoms stbl s))))
 unfolding compact_tables
@@ -245,7 +245,7 @@ module _ (s : List ℕ) (f : filled stbl s ≡ true) (t : Each Tight (atoms stbl
       let l = map compact_table (atoms stbl s) in
       let m = free_atoms (freed_in s) in
       ap (λ x. joined (map compact_table x)) (tables_atoms s f t b)
-      ∙ ap joined (map_append l m ∙ ap (λ x. x ++ map compact_table m) (all_twice (atoms stbl s)) ∙ ap (λ x. l ++ x) (free_twice (freed_in s)))
+      ∙ ap joined (map-append l m ∙ ap (λ x. x ++ map compact_table m) (all_twice (atoms stbl s)) ∙ ap (λ x. l ++ x) (free_twice (freed_in s)))
       ∙ sym (tables_joined s f t b)
 
   pub tables_twice : compact_tables (compact_tables s) ≡ compact_tables s

@@ -7,7 +7,7 @@ use native.Mathlib.Decide.{dec_lt}
 use native.Mathlib.Nat.{suc-mul, zero-mul}
 use native.Mathlib.Omega.{arith}
 use lib.ListN.{length, take, drop, length-drop, length-take}
-use lib.Seq.{take-nil, take_take, drop-drop}
+use lib.Seq.{take-nil, take-take, drop-drop}
 use Rattle.lists.specs.Entries.{rows_of}
 use Rattle.lists.proofs.Rows.{rows_none, rows_next}
 
@@ -45,7 +45,7 @@ module _ (w : ℕ) (p : 0 < w) where
         let m : w ≤ w + k * w = omega arith in
         ap (λ (n : ℕ). rows_of w (take n t)) e
         ∙ rows_next w (take (w + k * w) t) p f
-        ∙ ap (λ (x : List ℕ). x ∷ rows_of w (drop w (take (w + k * w) t))) (take_take w (w + k * w) t m)
+        ∙ ap (λ (x : List ℕ). x ∷ rows_of w (drop w (take (w + k * w) t))) (take-take w (w + k * w) t m)
         ∙ ap (λ (x : List ℕ). take w t ∷ rows_of w x) (drop_take w (k * w) t)
         ∙ ap (λ (x : List (List ℕ)). take w t ∷ x) (rows_take k (drop w t))
         ∙ sym (ap (take (suc k)) (rows_next w t p h))

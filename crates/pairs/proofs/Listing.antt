@@ -8,7 +8,7 @@ use native.Mathlib.Decide.{ℕ_discrete}
 use native.Mathlib.Omega.{arith}
 use borrow.Author.Tests.{ne_eqb, eqb-false, lt-leb, leb-true}
 use lib.ListN.{length, get_or, take, drop, length-drop}
-use lib.Seq.{sets, drop-drop, take_take, take_all, length-take-le}
+use lib.Seq.{sets, drop-drop, take-take, take_all, length-take-le}
 use lib.Dec.{eqb, leb}
 use Rattle.bigendian.specs.BigEndian.{u32_at}
 use Rattle.lists.specs.Lists.{sum}
@@ -62,7 +62,7 @@ module _ (stsz : List ℕ) (j begin : ℕ) (z : List ℕ) (w : ListedTo stsz j b
       ap (λ l. sum (take per (drop begin l))) (sizes_listed stsz refl (w.listed q))
       ∙ ap (λ l. sum (take per l)) (sym (words_drop begin (drop 20 stsz)))
       ∙ ap sum (sym (words_take per y))
-      ∙ ap (λ l. sum (words_in l)) (sym (take_take (per * 4) (length z) y h) ∙ ap (take (per * 4)) (sym w.cut))
+      ∙ ap (λ l. sum (words_in l)) (sym (take-take (per * 4) (length z) y h) ∙ ap (take (per * 4)) (sym w.cut))
 
 pub whole_known : (c : ChunkCursor) (n : ℕ) → is_whole c n ≡ true → (c.remaining ≡ 0 → ⊥) × (n ≡ 0 → ⊥) × (c.per * 4 ≤ n)
 whole_known c n e =

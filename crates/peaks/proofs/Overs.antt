@@ -8,7 +8,7 @@ use native.Mathlib.Numerals.{add-one}
 use native.Mathlib.Nat.{add-mul}
 use native.Mathlib.Decide.{dec_lt}
 use lib.ListN.{length, get_or, take, drop, replicate, length-drop, length-take, length-replicate}
-use lib.Seq.{take_take}
+use lib.Seq.{take-take}
 use Rattle.bigendian.specs.BigEndian.{u32_at}
 use Rattle.lists.specs.Lists.{sum, before}
 use Rattle.lists.proofs.Laws.{sum_replicate, replicate_take}
@@ -89,7 +89,7 @@ module _ (tails heads : List ℕ) (bytes most : ℕ) (s : Stays (words_in tails)
 -- ---- the sizes of a window
 
 before_take : (l : List ℕ) (n k : ℕ) → k ≤ n → before (take n l) k ≡ before l k
-before_take l n k h = ap sum (take_take k n l h)
+before_take l n k h = ap sum (take-take k n l h)
 
 module _ (zs : List ℕ) (i j n bytes most : ℕ) (m : MaySlide zs i j n bytes most) where
   heads_length : length (take n (drop j zs)) ≡ n

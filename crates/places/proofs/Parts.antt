@@ -22,11 +22,11 @@ take_min zero l = refl
 take_min (suc n) [] = refl
 take_min (suc n) (x ∷ l) = ap (λ (r : List ℕ). x ∷ r) (take_min n l)
 
-take_take : (n m : ℕ) (l : List ℕ) → n ≤ m → take n (take m l) ≡ take n l
-take_take zero m l h = refl
-take_take (suc n) zero l h = absurd (omega arith)
-take_take (suc n) (suc m) [] h = refl
-take_take (suc n) (suc m) (x ∷ l) h = ap (λ (r : List ℕ). x ∷ r) (take_take n m l (omega arith))
+take-take : (n m : ℕ) (l : List ℕ) → n ≤ m → take n (take m l) ≡ take n l
+take-take zero m l h = refl
+take-take (suc n) zero l h = absurd (omega arith)
+take-take (suc n) (suc m) [] h = refl
+take-take (suc n) (suc m) (x ∷ l) h = ap (λ (r : List ℕ). x ∷ r) (take-take n m l (omega arith))
 
 pub part_at : (s : List ℕ) (p : Part) → At s (part_in s p) p.at
 unfolding part_in
@@ -40,7 +40,7 @@ at_whole s = record { here = take-length s; ends = λ h. omega arith }
 
 -- the first n bytes of what stands there
 pub at_front : (s t : List ℕ) (at n : ℕ) → At s t at → n ≤ length t → take n (drop at s) ≡ take n t
-at_front s t at n a h = sym (take_take n (length t) (drop at s) h) ∙ ap (take n) a.here
+at_front s t at n a h = sym (take-take n (length t) (drop at s) h) ∙ ap (take n) a.here
 
 -- what follows them
 pub at_next : (s t : List ℕ) (at n : ℕ) → At s t at → n ≤ length t → At s (drop n t) (at + n)

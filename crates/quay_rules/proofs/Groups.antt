@@ -3,7 +3,7 @@
 use Prim.Native.Nat.{ℕ, zero, suc, ◌+◌, ◌-◌, ◌≤◌, ◌<◌}
 use mathlib.Core.Path.{◌≡◌, refl, sym, ap, ◌∙◌}
 use mathlib.Core.Bool.{Bool, true, false, ◌||◌}
-use mathlib.Core.List.{List, [], ◌∷◌, ◌++◌, map, map_append}
+use mathlib.Core.List.{List, [], ◌∷◌, ◌++◌, map, map-append}
 use native.Mathlib.Omega.{arith}
 use native.Mathlib.Decide.{dec_lt}
 use borrow.Author.Tests.{eq-eqb, ne_eqb, ltb-true, leb-true, lt-ltb, le-ltb, le-leb, lt-leb}
@@ -33,7 +33,7 @@ up_flags : (f : ℕ → Bool) (n : ℕ) → map (λ i. f (suc i)) (up_to n) ≡ 
 up_flags f zero = refl
 up_flags f (suc n) =
     let e : suc n ≡ 1 + n = omega arith in
-    map_append (λ i. f (suc i)) (up_to n) (n ∷ [])
+    map-append (λ i. f (suc i)) (up_to n) (n ∷ [])
     ∙ ap (λ (l : List Bool). l ++ (f (suc n) ∷ [])) (up_flags f n)
     ∙ ap (λ (j : ℕ). flags f 1 n ++ (f j ∷ [])) e
     ∙ sym (flags_last f 1 n)

@@ -3,7 +3,7 @@
 -- Assumes nothing.
 use Prim.Native.Nat.{ℕ, zero, suc, ◌+◌, ◌-◌, ◌≤◌, ◌<◌}
 use mathlib.Core.Path.{◌≡◌, refl, sym, ap, ◌∙◌}
-use mathlib.Core.List.{List, [], ◌∷◌, map, map_append}
+use mathlib.Core.List.{List, [], ◌∷◌, map, map-append}
 use native.Mathlib.Nat.{zero-add}
 use native.Mathlib.Omega.{arith}
 use native.Mathlib.Decide.{ℕ_discrete}
@@ -16,7 +16,7 @@ use Rattle.chunks.proofs.Dealt.{between_none}
 steps : (f g : ℕ → ℕ) (n : ℕ) → ((i : ℕ) → i < n → f i + g i ≡ g (suc i)) → sum (map f (up_to n)) + g 0 ≡ g n
 steps f g zero h = zero-add (g 0)
 steps f g (suc n) h =
-    let e : sum (map f (up_to (suc n))) ≡ sum (map f (up_to n)) + (f n + 0) = ap sum (map_append f (up_to n) (n ∷ [])) ∙ sum_append (map f (up_to n)) (f n ∷ []) in
+    let e : sum (map f (up_to (suc n))) ≡ sum (map f (up_to n)) + (f n + 0) = ap sum (map-append f (up_to n) (n ∷ [])) ∙ sum_append (map f (up_to n)) (f n ∷ []) in
     omega (arith, e, steps f g n (λ i l. h i (omega arith)), h n (omega arith))
 
 -- ---- numbers by their index
@@ -26,7 +26,7 @@ same_sums f g zero h = refl
 same_sums f g (suc n) h = omega (arith, last f, last g, same_sums f g n (λ k l. h k (omega arith)), h n (omega arith))
   where
     last : (e : ℕ → ℕ) → sum (map e (up_to (suc n))) ≡ sum (map e (up_to n)) + (e n + 0)
-    last e = ap sum (map_append e (up_to n) (n ∷ [])) ∙ sum_append (map e (up_to n)) (e n ∷ [])
+    last e = ap sum (map-append e (up_to n) (n ∷ [])) ∙ sum_append (map e (up_to n)) (e n ∷ [])
 
 -- the first k numbers of a list
 pub before_up : (xs : List ℕ) (k : ℕ) → sum (map (λ j. get_or xs j 0) (up_to k)) ≡ before xs k
