@@ -1,0 +1,40 @@
+-- `atoms::is_container` meets its contract: in each arm the kind is known.
+-- Assumes nothing.
+use borrow.Author.Tests.{ne_eqb}
+use mathlib.Core.Logic.{◌⊎◌, inl, inr, ⊎_elim}
+use Rattle.atoms.specs.Kinds.{container}
+use Rattle.atoms.proofs.is_container.Goals as goal
+
+pub returns-in-1836019574 : goal.returns-in-1836019574
+unfolding container
+returns-in-1836019574 c = rw c.in_default.keys1
+
+pub returns-in-1953653099 : goal.returns-in-1953653099
+unfolding container
+returns-in-1953653099 c = rw c.in_default.keys2
+
+pub returns-in-1701082227 : goal.returns-in-1701082227
+unfolding container
+returns-in-1701082227 c = ⊎_elim (λ e. rw e) (λ e. rw e) c.in_default.keys3
+
+pub returns-in-1835626086 : goal.returns-in-1835626086
+unfolding container
+returns-in-1835626086 c = rw c.in_default.keys4
+
+pub returns-in-1937007212 : goal.returns-in-1937007212
+unfolding container
+returns-in-1937007212 c = ⊎_elim (λ e. rw e) (λ e. rw e) c.in_default.keys5
+
+pub returns-in_default : goal.returns-in_default
+unfolding container
+returns-in_default c =
+    let r = c.in_default.rest in
+    simp (
+      ne_eqb _ _ r.0.0.0.0.1,
+      ne_eqb _ _ r.0.0.0.1,
+      ne_eqb _ _ (λ e. r.0.0.1 (inl e)),
+      ne_eqb _ _ (λ e. r.0.0.1 (inr e)),
+      ne_eqb _ _ r.0.1,
+      ne_eqb _ _ (λ e. r.1 (inl e)),
+      ne_eqb _ _ (λ e. r.1 (inr e)),
+    )

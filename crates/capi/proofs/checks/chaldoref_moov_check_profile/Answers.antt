@@ -1,0 +1,6 @@
+-- `capi::checks::chaldoref_moov_check_profile` meets its contract: the source of its call is that of a moov alone.
+-- Assumes nothing.
+use Rattle.capi.proofs.checks.chaldoref_moov_check_profile.Goals as goal
+
+pub returns : goal.returns
+returns c = rw c.of_moov.ensures at c.hand_check_profile.ensures

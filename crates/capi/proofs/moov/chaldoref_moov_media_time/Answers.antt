@@ -1,0 +1,6 @@
+-- `capi::moov::chaldoref_moov_media_time` meets its contract: the source of its call is that of a moov alone.
+-- Assumes nothing.
+use Rattle.capi.proofs.moov.chaldoref_moov_media_time.Goals as goal
+
+pub returns : goal.returns
+returns c = rw c.of_moov.ensures at c.hand_media_time.ensures

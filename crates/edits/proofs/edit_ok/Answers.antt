@@ -1,0 +1,38 @@
+-- `edits::edit_ok` meets its contract: each return has what the tests before it told.
+-- Assumes nothing.
+use Prim.Native.Nat.{ℕ, ◌+◌}
+use mathlib.Core.Path.{◌≡◌, sym, ap, ◌∙◌}
+use native.Mathlib.Omega.{arith}
+use lib.Dec.{ltb}
+use Rattle.bigendian.proofs.Halves.{kept}
+use Rattle.edits.specs.Edits.{start_of, start_ok, edit_ok}
+use Rattle.edits.specs.declared.EditStart.{EditStart}
+use Rattle.edits.proofs.Signs.{from_mag}
+use Rattle.edits.proofs.Turns.{ok_zero, ok_rate, ok_start}
+use Rattle.edits.proofs.edit_ok.Goals as goal
+
+-- an entry whose duration and rate are right is as its place is
+answer : (c : tie.After-start-of) {p : EditStart} → p ≡ c.start_of_lem.result →
+    let a = c.before.before.before.before.args in
+    edit_ok a.scale a.movie a.total a.e ≡ start_ok a.scale a.movie a.total a.e.duration p
+answer c q = let s = c.before.before.before.before in ok_start _ _ _ s.args.e c.before.before.before.if1.false c.before.before.if2.false (q ∙ known c)
+
+pub returns-then-d-eq0 : goal.returns-then-d-eq0
+returns-then-d-eq0 c = sym (ok_zero _ _ _ _ c.if-d-eq0.true)
+
+pub returns-then-rate-ne65536 : goal.returns-then-rate-ne65536
+returns-then-rate-ne65536 c = sym (ok_rate _ _ _ _ c.if-d-eq0.false c.if-rate-ne65536.true)
+
+pub overflow_add-last : goal.overflow_add-last
+overflow_add-last c =
+    let known : c.start_of-p.result ≡ start_of c.args.e.media = c.start_of-p.ensures ∙ ap start_of (kept c.args.e.media (omega (arith, c.requires))) in
+    omega (arith, from_mag c.args.e.media _ (sym c.p-1.given.1 ∙ known), c.requires, c.scaled.ensures.1)
+
+pub returns-in-From : goal.returns-in-From
+returns-in-From c =     ap (λ (x : ℕ). ltb (c.p-1.given.0.0 + x) c.args.total) c.scaled.ensures.0 ∙ sym (answer c (sym c.p-1.given.1))
+
+pub returns-in-Empty : goal.returns-in-Empty
+returns-in-Empty c = sym (answer c (sym c.enum_told-1.given.1))
+
+pub returns-in-Wrong : goal.returns-in-Wrong
+returns-in-Wrong c = sym (answer c (sym c.enum_told-in-Wrong-1.given.1))

@@ -1,0 +1,10 @@
+-- `feature_questions::to_value` meets its contract, case by case.
+-- Assumes nothing.
+use Rattle.feature_questions.proofs.Computing.{to_computed, to_refused}
+use Rattle.feature_questions.proofs.to_value.Goals as goal
+
+pub returns-in-Value : goal.returns-in-Value
+returns-in-Value c = to_computed _ _ c.f-1.given.1
+
+pub returns-in-NotComputed : goal.returns-in-NotComputed
+returns-in-NotComputed c = to_refused _ c.enum_told-1.given.1

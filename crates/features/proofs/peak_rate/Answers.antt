@@ -1,0 +1,11 @@
+-- `features::peak_rate` meets its contract, case by case of the peak.
+-- Assumes nothing.
+use mathlib.Core.Path.{sym, ap, ◌∙◌}
+use Rattle.peaks.specs.Peaks.{rate_in}
+use Rattle.features.proofs.peak_rate.Goals as goal
+
+pub returns-in-Highest : goal.returns-in-Highest
+returns-in-Highest c = sym (ap rate_in c.rate-1.given.1) ∙ ap rate_in c.peak_for.ensures
+
+pub returns-in-NotComputed : goal.returns-in-NotComputed
+returns-in-NotComputed c = sym (ap rate_in c.enum_told-1.given.1) ∙ ap rate_in c.peak_for.ensures

@@ -1,0 +1,10 @@
+-- `film_totals::show::refused` is safe and ends: its measure is how many numbers are left.
+-- Assumes nothing.
+use Prim.Native.Nat.{◌-◌}
+use Rattle.film_totals.proofs.show.refused.Given as goal
+
+abbrev pub invariant-loop-i : goal.invariant-loop-i
+invariant-loop-i l = Unit {0}
+
+abbrev pub decreases-loop-i : goal.decreases-loop-i
+decreases-loop-i l = 14 - i

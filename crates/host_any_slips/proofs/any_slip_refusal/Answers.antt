@@ -1,0 +1,21 @@
+-- `host_any_slips::any_slip_refusal` meets its contract: read into no room, a slip is refused 17 where it is malformed and 16 where it is not.
+-- Assumes nothing.
+use mathlib.Core.Path.{ap, sym, ◌∙◌}
+use mathlib.Core.Bool.{cond}
+use lib.Dec.{eqb}
+use Rattle.slip.specs.Slip.{slip_read_numbers}
+use Rattle.hand.specs.Places.{refusal_in}
+use Rattle.host_slips.proofs.Judged.{fault_first}
+use Rattle.host_any_slips.proofs.any_slip_refusal.Goals as goal
+
+pub returns-in-Accepted : goal.returns-in-Accepted
+unfolding slip_read_numbers
+returns-in-Accepted c = sym (fault_first _ _ ∙ ap (λ ns. cond (eqb (refusal_in ns) 17) 17 0) (sym c.read_any_slip.ensures.numbers ∙ ap slip_read_numbers c.enum_told-1.given.1))
+
+pub returns-in-Malformed : goal.returns-in-Malformed
+unfolding slip_read_numbers
+returns-in-Malformed c = sym (fault_first _ _ ∙ ap (λ ns. cond (eqb (refusal_in ns) 17) 17 0) (sym c.read_any_slip.ensures.numbers ∙ ap slip_read_numbers c.enum_told-in-Malformed-1.given.1))
+
+pub returns-in-NoRoom : goal.returns-in-NoRoom
+unfolding slip_read_numbers
+returns-in-NoRoom c = sym (fault_first _ _ ∙ ap (λ ns. cond (eqb (refusal_in ns) 17) 17 0) (sym c.read_any_slip.ensures.numbers ∙ ap slip_read_numbers c.enum_told-in-NoRoom-1.given.1))

@@ -1,0 +1,14 @@
+-- `host_opened::hand_opened_sample` meets its contract: refused by the handle's length, or the answer by the handle that the numbers are.
+-- Assumes nothing.
+use mathlib.Core.Path.{refl}
+use Rattle.host_opened.proofs.Handed.{handle_short, handle_whole, sample_low}
+use Rattle.host_opened.proofs.hand_opened_sample.Goals as goal
+
+pub returns-then-handle-lt-NUMBERS : goal.returns-then-handle-lt-NUMBERS
+returns-then-handle-lt-NUMBERS c = handle_short _ _ _ _ _ _ c.if-handle-lt-NUMBERS.true refl refl
+
+pub hand_sample_answer-requires : goal.hand_sample_answer-requires
+hand_sample_answer-requires c = sample_low _ _ _ _ _ c.handle_in-h.ensures c.sample.ensures
+
+pub returns : goal.returns
+returns c = handle_whole _ _ _ _ _ _ c.if-handle-lt-NUMBERS.false _ (rw c.handle_in-h.ensures at c.sample.ensures) c.hand_sample_answer.ensures

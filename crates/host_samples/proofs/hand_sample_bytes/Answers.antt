@@ -1,0 +1,20 @@
+-- `host_samples::hand_sample_bytes` meets its contract, case by case of the answer.
+-- Assumes nothing.
+use Rattle.hand.proofs.Answered.{handed}
+use Rattle.host_samples.specs.Numbers.{bytes_numbers}
+use Rattle.host_samples.proofs.Part.{of_whole}
+use Rattle.host_samples.proofs.hand_sample_bytes.Goals as goal
+
+pub returns-in-Found : goal.returns-in-Found
+unfolding bytes_numbers
+returns-in-Found c =
+    handed _ _ _ _ _ _
+    (of_whole _ _ _ _ _ _ c.whole.ensures c.sample_by_number.ensures.answer c.s-1.given.1)
+    c.hand.ensures
+
+pub returns-in-Refused : goal.returns-in-Refused
+unfolding bytes_numbers
+returns-in-Refused c =
+    handed _ _ _ _ _ _
+    (of_whole _ _ _ _ _ _ c.whole.ensures c.sample_by_number.ensures.answer c.r-1.given.1)
+    c.hand-in-Refused.ensures

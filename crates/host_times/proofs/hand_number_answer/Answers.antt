@@ -1,0 +1,14 @@
+-- `host_times::hand_number_answer` meets its contract, case by case of the answer.
+-- Assumes nothing.
+use mathlib.Core.Path.{ap}
+use Rattle.hand.proofs.Answered.{handed}
+use Rattle.time_questions.specs.Times.{number_numbers}
+use Rattle.host_times.proofs.hand_number_answer.Goals as goal
+
+pub returns-in-Number : goal.returns-in-Number
+unfolding number_numbers
+returns-in-Number c = handed _ _ _ _ _ _ (ap number_numbers c.answer-1.given.1) c.hand.ensures
+
+pub returns-in-Refused : goal.returns-in-Refused
+unfolding number_numbers
+returns-in-Refused c = handed _ _ _ _ _ _ (ap number_numbers c.answer-in-Refused-1.given.1) c.hand-in-Refused.ensures

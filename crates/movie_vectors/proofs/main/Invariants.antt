@@ -1,0 +1,10 @@
+-- `movie_vectors::main` is safe and ends: its measure is how many films are left.
+-- Assumes nothing.
+use Prim.Native.Nat.{◌-◌}
+use Rattle.movie_vectors.proofs.main.Given as goal
+
+abbrev pub invariant-loop-i : goal.invariant-loop-i
+invariant-loop-i l = Unit {0}
+
+abbrev pub decreases-loop-i : goal.decreases-loop-i
+decreases-loop-i l = l.count - l.i

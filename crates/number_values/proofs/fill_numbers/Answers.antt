@@ -1,0 +1,92 @@
+-- `number_values::fill_numbers` meets its contract: the invariant says that the values left, stored from j on, make what all of them make of the room at entry.
+-- Assumes nothing.
+use mathlib.Core.Path.{◌≡◌, refl, ap, sym, ◌∙◌}
+use mathlib.Core.List.{◌++◌}
+use mathlib.Core.Bool.{false}
+use Prim.Native.Nat.{ℕ, ◌+◌, ◌-◌, ◌≤◌, ◌<◌}
+use native.Mathlib.Nat.{zero-add}
+use native.Mathlib.Omega.{arith}
+use lib.Dec.{lit<, lit≤}
+use lib.ListN.{length, get_or, drop, length-set}
+use lib.Seq.{sets, sets-eq}
+use Rattle.leb128.specs.Reading.{read_at}
+use Rattle.leb128.specs.declared.number.NumberRead.TheVariants.{Good}
+use Rattle.leb128.proofs.Readings.{read_next}
+use Rattle.quick_numbers.proofs.Quick.{quick_is}
+use Rattle.number_values.specs.Values.{values_from, value_of, next_of}
+use Rattle.leb128.proofs.Groups.{limit32}
+use Rattle.number_values.proofs.Values.{length_values, value_below, fill_turn}
+use Rattle.number_values.proofs.fill_numbers.Goals as goal
+
+pub loop-j-init : goal.loop-j-init
+loop-j-init c = let z : c.args.n - 0 ≡ c.args.n = omega arith in (omega arith, rw z, refl)
+
+-- a number that was read quickly
+module _ (t : tie.Then1 invariant-loop decreases-loop) where
+  abbrev loop : tie.At-loop invariant-loop decreases-loop
+  loop = t.before.before.before.before
+
+  abbrev start : tie.Start invariant-loop decreases-loop
+  start = loop.before.before.before
+
+  are : (x : ℕ) → get_or start.args.bytes.now x 0 < 256
+  are i = (loop.before.before.shared-slice-known.given i).fits
+
+  read : read_at 4 16 start.args.bytes.now loop.loop.p ≡ Good t.before.before.quick-at.result.value (loop.loop.p + t.before.before.quick-at.result.len)
+  read = quick_is false start.args.bytes.now loop.loop.p t.before.before.quick-at.result are t.before.before.quick-at.ensures t.if1.taken
+
+  within : loop.loop.p + t.before.before.quick-at.result.len ≤ length start.args.bytes.now
+  within = (read_next 16 start.args.bytes.now loop.loop.p 4 _ _ (lit< tt) (lit≤ tt) are read).1
+
+pub overflow_cast-room : goal.overflow_cast-room
+overflow_cast-room c =     omega (arith, ap value_of (read c), value_below 4 16 (start c).args.bytes.now (loop c).loop.p (lit< tt) (lit≤ tt) (are c), limit32)
+
+pub overflow_add-p : goal.overflow_add-p
+overflow_add-p c = omega (arith, within c, (start c).well-formed)
+
+pub loop-j-preserved-then-q-gt0 : goal.loop-j-preserved-then-q-gt0
+loop-j-preserved-then-q-gt0 c =
+    let l = (loop c).loop in
+    let a = (start c).args in
+    let v = sym (ap value_of (read c)) in
+    let q : l.p + c.quick_at-q.result.len ≡ next_of l.p (read_at 4 16 a.bytes.now l.p) = sym (ap (next_of l.p) (read c)) in (
+      omega arith,
+      rw (v, q) (sym (fill_turn 4 16 a.bytes.now l.room l.j a.n l.p c.loop-j-test.true) ∙ l.inv.1),
+      length-set l.room l.j _ ∙ l.inv.2,
+    )
+
+pub overflow_cast-room-in-loop-j : goal.overflow_cast-room-in-loop-j
+overflow_cast-room-in-loop-j c =
+    let a = c.args in
+    omega (
+      arith,
+      c.value_of.ensures,
+      ap value_of c.number_at-r.ensures,
+      value_below 4 16 a.bytes.now c.loop-j.p (lit< tt) (lit≤ tt) (λ i. (c.type_inv.bytes i).fits),
+      limit32,
+    )
+
+pub loop-j-preserved : goal.loop-j-preserved
+loop-j-preserved c =
+    let l = c.loop-j in
+    let a = c.args in
+    let v : c.value_of.result ≡ value_of (read_at 4 16 a.bytes.now l.p) = c.value_of.ensures ∙ ap value_of c.number_at-r.ensures in
+    let q : c.next_of-p.result ≡ next_of l.p (read_at 4 16 a.bytes.now l.p) = c.next_of-p.ensures ∙ ap (next_of l.p) c.number_at-r.ensures in (
+      omega arith,
+      rw (v, q) (sym (fill_turn 4 16 a.bytes.now l.room l.j a.n l.p c.loop-j-test.true) ∙ l.invariant.1),
+      length-set l.room l.j _ ∙ l.invariant.2,
+    )
+
+pub shape_of-room : goal.shape_of-room
+shape_of-room c = c.loop-j.invariant.2
+
+pub returns : goal.returns
+unfolding values_from
+returns c =
+    let l = c.loop-j in
+    let a = c.args in
+    let vs = values_from 4 16 a.bytes.now a.n a.at in
+    let z : a.n - l.j ≡ 0 = omega arith in
+    let k = length_values 4 16 a.bytes.now a.n a.at in
+    let whole : sets a.room.now 0 vs ≡ vs ++ drop (0 + length vs) a.room.now = sets-eq vs a.room.now 0 (omega (arith, k, c.requires)) in
+    rw z at l.invariant.1 ∙ (rw (zero-add, k) at whole)

@@ -1,0 +1,54 @@
+-- `places::tables::find_tables` meets its contract: the rest of the body stands at the place, and each table is found or still to be found in the rest.
+-- Assumes nothing.
+use mathlib.Core.Path.{refl, sym}
+use native.Mathlib.Omega.{arith}
+use lib.ListN.{length-drop}
+use Rattle.bigendian.proofs.Parts.{rest}
+use Rattle.places.specs.Places.{part_in}
+use Rattle.places.proofs.Parts.{part_at, at_front, at_next}
+use Rattle.places.proofs.Finding.{finding_start, finding_end, finding_next}
+use Rattle.places.proofs.tables.find_tables.Goals as goal
+
+pub part_of-body-requires : goal.part_of-body-requires
+part_of-body-requires c = tt
+
+pub none_found-found-requires : goal.none_found-found-requires
+none_found-found-requires c = tt
+
+pub loop-t-init : goal.loop-t-init
+loop-t-init c = (rw c.part_of-body.ensures (part_at _ c.args.stbl), rw c.none_found-found.ensures (finding_start _ _))
+
+pub size_in-n-requires : goal.size_in-n-requires
+size_in-n-requires c = tt
+
+pub returns-then-n-lt8 : goal.returns-then-n-lt8
+returns-then-n-lt8 c =     rw (sym c.part_of-body.ensures) (finding_end _ _ _ _ _ c.size_in-n.ensures.value c.loop-t.invariant.1 c.if-n-lt8.true)
+
+pub u32_at-requires : goal.u32_at-requires
+u32_at-requires c = tt
+
+pub with_atom-found-requires : goal.with_atom-found-requires
+with_atom-found-requires c = tt
+
+pub overflow_add-at : goal.overflow_add-at
+overflow_add-at c =
+    let h = c.loop-t.invariant.0.ends (omega (arith, c.size_in-n.ensures.upper_bound, c.if-n-lt8.false)) in
+    omega (arith, h, c.size_in-n.ensures.upper_bound, c.well_formed.0.0)
+
+pub loop-t-smaller : goal.loop-t-smaller
+loop-t-smaller c =
+    let t = c.loop-t.t.now in
+    rw (rest c.size_in-n.result t) (omega (arith, length-drop c.size_in-n.result t, c.if-n-lt8.false))
+
+pub loop-t-preserved : goal.loop-t-preserved
+unfolding part_in
+loop-t-preserved c =
+    let l = c.loop-t in
+    let t = l.t.now in
+    let n = c.size_in-n.result in
+    let h = c.size_in-n.ensures.upper_bound in
+    rw (rest n t) (
+      at_next _ t l.at n l.invariant.0 h,
+      rw (c.with_atom-found.ensures, c.u32_at.ensures)
+          (finding_next _ _ t l.found n c.size_in-n.ensures.value l.invariant.1 c.if-n-lt8.false _ refl (at_front _ t l.at n l.invariant.0 h)),
+    )

@@ -1,0 +1,6 @@
+-- `position_numbers::cursor_at` meets its contract: each field is what its callee answers.
+-- Assumes nothing.
+use Rattle.position_numbers.proofs.cursor_at.Goals as goal
+
+pub returns : goal.returns
+returns c = cc

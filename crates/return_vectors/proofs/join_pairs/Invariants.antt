@@ -1,0 +1,10 @@
+-- `return_vectors::join_pairs` is safe and ends: its measure is how many pairs are left.
+-- Assumes nothing.
+use Prim.Native.Nat.{◌-◌}
+use Rattle.return_vectors.proofs.join_pairs.Given as goal
+
+abbrev pub invariant-loop-k : goal.invariant-loop-k
+invariant-loop-k l = Unit {0}
+
+abbrev pub decreases-loop-k : goal.decreases-loop-k
+decreases-loop-k l = 29 - l.k

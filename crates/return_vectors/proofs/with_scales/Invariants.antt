@@ -1,0 +1,10 @@
+-- `return_vectors::with_scales` is safe and ends: its measure is how many scales are left.
+-- Assumes nothing.
+use Prim.Native.Nat.{◌-◌}
+use Rattle.return_vectors.proofs.with_scales.Given as goal
+
+abbrev pub invariant-loop-i : goal.invariant-loop-i
+invariant-loop-i l = Unit {0}
+
+abbrev pub decreases-loop-i : goal.decreases-loop-i
+decreases-loop-i l = l.n - l.i

@@ -1,0 +1,10 @@
+-- `stretch_vectors::lines` is safe and ends: its measure is how much of the questions is left.
+-- Assumes nothing.
+use Rattle.std.proofs.Common.{length}
+use Rattle.stretch_vectors.proofs.lines.Given as goal
+
+abbrev pub invariant-loop-t : goal.invariant-loop-t
+invariant-loop-t l = Unit {0}
+
+abbrev pub decreases-loop-t : goal.decreases-loop-t
+decreases-loop-t l = length l.t

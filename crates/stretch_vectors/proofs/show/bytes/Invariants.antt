@@ -1,0 +1,10 @@
+-- `stretch_vectors::show::bytes` is safe and ends. The loop stays within the slice, and its measure is how much of it is left.
+-- Assumes nothing.
+use Rattle.std.proofs.Common.{◌-◌, ◌≤◌, length}
+use Rattle.stretch_vectors.proofs.show.bytes.Given as goal
+
+abbrev pub invariant-loop-i : goal.invariant-loop-i
+invariant-loop-i l = l.i ≤ length l.s
+
+abbrev pub decreases-loop-i : goal.decreases-loop-i
+decreases-loop-i l = length l.s - l.i

@@ -1,0 +1,6 @@
+-- `table_numbers::part_at` meets its contract: each field is what its callee answers.
+-- Assumes nothing.
+use Rattle.table_numbers.proofs.part_at.Goals as goal
+
+pub returns : goal.returns
+returns c = cc
