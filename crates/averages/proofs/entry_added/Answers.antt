@@ -29,21 +29,21 @@ pub last_place-last-requires : goal.last_place-last-requires
 last_place-last-requires c =
     let known : c.start_of-p.result ≡ start_of c.args.e.media = c.start_of-p.ensures ∙ ap start_of (kept c.args.e.media (omega (arith, c.requires.1))) in
     let last : let a = c.args in
-    (0 < a.e.duration) × (c.p-1.given.0.0 + in_media a.scale a.movie (a.e.duration - 1) < sum (per_sample a.stts.now)) = ok_from _ _ _ c.args.e _ c.requires.2 (sym c.p-1.given.1 ∙ known) in
+    (0 < a.e.duration) × (c.in-From.m + in_media a.scale a.movie (a.e.duration - 1) < sum (per_sample a.stts.now)) = ok_from _ _ _ c.args.e _ c.requires.2 (sym c.in-From.is ∙ known) in
     ((last).0, omega (arith, (last).1, c.requires.0.total_fits))
 
 pub overflow_cast-m : goal.overflow_cast-m
 overflow_cast-m c =
     let known : c.start_of-p.result ≡ start_of c.args.e.media = c.start_of-p.ensures ∙ ap start_of (kept c.args.e.media (omega (arith, c.requires.1))) in
     let last : let a = c.args in
-    (0 < a.e.duration) × (c.p-1.given.0.0 + in_media a.scale a.movie (a.e.duration - 1) < sum (per_sample a.stts.now)) = ok_from _ _ _ c.args.e _ c.requires.2 (sym c.p-1.given.1 ∙ known) in
+    (0 < a.e.duration) × (c.in-From.m + in_media a.scale a.movie (a.e.duration - 1) < sum (per_sample a.stts.now)) = ok_from _ _ _ c.args.e _ c.requires.2 (sym c.in-From.is ∙ known) in
     omega (arith, (last).1, c.requires.0.total_fits)
 
 pub added_between-requires : goal.added_between-requires
 added_between-requires c =
     let known : c.start_of-p.result ≡ start_of c.args.e.media = c.start_of-p.ensures ∙ ap start_of (kept c.args.e.media (omega (arith, c.requires.1))) in
     let last : let a = c.args in
-    (0 < a.e.duration) × (c.p-1.given.0.0 + in_media a.scale a.movie (a.e.duration - 1) < sum (per_sample a.stts.now)) = ok_from _ _ _ c.args.e _ c.requires.2 (sym c.p-1.given.1 ∙ known) in
+    (0 < a.e.duration) × (c.in-From.m + in_media a.scale a.movie (a.e.duration - 1) < sum (per_sample a.stts.now)) = ok_from _ _ _ c.args.e _ c.requires.2 (sym c.in-From.is ∙ known) in
     (c.requires.0, omega (arith, c.last_place-last.ensures), omega (arith, (last).1, c.last_place-last.ensures))
 
 pub returns-in-From : goal.returns-in-From
@@ -51,17 +51,17 @@ returns-in-From c =
     let a = c.args in
     let ds = per_sample a.stts.now in
     let zs = sizes a.stsz.now in
-    let m = c.p-1.given.0.0 in (
+    let m = c.in-From.m in (
       c.added_between.ensures.0
           ∙ added_one ds zs (range_at ds m c.last_place-last.result.0)
           ∙ ap (λ (x : ℕ). added_all ds zs (range_at ds m x ∷ [])) c.last_place-last.ensures
-          ∙ covers c (sym c.p-1.given.1),
+          ∙ covers c (sym c.in-From.is),
       c.added_between.ensures.1,
       c.added_between.ensures.2,
     )
 
 pub returns-in-Empty : goal.returns-in-Empty
-returns-in-Empty c = (covers c (sym c.enum_told-1.given.1), omega arith, omega arith)
+returns-in-Empty c = (covers c (sym c.in-Empty.is), omega arith, omega arith)
 
 pub returns-in-Wrong : goal.returns-in-Wrong
-returns-in-Wrong c = (covers c (sym c.enum_told-in-Wrong-1.given.1), omega arith, omega arith)
+returns-in-Wrong c = (covers c (sym c.in-Wrong.is), omega arith, omega arith)

@@ -26,13 +26,13 @@ returns-then-rate-ne65536 c = sym (ok_rate _ _ _ _ c.if-d-eq0.false c.if-rate-ne
 pub overflow_add-last : goal.overflow_add-last
 overflow_add-last c =
     let known : c.start_of-p.result ≡ start_of c.args.e.media = c.start_of-p.ensures ∙ ap start_of (kept c.args.e.media (omega (arith, c.requires))) in
-    omega (arith, from_mag c.args.e.media _ (sym c.p-1.given.1 ∙ known), c.requires, c.scaled.ensures.1)
+    omega (arith, from_mag c.args.e.media _ (sym c.in-From.is ∙ known), c.requires, c.scaled.ensures.1)
 
 pub returns-in-From : goal.returns-in-From
-returns-in-From c =     ap (λ (x : ℕ). ltb (c.p-1.given.0.0 + x) c.args.total) c.scaled.ensures.0 ∙ sym (answer c (sym c.p-1.given.1))
+returns-in-From c =     ap (λ (x : ℕ). ltb (c.in-From.m + x) c.args.total) c.scaled.ensures.0 ∙ sym (answer c (sym c.in-From.is))
 
 pub returns-in-Empty : goal.returns-in-Empty
-returns-in-Empty c = sym (answer c (sym c.enum_told-1.given.1))
+returns-in-Empty c = sym (answer c (sym c.in-Empty.is))
 
 pub returns-in-Wrong : goal.returns-in-Wrong
-returns-in-Wrong c = sym (answer c (sym c.enum_told-in-Wrong-1.given.1))
+returns-in-Wrong c = sym (answer c (sym c.in-Wrong.is))

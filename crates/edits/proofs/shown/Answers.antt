@@ -17,15 +17,15 @@ answer c q = let a = c.before.args in ap (shown_at a.scale a.movie a.total a.t) 
 pub overflow_add-place : goal.overflow_add-place
 overflow_add-place c =
     let known : c.start_of-p.result ≡ start_of c.args.media = c.start_of-p.ensures ∙ ap start_of (kept c.args.media c.ranges.media.sfits) in
-    omega (arith, from_mag c.args.media _ (sym c.p-1.given.1 ∙ known), c.requires, c.scaled.ensures.1)
+    omega (arith, from_mag c.args.media _ (sym c.in-From.is ∙ known), c.requires, c.scaled.ensures.1)
 
 pub returns-in-From : goal.returns-in-From
 returns-in-From c =
     let a = c.args in
-    c.within.ensures ∙ ap (λ (x : ℕ). placed a.total (c.p-1.given.0.0 + x)) c.scaled.ensures.0 ∙ answer c (sym c.p-1.given.1)
+    c.within.ensures ∙ ap (λ (x : ℕ). placed a.total (c.in-From.m + x)) c.scaled.ensures.0 ∙ answer c (sym c.in-From.is)
 
 pub returns-in-Empty : goal.returns-in-Empty
-returns-in-Empty c = answer c (sym c.enum_told-1.given.1)
+returns-in-Empty c = answer c (sym c.in-Empty.is)
 
 pub returns-in-Wrong : goal.returns-in-Wrong
-returns-in-Wrong c = answer c (sym c.enum_told-in-Wrong-1.given.1)
+returns-in-Wrong c = answer c (sym c.in-Wrong.is)

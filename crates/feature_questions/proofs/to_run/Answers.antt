@@ -4,7 +4,7 @@ use Rattle.feature_questions.proofs.Computing.{to_located, to_not_located}
 use Rattle.feature_questions.proofs.to_run.Goals as goal
 
 pub returns-in-Highest : goal.returns-in-Highest
-returns-in-Highest c = to_located _ _ _ _ c.p-1.given.1
+returns-in-Highest c = to_located _ _ _ _ c.in-Highest.is
 
 pub returns-in-NotComputed : goal.returns-in-NotComputed
-returns-in-NotComputed c = to_not_located _ c.enum_told-1.given.1
+returns-in-NotComputed c = to_not_located _ c.in-NotComputed.is

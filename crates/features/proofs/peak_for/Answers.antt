@@ -5,10 +5,10 @@ use Rattle.features.proofs.Codes.{peak_mvbr, peak_mabr, peak_other}
 use Rattle.features.proofs.peak_for.Goals as goal
 
 pub returns-in-1836474994 : goal.returns-in-1836474994
-returns-in-1836474994 c = c.peak_only_in.ensures ∙ sym (peak_mvbr _ _ c.in_default.keys1)
+returns-in-1836474994 c = c.peak_only_in.ensures ∙ sym (peak_mvbr _ _ c.in-1836474994.is)
 
 pub returns-in-1835098738 : goal.returns-in-1835098738
-returns-in-1835098738 c = c.peak_only_in-in-1835098738.ensures ∙ sym (peak_mabr _ _ c.in_default.keys2)
+returns-in-1835098738 c = c.peak_only_in-in-1835098738.ensures ∙ sym (peak_mabr _ _ c.in-1835098738.is)
 
 pub returns-in_default : goal.returns-in_default
 returns-in_default c = let r = c.in_default.rest in sym (peak_other _ _ r.0.1 r.1)

@@ -5,7 +5,7 @@ use Rattle.peaks.specs.Peaks.{rate_in}
 use Rattle.features.proofs.peak_rate.Goals as goal
 
 pub returns-in-Highest : goal.returns-in-Highest
-returns-in-Highest c = sym (ap rate_in c.rate-1.given.1) ∙ ap rate_in c.peak_for.ensures
+returns-in-Highest c = sym (ap rate_in c.in-Highest.is) ∙ ap rate_in c.peak_for.ensures
 
 pub returns-in-NotComputed : goal.returns-in-NotComputed
-returns-in-NotComputed c = sym (ap rate_in c.enum_told-1.given.1) ∙ ap rate_in c.peak_for.ensures
+returns-in-NotComputed c = sym (ap rate_in c.in-NotComputed.is) ∙ ap rate_in c.peak_for.ensures

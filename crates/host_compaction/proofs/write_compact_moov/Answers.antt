@@ -15,7 +15,7 @@ returns-then-places-lt1 c =
 pub returns-in-Written : goal.returns-in-Written
 unfolding compact_numbers
 returns-in-Written c =
-    fills _ _ _ _ _ _ _ _ _ _ _ (compact_judged _ _ _) (of_case compact_numbers c.compact_moov.ensures.answer c.n-1.given.1)
+    fills _ _ _ _ _ _ _ _ _ _ _ (compact_judged _ _ _) (of_case compact_numbers c.compact_moov.ensures.answer c.in-Written.is)
     c.if-places-lt1.false
     c.hand.ensures
     c.compact_moov.ensures.places
@@ -23,7 +23,7 @@ returns-in-Written c =
 pub returns-in-Refused : goal.returns-in-Refused
 unfolding compact_numbers
 returns-in-Refused c =
-    fills _ _ _ _ _ _ _ _ _ _ _ (compact_judged _ _ _) (of_case compact_numbers c.compact_moov.ensures.answer c.r-1.given.1)
+    fills _ _ _ _ _ _ _ _ _ _ _ (compact_judged _ _ _) (of_case compact_numbers c.compact_moov.ensures.answer c.in-Refused.is)
     c.if-places-lt1.false
     c.hand-in-Refused.ensures
     c.compact_moov.ensures.places

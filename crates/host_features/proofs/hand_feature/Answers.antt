@@ -8,12 +8,12 @@ pub returns-in-Value : goal.returns-in-Value
 unfolding feature_numbers
 returns-in-Value c =
     handed _ _ _ _ _ _
-    (of_case feature_numbers c.feature_by_code.ensures.answer c.v-1.given.1)
+    (of_case feature_numbers c.feature_by_code.ensures.answer c.in-Value.is)
     c.hand.ensures
 
 pub returns-in-Refused : goal.returns-in-Refused
 unfolding feature_numbers
 returns-in-Refused c =
     handed _ _ _ _ _ _
-    (of_case feature_numbers c.feature_by_code.ensures.answer c.r-1.given.1)
+    (of_case feature_numbers c.feature_by_code.ensures.answer c.in-Refused.is)
     c.hand-in-Refused.ensures

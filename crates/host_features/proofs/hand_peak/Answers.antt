@@ -8,12 +8,12 @@ pub returns-in-Run : goal.returns-in-Run
 unfolding peak_numbers
 returns-in-Run c =
     handed _ _ _ _ _ _
-    (of_case peak_numbers c.peak_by_code.ensures.answer c.first-1.given.1)
+    (of_case peak_numbers c.peak_by_code.ensures.answer c.in-Run.is)
     c.hand.ensures
 
 pub returns-in-Refused : goal.returns-in-Refused
 unfolding peak_numbers
 returns-in-Refused c =
     handed _ _ _ _ _ _
-    (of_case peak_numbers c.peak_by_code.ensures.answer c.r-1.given.1)
+    (of_case peak_numbers c.peak_by_code.ensures.answer c.in-Refused.is)
     c.hand-in-Refused.ensures

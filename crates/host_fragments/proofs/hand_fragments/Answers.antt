@@ -9,11 +9,11 @@ use Rattle.host_fragments.proofs.hand_fragments.Goals as goal
 pub returns-in-Told : goal.returns-in-Told
 unfolding fragments_numbers
 returns-in-Told c =
-    let e = of_case fragments_numbers c.fragments.ensures.answer c.mvex-1.given.1 in
+    let e = of_case fragments_numbers c.fragments.ensures.answer c.in-Told.is in
     handed _ _ _ _ _ _ (e ∙ (λ i. 0 ∷ sym c.bit.ensures i ∷ sym c.bit-in-Told.ensures i ∷ [])) c.hand.ensures
 
 pub returns-in-Refused : goal.returns-in-Refused
 unfolding fragments_numbers
 returns-in-Refused c =
-    let e = of_case fragments_numbers c.fragments.ensures.answer c.r-1.given.1 in
+    let e = of_case fragments_numbers c.fragments.ensures.answer c.in-Refused.is in
     handed _ _ _ _ _ _ e c.hand-in-Refused.ensures

@@ -13,7 +13,7 @@ returns-then-places-lt1 c = too_few _ _ _ _ _ _ _ _ (edits_judged _ _ _ _) refl 
 pub returns-in-Entries : goal.returns-in-Entries
 unfolding edits_numbers
 returns-in-Entries c =
-    fills _ _ _ _ _ _ _ _ _ _ _ (edits_judged _ _ _ _) (of_case edits_numbers c.stored_edits.ensures.answer c.n-1.given.1)
+    fills _ _ _ _ _ _ _ _ _ _ _ (edits_judged _ _ _ _) (of_case edits_numbers c.stored_edits.ensures.answer c.in-Entries.is)
     c.if-places-lt1.false
     c.hand.ensures
     c.stored_edits.ensures.places
@@ -21,7 +21,7 @@ returns-in-Entries c =
 pub returns-in-Refused : goal.returns-in-Refused
 unfolding edits_numbers
 returns-in-Refused c =
-    fills _ _ _ _ _ _ _ _ _ _ _ (edits_judged _ _ _ _) (of_case edits_numbers c.stored_edits.ensures.answer c.r-1.given.1)
+    fills _ _ _ _ _ _ _ _ _ _ _ (edits_judged _ _ _ _) (of_case edits_numbers c.stored_edits.ensures.answer c.in-Refused.is)
     c.if-places-lt1.false
     c.hand-in-Refused.ensures
     c.stored_edits.ensures.places

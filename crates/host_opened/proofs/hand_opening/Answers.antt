@@ -5,8 +5,8 @@ use Rattle.host_opened.proofs.Handed.{opened_track, opened_refused}
 use Rattle.host_opened.proofs.hand_opening.Goals as goal
 
 pub returns-in-Track : goal.returns-in-Track
-returns-in-Track c = opened_track _ _ _ _ _ _ _ _ c.of.ensures c.h-1.given.1 c.hand_handle.ensures
+returns-in-Track c = opened_track _ _ _ _ _ _ _ _ c.of.ensures c.in-Track.is c.hand_handle.ensures
 
 pub returns-in-Refused : goal.returns-in-Refused
 unfolding open_values
-returns-in-Refused c = opened_refused _ _ _ _ _ _ _ _ c.of.ensures c.r-1.given.1 c.hand.ensures
+returns-in-Refused c = opened_refused _ _ _ _ _ _ _ _ c.of.ensures c.in-Refused.is c.hand.ensures

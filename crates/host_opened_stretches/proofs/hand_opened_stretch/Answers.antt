@@ -20,11 +20,11 @@ unfolding stretch_numbers
 returns-in-Pairs c =
     let h = c.handle_in-h.result in
     stretch_whole _ _ _ _ _ _ _ _ _ c.if-handle-lt-NUMBERS.false h c.handle_in-h.ensures (
-    fills _ _ _ _ _ _ _ _ _ _ _ (by_judged _ h _ _ _) (of_case stretch_numbers c.stretch_by.ensures.said.answer c.n-1.given.1) c.if-places-lt2.false c.hand.ensures c.stretch_by.ensures.said.places)
+    fills _ _ _ _ _ _ _ _ _ _ _ (by_judged _ h _ _ _) (of_case stretch_numbers c.stretch_by.ensures.said.answer c.in-Pairs.is) c.if-places-lt2.false c.hand.ensures c.stretch_by.ensures.said.places)
 
 pub returns-in-Refused : goal.returns-in-Refused
 unfolding stretch_numbers
 returns-in-Refused c =
     let h = c.handle_in-h.result in
     stretch_whole _ _ _ _ _ _ _ _ _ c.if-handle-lt-NUMBERS.false h c.handle_in-h.ensures (
-    fills _ _ _ _ _ _ _ _ _ _ _ (by_judged _ h _ _ _) (of_case stretch_numbers c.stretch_by.ensures.said.answer c.r-1.given.1) c.if-places-lt2.false c.hand-in-Refused.ensures c.stretch_by.ensures.said.places)
+    fills _ _ _ _ _ _ _ _ _ _ _ (by_judged _ h _ _ _) (of_case stretch_numbers c.stretch_by.ensures.said.answer c.in-Refused.is) c.if-places-lt2.false c.hand-in-Refused.ensures c.stretch_by.ensures.said.places)

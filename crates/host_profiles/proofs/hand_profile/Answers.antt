@@ -13,7 +13,7 @@ returns-then-places-lt1 c = too_few _ _ _ _ _ _ _ _ (profile_judged _ _ _ _) ref
 pub returns-in-Records : goal.returns-in-Records
 unfolding profile_answer_numbers
 returns-in-Records c =
-    fills _ _ _ _ _ _ _ _ _ _ _ (profile_judged _ _ _ _) (of_case profile_answer_numbers c.stored_profile.ensures.answer c.n-1.given.1)
+    fills _ _ _ _ _ _ _ _ _ _ _ (profile_judged _ _ _ _) (of_case profile_answer_numbers c.stored_profile.ensures.answer c.in-Records.is)
     c.if-places-lt1.false
     c.hand.ensures
     c.stored_profile.ensures.places
@@ -21,7 +21,7 @@ returns-in-Records c =
 pub returns-in-Refused : goal.returns-in-Refused
 unfolding profile_answer_numbers
 returns-in-Refused c =
-    fills _ _ _ _ _ _ _ _ _ _ _ (profile_judged _ _ _ _) (of_case profile_answer_numbers c.stored_profile.ensures.answer c.r-1.given.1)
+    fills _ _ _ _ _ _ _ _ _ _ _ (profile_judged _ _ _ _) (of_case profile_answer_numbers c.stored_profile.ensures.answer c.in-Refused.is)
     c.if-places-lt1.false
     c.hand-in-Refused.ensures
     c.stored_profile.ensures.places

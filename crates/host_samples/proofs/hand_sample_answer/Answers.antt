@@ -16,13 +16,13 @@ as_number true = refl
 as_number false = refl
 
 pub overflow_cast-s-in-Found : goal.overflow_cast-s-in-Found
-overflow_cast-s-in-Found c = record { sfits = omega (arith, (c.requires _ c.answer-1.given.1).0) }
+overflow_cast-s-in-Found c = record { sfits = omega (arith, (c.requires _ c.in-Found.is).0) }
 
 pub overflow_cast-s-in-Found-4 : goal.overflow_cast-s-in-Found-4
-overflow_cast-s-in-Found-4 c = record { sfits = omega (arith, (c.requires _ c.answer-1.given.1).1) }
+overflow_cast-s-in-Found-4 c = record { sfits = omega (arith, (c.requires _ c.in-Found.is).1) }
 
 pub overflow_cast-s-in-Found-5 : goal.overflow_cast-s-in-Found-5
-overflow_cast-s-in-Found-5 c = record { sfits = omega (arith, (c.requires _ c.answer-1.given.1).2) }
+overflow_cast-s-in-Found-5 c = record { sfits = omega (arith, (c.requires _ c.in-Found.is).2) }
 
 pub returns-in-Found : goal.returns-in-Found
 unfolding sample_numbers
@@ -39,8 +39,8 @@ returns-in-Found c =
       as_number _,
     )
     at c.hand_signed.ensures in
-    handed_signed _ _ _ _ _ _ (ap sample_numbers c.answer-1.given.1) z
+    handed_signed _ _ _ _ _ _ (ap sample_numbers c.in-Found.is) z
 
 pub returns-in-Refused : goal.returns-in-Refused
 unfolding sample_numbers sample_zeros
-returns-in-Refused c = handed_signed _ _ _ _ _ _ (ap sample_numbers c.answer-in-Refused-1.given.1) c.hand_signed-in-Refused.ensures
+returns-in-Refused c = handed_signed _ _ _ _ _ _ (ap sample_numbers c.in-Refused.is) c.hand_signed-in-Refused.ensures

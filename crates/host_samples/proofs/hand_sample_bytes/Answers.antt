@@ -9,12 +9,12 @@ pub returns-in-Found : goal.returns-in-Found
 unfolding bytes_numbers
 returns-in-Found c =
     handed _ _ _ _ _ _
-    (of_whole _ _ _ _ _ _ c.whole.ensures c.sample_by_number.ensures.answer c.s-1.given.1)
+    (of_whole _ _ _ _ _ _ c.whole.ensures c.sample_by_number.ensures.answer c.in-Found.is)
     c.hand.ensures
 
 pub returns-in-Refused : goal.returns-in-Refused
 unfolding bytes_numbers
 returns-in-Refused c =
     handed _ _ _ _ _ _
-    (of_whole _ _ _ _ _ _ c.whole.ensures c.sample_by_number.ensures.answer c.r-1.given.1)
+    (of_whole _ _ _ _ _ _ c.whole.ensures c.sample_by_number.ensures.answer c.in-Refused.is)
     c.hand-in-Refused.ensures

@@ -13,7 +13,7 @@ pub returns-in-Accepted : goal.returns-in-Accepted
 unfolding slip_read_numbers
 returns-in-Accepted c =
     let q = c.read_slip.ensures in
-    fills_first _ _ _ _ _ _ _ _ _ _ (read_first _ _) (sym q.numbers ∙ ap slip_read_numbers c.h-1.given.1)
+    fills_first _ _ _ _ _ _ _ _ _ _ (read_first _ _) (sym q.numbers ∙ ap slip_read_numbers c.in-Accepted.is)
     c.if-places-lt6.false
     c.hand.ensures
     (q.places ∙ read_room _ _)
@@ -22,7 +22,7 @@ pub returns-in-Malformed : goal.returns-in-Malformed
 unfolding slip_read_numbers
 returns-in-Malformed c =
     let q = c.read_slip.ensures in
-    fills_first _ _ _ _ _ _ _ _ _ _ (read_first _ _) (sym q.numbers ∙ ap slip_read_numbers c.place-1.given.1)
+    fills_first _ _ _ _ _ _ _ _ _ _ (read_first _ _) (sym q.numbers ∙ ap slip_read_numbers c.in-Malformed.is)
     c.if-places-lt6.false
     c.hand-in-Malformed.ensures
     (q.places ∙ read_room _ _)
@@ -31,7 +31,7 @@ pub returns-in-NoRoom : goal.returns-in-NoRoom
 unfolding slip_read_numbers
 returns-in-NoRoom c =
     let q = c.read_slip.ensures in
-    fills_first _ _ _ _ _ _ _ _ _ _ (read_first _ _) (sym q.numbers ∙ ap slip_read_numbers c.enum_told-1.given.1)
+    fills_first _ _ _ _ _ _ _ _ _ _ (read_first _ _) (sym q.numbers ∙ ap slip_read_numbers c.in-NoRoom.is)
     c.if-places-lt6.false
     c.hand-in-NoRoom.ensures
     (q.places ∙ read_room _ _)

@@ -10,12 +10,12 @@ use Rattle.host_slips.proofs.slip_refusal.Goals as goal
 
 pub returns-in-Accepted : goal.returns-in-Accepted
 unfolding slip_read_numbers
-returns-in-Accepted c = sym (fault_first _ _ ∙ ap (λ ns. cond (eqb (refusal_in ns) 17) 17 0) (sym c.read_slip.ensures.numbers ∙ ap slip_read_numbers c.enum_told-1.given.1))
+returns-in-Accepted c = sym (fault_first _ _ ∙ ap (λ ns. cond (eqb (refusal_in ns) 17) 17 0) (sym c.read_slip.ensures.numbers ∙ ap slip_read_numbers c.in-Accepted.is))
 
 pub returns-in-Malformed : goal.returns-in-Malformed
 unfolding slip_read_numbers
-returns-in-Malformed c = sym (fault_first _ _ ∙ ap (λ ns. cond (eqb (refusal_in ns) 17) 17 0) (sym c.read_slip.ensures.numbers ∙ ap slip_read_numbers c.enum_told-in-Malformed-1.given.1))
+returns-in-Malformed c = sym (fault_first _ _ ∙ ap (λ ns. cond (eqb (refusal_in ns) 17) 17 0) (sym c.read_slip.ensures.numbers ∙ ap slip_read_numbers c.in-Malformed.is))
 
 pub returns-in-NoRoom : goal.returns-in-NoRoom
 unfolding slip_read_numbers
-returns-in-NoRoom c = sym (fault_first _ _ ∙ ap (λ ns. cond (eqb (refusal_in ns) 17) 17 0) (sym c.read_slip.ensures.numbers ∙ ap slip_read_numbers c.enum_told-in-NoRoom-1.given.1))
+returns-in-NoRoom c = sym (fault_first _ _ ∙ ap (λ ns. cond (eqb (refusal_in ns) 17) 17 0) (sym c.read_slip.ensures.numbers ∙ ap slip_read_numbers c.in-NoRoom.is))

@@ -4,7 +4,7 @@ use Rattle.host_step_starts.proofs.Handed.{start_at, start_refused}
 use Rattle.host_step_starts.proofs.hand_start.Goals as goal
 
 pub returns-in-At : goal.returns-in-At
-returns-in-At c = start_at _ _ _ _ _ c.start-1.given.1 c.hand_position.ensures
+returns-in-At c = start_at _ _ _ _ _ c.in-At.is c.hand_position.ensures
 
 pub returns-in-Refused : goal.returns-in-Refused
-returns-in-Refused c = start_refused _ _ _ _ _ c.start-in-Refused-1.given.1 c.hand.ensures
+returns-in-Refused c = start_refused _ _ _ _ _ c.in-Refused.is c.hand.ensures

@@ -15,7 +15,7 @@ returns-then-places-lt2 c =
 pub returns-in-Pairs : goal.returns-in-Pairs
 unfolding stretch_numbers
 returns-in-Pairs c =
-    fills _ _ _ _ _ _ _ _ _ _ _ (stretch_judged _ _ _ _ _ _) (of_case stretch_numbers c.stretch_of.ensures.answer c.n-1.given.1)
+    fills _ _ _ _ _ _ _ _ _ _ _ (stretch_judged _ _ _ _ _ _) (of_case stretch_numbers c.stretch_of.ensures.answer c.in-Pairs.is)
     c.if-places-lt2.false
     c.hand.ensures
     c.stretch_of.ensures.places
@@ -23,7 +23,7 @@ returns-in-Pairs c =
 pub returns-in-Refused : goal.returns-in-Refused
 unfolding stretch_numbers
 returns-in-Refused c =
-    fills _ _ _ _ _ _ _ _ _ _ _ (stretch_judged _ _ _ _ _ _) (of_case stretch_numbers c.stretch_of.ensures.answer c.r-1.given.1)
+    fills _ _ _ _ _ _ _ _ _ _ _ (stretch_judged _ _ _ _ _ _) (of_case stretch_numbers c.stretch_of.ensures.answer c.in-Refused.is)
     c.if-places-lt2.false
     c.hand-in-Refused.ensures
     c.stretch_of.ensures.places

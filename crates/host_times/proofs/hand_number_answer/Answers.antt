@@ -7,8 +7,8 @@ use Rattle.host_times.proofs.hand_number_answer.Goals as goal
 
 pub returns-in-Number : goal.returns-in-Number
 unfolding number_numbers
-returns-in-Number c = handed _ _ _ _ _ _ (ap number_numbers c.answer-1.given.1) c.hand.ensures
+returns-in-Number c = handed _ _ _ _ _ _ (ap number_numbers c.in-Number.is) c.hand.ensures
 
 pub returns-in-Refused : goal.returns-in-Refused
 unfolding number_numbers
-returns-in-Refused c = handed _ _ _ _ _ _ (ap number_numbers c.answer-in-Refused-1.given.1) c.hand-in-Refused.ensures
+returns-in-Refused c = handed _ _ _ _ _ _ (ap number_numbers c.in-Refused.is) c.hand-in-Refused.ensures

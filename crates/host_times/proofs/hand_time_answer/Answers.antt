@@ -7,12 +7,12 @@ use Rattle.host_times.proofs.hand_time_answer.Goals as goal
 
 pub returns-in-Shown : goal.returns-in-Shown
 unfolding time_numbers
-returns-in-Shown c = handed _ _ _ _ _ _ (ap time_numbers c.answer-1.given.1) c.hand.ensures
+returns-in-Shown c = handed _ _ _ _ _ _ (ap time_numbers c.in-Shown.is) c.hand.ensures
 
 pub returns-in-NothingShown : goal.returns-in-NothingShown
 unfolding time_numbers
-returns-in-NothingShown c = handed _ _ _ _ _ _ (ap time_numbers c.enum_told-1.given.1) c.hand-in-NothingShown.ensures
+returns-in-NothingShown c = handed _ _ _ _ _ _ (ap time_numbers c.in-NothingShown.is) c.hand-in-NothingShown.ensures
 
 pub returns-in-NotMapped : goal.returns-in-NotMapped
 unfolding time_numbers
-returns-in-NotMapped c = handed _ _ _ _ _ _ (ap time_numbers c.answer-in-NotMapped-1.given.1) c.hand-in-NotMapped.ensures
+returns-in-NotMapped c = handed _ _ _ _ _ _ (ap time_numbers c.in-NotMapped.is) c.hand-in-NotMapped.ensures

@@ -9,17 +9,17 @@ use Rattle.host_top_level.proofs.hand_step.Goals as goal
 pub returns-in-Read : goal.returns-in-Read
 unfolding next_numbers
 returns-in-Read c =
-    handed _ _ _ _ _ _ (of_case next_numbers (c.step.ensures ∙ ap (stepped _) c.walk_in-walk.ensures) c.w-1.given.1)
+    handed _ _ _ _ _ _ (of_case next_numbers (c.step.ensures ∙ ap (stepped _) c.walk_in-walk.ensures) c.in-Read.is)
     c.hand.ensures
 
 pub returns-in-Found : goal.returns-in-Found
 unfolding next_numbers
 returns-in-Found c =
-    handed _ _ _ _ _ _ (of_case next_numbers (c.step.ensures ∙ ap (stepped _) c.walk_in-walk.ensures) c.at-1.given.1)
+    handed _ _ _ _ _ _ (of_case next_numbers (c.step.ensures ∙ ap (stepped _) c.walk_in-walk.ensures) c.in-Found.is)
     c.hand-in-Found.ensures
 
 pub returns-in-Refused : goal.returns-in-Refused
 unfolding next_numbers
 returns-in-Refused c =
-    handed _ _ _ _ _ _ (of_case next_numbers (c.step.ensures ∙ ap (stepped _) c.walk_in-walk.ensures) c.r-1.given.1)
+    handed _ _ _ _ _ _ (of_case next_numbers (c.step.ensures ∙ ap (stepped _) c.walk_in-walk.ensures) c.in-Refused.is)
     c.hand-in-Refused.ensures

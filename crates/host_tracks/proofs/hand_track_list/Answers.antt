@@ -13,7 +13,7 @@ returns-then-places-lt1 c = too_few _ _ _ _ _ _ _ _ (list_judged _ _ _) refl c.i
 pub returns-in-Tracks : goal.returns-in-Tracks
 unfolding track_list_numbers
 returns-in-Tracks c =
-    fills _ _ _ _ _ _ _ _ _ _ _ (list_judged _ _ _) (of_case track_list_numbers c.track_list.ensures.answer c.n-1.given.1)
+    fills _ _ _ _ _ _ _ _ _ _ _ (list_judged _ _ _) (of_case track_list_numbers c.track_list.ensures.answer c.in-Tracks.is)
     c.if-places-lt1.false
     c.hand.ensures
     c.track_list.ensures.places
@@ -21,7 +21,7 @@ returns-in-Tracks c =
 pub returns-in-Refused : goal.returns-in-Refused
 unfolding track_list_numbers
 returns-in-Refused c =
-    fills _ _ _ _ _ _ _ _ _ _ _ (list_judged _ _ _) (of_case track_list_numbers c.track_list.ensures.answer c.r-1.given.1)
+    fills _ _ _ _ _ _ _ _ _ _ _ (list_judged _ _ _) (of_case track_list_numbers c.track_list.ensures.answer c.in-Refused.is)
     c.if-places-lt1.false
     c.hand-in-Refused.ensures
     c.track_list.ensures.places

@@ -48,51 +48,51 @@ in_parent-requires-in-1685218662 c = tt
 
 pub returns-in-1836476516 : goal.returns-in-1836476516
 unfolding form_of
-returns-in-1836476516 c = rw c.in_default.keys1 c.in_parent.ensures
+returns-in-1836476516 c = rw c.in-1836476516.is c.in_parent.ensures
 
 pub returns-in-1953196132 : goal.returns-in-1953196132
 unfolding form_of
-returns-in-1953196132 c = rw c.in_default.keys2 c.in_parent-in-1953196132.ensures
+returns-in-1953196132 c = rw c.in-1953196132.is c.in_parent-in-1953196132.ensures
 
 pub returns-in-1835296868 : goal.returns-in-1835296868
 unfolding form_of
-returns-in-1835296868 c = rw c.in_default.keys3 c.in_parent-in-1835296868.ensures
+returns-in-1835296868 c = rw c.in-1835296868.is c.in_parent-in-1835296868.ensures
 
 pub returns-in-1751411826 : goal.returns-in-1751411826
 unfolding form_of
-returns-in-1751411826 c = rw c.in_default.keys4 c.in_parent-in-1751411826.ensures
+returns-in-1751411826 c = rw c.in-1751411826.is c.in_parent-in-1751411826.ensures
 
 pub returns-in-1701606260 : goal.returns-in-1701606260
 unfolding form_of
-returns-in-1701606260 c = rw c.in_default.keys5 c.in_parent-in-1701606260.ensures
+returns-in-1701606260 c = rw c.in-1701606260.is c.in_parent-in-1701606260.ensures
 
 pub returns-in-1937011827 : goal.returns-in-1937011827
 unfolding form_of
-returns-in-1937011827 c = ⊎_elim (λ e. rw e c.in_parent-in-1937011827.ensures) (λ e. rw e c.in_parent-in-1937011827.ensures) c.in_default.keys6
+returns-in-1937011827 c = ⊎_elim (λ e. rw e c.in_parent-in-1937011827.ensures) (λ e. rw e c.in_parent-in-1937011827.ensures) c.in-1937011827.is
 
 pub returns-in-1937011555 : goal.returns-in-1937011555
 unfolding form_of
-returns-in-1937011555 c = rw c.in_default.keys7 c.in_parent-in-1937011555.ensures
+returns-in-1937011555 c = rw c.in-1937011555.is c.in_parent-in-1937011555.ensures
 
 pub returns-in-1937011578 : goal.returns-in-1937011578
 unfolding form_of
-returns-in-1937011578 c = rw c.in_default.keys8 c.in_parent-in-1937011578.ensures
+returns-in-1937011578 c = rw c.in-1937011578.is c.in_parent-in-1937011578.ensures
 
 pub returns-in-1937007471 : goal.returns-in-1937007471
 unfolding form_of
-returns-in-1937007471 c = ⊎_elim (λ e. rw e c.in_parent-in-1937007471.ensures) (λ e. rw e c.in_parent-in-1937007471.ensures) c.in_default.keys9
+returns-in-1937007471 c = ⊎_elim (λ e. rw e c.in_parent-in-1937007471.ensures) (λ e. rw e c.in_parent-in-1937007471.ensures) c.in-1937007471.is
 
 pub returns-in-1668232756 : goal.returns-in-1668232756
 unfolding form_of
-returns-in-1668232756 c = rw c.in_default.keys10 (c.in_parent-in-1668232756-2.ensures ∙ ap (in_parent c.args.wide) c.in_parent-in-1668232756.ensures)
+returns-in-1668232756 c = rw c.in-1668232756.is (c.in_parent-in-1668232756-2.ensures ∙ ap (in_parent c.args.wide) c.in_parent-in-1668232756.ensures)
 
 pub returns-in-1937011556 : goal.returns-in-1937011556
 unfolding form_of
-returns-in-1937011556 c = rw c.in_default.keys11 c.in_parent-in-1937011556.ensures
+returns-in-1937011556 c = rw c.in-1937011556.is c.in_parent-in-1937011556.ensures
 
 pub returns-in-1685218662 : goal.returns-in-1685218662
 unfolding form_of
-returns-in-1685218662 c = rw c.in_default.keys12 c.in_parent-in-1685218662.ensures
+returns-in-1685218662 c = rw c.in-1685218662.is c.in_parent-in-1685218662.ensures
 
 pub returns-in_default : goal.returns-in_default
 unfolding form_of

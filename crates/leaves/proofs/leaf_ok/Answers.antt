@@ -11,8 +11,8 @@ size_ok-requires c = tt
 
 pub returns-in-Version : goal.returns-in-Version
 unfolding leaf_ok
-returns-in-Version c = rw c.enum_told-1.given.1 c.version_ok.ensures
+returns-in-Version c = rw c.in-Version.is c.version_ok.ensures
 
 pub returns-in-Size : goal.returns-in-Size
 unfolding leaf_ok
-returns-in-Size c = rw c.enum_told-in-Size-1.given.1 c.size_ok.ensures
+returns-in-Size c = rw c.in-Size.is c.size_ok.ensures

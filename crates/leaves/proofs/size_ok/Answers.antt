@@ -17,24 +17,24 @@ has_sized_entries-requires c = tt
 
 pub returns-in-Skipped : goal.returns-in-Skipped
 unfolding size_ok
-returns-in-Skipped c = rw c.enum_told-1.given.1
+returns-in-Skipped c = rw c.in-Skipped.is
 
 pub returns-in-Exactly : goal.returns-in-Exactly
 unfolding size_ok
-returns-in-Exactly c = rw c.f-1.given.1
+returns-in-Exactly c = rw c.in-Exactly.is
 
 pub returns-in-AtLeast : goal.returns-in-AtLeast
 unfolding size_ok
-returns-in-AtLeast c = rw c.f-in-AtLeast-1.given.1
+returns-in-AtLeast c = rw c.in-AtLeast.is
 
 pub returns-in-Entries : goal.returns-in-Entries
 unfolding size_ok
-returns-in-Entries c = rw (c.f-in-Entries-1.given.1, ← c.u32_at.ensures) c.holds_entries.ensures
+returns-in-Entries c = rw (c.in-Entries.is, ← c.u32_at.ensures) c.holds_entries.ensures
 
 pub returns-in-Sizes : goal.returns-in-Sizes
 unfolding size_ok
-returns-in-Sizes c = rw c.enum_told-in-Sizes-1.given.1 c.sizes_ok.ensures
+returns-in-Sizes c = rw c.in-Sizes.is c.sizes_ok.ensures
 
 pub returns-in-Sized : goal.returns-in-Sized
 unfolding size_ok
-returns-in-Sized c = rw c.f-in-Sized-1.given.1 c.has_sized_entries.ensures
+returns-in-Sized c = rw c.in-Sized.is c.has_sized_entries.ensures

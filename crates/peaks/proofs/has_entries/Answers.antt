@@ -19,7 +19,7 @@ pub returns-then-stts-head : goal.returns-then-stts-head
 returns-then-stts-head c = untrue
 
 pub returns : goal.returns
-returns c =
+returns c e =
     record {
       tail = c.if-tail-ne1.false;
       head = c.if-head-ne1.false;

@@ -5,4 +5,4 @@ use Rattle.peaks.specs.Slides.{to_peak}
 use Rattle.peaks.proofs.to_peak.Goals as goal
 
 pub returns-in-Run : goal.returns-in-Run
-returns-in-Run c = sym (ap to_peak c.best-1.given.1)
+returns-in-Run c = sym (ap to_peak c.in-Run.is)

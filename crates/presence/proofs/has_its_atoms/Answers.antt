@@ -26,35 +26,35 @@ has_tables-requires c = tt
 
 pub returns-in-0 : goal.returns-in-0
 unfolding present_by
-returns-in-0 c = rw c.in_default.keys1
+returns-in-0 c = rw c.in-0.is
 
 pub returns-in-1836019574 : goal.returns-in-1836019574
 unfolding present_by
-returns-in-1836019574 c = rw c.in_default.keys2
+returns-in-1836019574 c = rw c.in-1836019574.is
 
 pub returns-in-1953653099 : goal.returns-in-1953653099
 unfolding present_by
-returns-in-1953653099 c = rw c.in_default.keys3 (both_are c.both-in-1953653099.ensures c.both.ensures refl)
+returns-in-1953653099 c = rw c.in-1953653099.is (both_are c.both-in-1953653099.ensures c.both.ensures refl)
 
 pub returns-in-1701082227 : goal.returns-in-1701082227
 unfolding present_by
-returns-in-1701082227 c = rw c.in_default.keys4
+returns-in-1701082227 c = rw c.in-1701082227.is
 
 pub returns-in-1835297121 : goal.returns-in-1835297121
 unfolding present_by
-returns-in-1835297121 c = rw c.in_default.keys5 (both_are c.both-in-1835297121-2.ensures c.both-in-1835297121.ensures refl)
+returns-in-1835297121 c = rw c.in-1835297121.is (both_are c.both-in-1835297121-2.ensures c.both-in-1835297121.ensures refl)
 
 pub returns-in-1835626086 : goal.returns-in-1835626086
 unfolding present_by
-returns-in-1835626086 c = rw c.in_default.keys6 c.both-in-1835626086.ensures
+returns-in-1835626086 c = rw c.in-1835626086.is c.both-in-1835626086.ensures
 
 pub returns-in-1937007212 : goal.returns-in-1937007212
 unfolding present_by
-returns-in-1937007212 c = rw c.in_default.keys7 c.has_tables.ensures
+returns-in-1937007212 c = rw c.in-1937007212.is c.has_tables.ensures
 
 pub returns-in-1684631142 : goal.returns-in-1684631142
 unfolding present_by
-returns-in-1684631142 c = rw c.in_default.keys8
+returns-in-1684631142 c = rw c.in-1684631142.is
 
 pub returns-in_default : goal.returns-in_default
 unfolding present_by

@@ -5,6 +5,6 @@ use Rattle.return_totals.proofs.Following.{more_counts}
 use Rattle.return_totals.proofs.add_counts.Goals as goal
 
 pub returns : goal.returns
-returns c =
+returns c r s w =
     more_counts c.args.f c.args.c _ _ _ _ c.sum_of-accepted.ensures c.sum_of-tracks.ensures c.sum_of-samples.ensures c.sum_of-bytes.ensures _
     (c.either-over.ensures ∙ rw (c.either.ensures, c.either-2.ensures)) r s w _ c.later_refusal-refusal.ensures

@@ -9,18 +9,18 @@ use Rattle.return_totals.proofs.Joining.{toward_all, toward_next, toward_none, a
 use Rattle.return_totals.proofs.add_scales.Goals as goal
 
 pub loop-i-init : goal.loop-i-init
-loop-i-init c = (omega arith, λ r t w. rw (all_scales c.args.t2 _ c.held-n.ensures t) (toward_all r t _ _ w))
+loop-i-init c = (omega arith, λ r t w. rw (all_scales c.args.other _ c.held-n.ensures t) (toward_all r t _ _ w))
 
 pub loop-i-smaller : goal.loop-i-smaller
 loop-i-smaller c = omega (arith, c.loop-i-test.true)
 
 pub loop-i-preserved : goal.loop-i-preserved
 loop-i-preserved c =
-    let units_long : length c.args.t2.units ≡ 32 = array_length c.args.t2.units 32 c.well_formed.1.0.1.1.1.1.1.1.1.1.1.0.1.0.1 in
-    let scales_long : length c.args.t2.scales ≡ 32 = array_length c.args.t2.scales 32 c.well_formed.1.0.1.1.1.1.1.1.1.1.0.1.0.1 in
+    let units_long : length c.args.other.units ≡ 32 = array_length c.args.other.units 32 c.well_formed.1.0.1.1.1.1.1.1.1.1.1.0.1.0.1 in
+    let scales_long : length c.args.other.scales ≡ 32 = array_length c.args.other.scales 32 c.well_formed.1.0.1.1.1.1.1.1.1.1.0.1.0.1 in
     let h = c.loop-i-test.true in
     let n = c.held-n.ensures in
-    (omega (arith, h), λ r t w. toward_next r _ _ _ _ _ _ (next_scale c.args.t2 _ c.loop-i.i h (omega (arith, n, scales_long)) (omega (arith, n, units_long))) c.add_scale-next.ensures (c.loop-i.invariant.1 r t w))
+    (omega (arith, h), λ r t w. toward_next r _ _ _ _ _ _ (next_scale c.args.other _ c.loop-i.i h (omega (arith, n, scales_long)) (omega (arith, n, units_long))) c.add_scale-next.ensures (c.loop-i.invariant.1 r t w))
 
 pub returns : goal.returns
-returns c =     toward_none r _ _ _ (no_scale c.args.t2 _ c.loop-i.i c.loop-i-test.false) (c.loop-i.invariant.1 r t w)
+returns c r t w =     toward_none r _ _ _ (no_scale c.args.other _ c.loop-i.i c.loop-i-test.false) (c.loop-i.invariant.1 r t w)

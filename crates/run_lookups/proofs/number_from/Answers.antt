@@ -43,24 +43,24 @@ pub returns-then-samples-passed-2 : goal.returns-then-samples-passed-2
 returns-then-samples-passed-2 c =
     refused_from _ _ _ _ _
     (λ cs ts.
-    from_past _ c.last_upto-i.result _ _ _ (counted c cs) (totalled c ts) (upto c ts) _ (short c) _ (rw c.after.ensures at c.look_up.ensures) _ c.hit-1.given.1 c.if-samples-passed-2.true)
+    from_past _ c.last_upto-i.result _ _ _ (counted c cs) (totalled c ts) (upto c ts) _ (short c) _ (rw c.after.ensures at c.look_up.ensures) _ c.in-Hit.is c.if-samples-passed-2.true)
 
 pub overflow_cast-result-in-Hit : goal.overflow_cast-result-in-Hit
 overflow_cast-result-in-Hit c = record { fits = omega (arith, inside c, c.requires) }
 
 pub overflow_add-result-in-Hit-2 : goal.overflow_add-result-in-Hit-2
 overflow_add-result-in-Hit-2 c =
-    let e = hit_few (drop (512 * c.last_upto-i.result) c.args.stts.now) _ _ (sym c.hit-1.given.1 ∙ rw c.after.ensures at c.look_up.ensures) in
+    let e = hit_few (drop (512 * c.last_upto-i.result) c.args.stts.now) _ _ (sym c.in-Hit.is ∙ rw c.after.ensures at c.look_up.ensures) in
     record { fits = omega (arith, e.0, e.1, length-drop (512 * c.last_upto-i.result) c.args.stts.now, short c) }
 
 pub returns-else-samples-passed-2 : goal.returns-else-samples-passed-2
 returns-else-samples-passed-2 c =
-    let e = hit_in c.args.stts.now c.last_upto-i.result _ _ (sym c.hit-1.given.1 ∙ rw c.after.ensures at c.look_up.ensures) in
+    let e = hit_in c.args.stts.now c.last_upto-i.result _ _ (sym c.in-Hit.is ∙ rw c.after.ensures at c.look_up.ensures) in
     number_by _ _ _ _ _ _ _ (omega arith) (omega (arith, c.if-samples-passed-2.false, c.if-samples-passed.false)) (omega (arith, e.0)) (omega (arith, e.1))
     (λ cs ts.
-    from_found _ c.last_upto-i.result _ _ _ (counted c cs) (totalled c ts) (upto c ts) _ (short c) _ (rw c.after.ensures at c.look_up.ensures) _ c.hit-1.given.1 c.if-samples-passed-2.false _ _ refl refl)
+    from_found _ c.last_upto-i.result _ _ _ (counted c cs) (totalled c ts) (upto c ts) _ (short c) _ (rw c.after.ensures at c.look_up.ensures) _ c.in-Hit.is c.if-samples-passed-2.false _ _ refl refl)
 
 pub returns-in-Outside : goal.returns-in-Outside
 returns-in-Outside c =
     refused_from _ _ _ _ _
-    (λ cs ts. from_outside _ c.last_upto-i.result _ _ _ (counted c cs) (totalled c ts) (upto c ts) _ (short c) _ (rw c.after.ensures at c.look_up.ensures) c.enum_told-1.given.1)
+    (λ cs ts. from_outside _ c.last_upto-i.result _ _ _ (counted c cs) (totalled c ts) (upto c ts) _ (short c) _ (rw c.after.ensures at c.look_up.ensures) c.in-Outside.is)

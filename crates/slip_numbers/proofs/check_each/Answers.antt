@@ -38,15 +38,15 @@ loop-rest-preserved-then-q-gt0 c =
     (i.0 + 1, _, omega (arith, i.2), i.3 ∙ check_good _ _ _ _ _ _ _ c.loop-rest-test.true _ refl _ _ (read c) (allowed_past _ _ _ i.2))
 
 pub returns-in-Broken : goal.returns-in-Broken
-returns-in-Broken c =     sym (c.loop-rest.invariant.3 ∙ check_broken _ _ _ _ _ _ _ c.loop-rest-test.true _ c.number_at.ensures _ c.p-1.given.1)
+returns-in-Broken c =     sym (c.loop-rest.invariant.3 ∙ check_broken _ _ _ _ _ _ _ c.loop-rest-test.true _ c.number_at.ensures _ c.in-Broken.is)
 
 pub returns-in-Short : goal.returns-in-Short
-returns-in-Short c =     sym (c.loop-rest.invariant.3 ∙ check_short _ _ _ _ _ _ _ c.loop-rest-test.true _ c.number_at.ensures _ c.p-in-Short-1.given.1)
+returns-in-Short c =     sym (c.loop-rest.invariant.3 ∙ check_short _ _ _ _ _ _ _ c.loop-rest-test.true _ c.number_at.ensures _ c.in-Short.is)
 
 pub loop-rest-preserved : goal.loop-rest-preserved
 loop-rest-preserved c =
     let i = c.loop-rest.invariant in
-    (i.0 + 1, _, omega (arith, i.2), i.3 ∙ check_good _ _ _ _ _ _ _ c.loop-rest-test.true _ c.number_at.ensures _ _ c.next-1.given.1 (allowed_past _ _ _ i.2))
+    (i.0 + 1, _, omega (arith, i.2), i.3 ∙ check_good _ _ _ _ _ _ _ c.loop-rest-test.true _ c.number_at.ensures _ _ c.in-Good.is (allowed_past _ _ _ i.2))
 
 pub returns : goal.returns
 returns c =

@@ -17,22 +17,22 @@ loop-rest-init c = (refl, c.requires)
 pub returns-then-not-rule_allows : goal.returns-then-not-rule_allows
 returns-then-not-rule_allows c =
     let l = c.loop-rest in
-    sym (l.invariant.0 ∙ check_fault _ _ _ _ _ _ _ c.loop-rest-test.true _ (ap (λ (t : Step). t.read) c.next_number-s.ensures) _ _ c.read-1.given.1 (sym c.rule_allows.ensures ∙ not-true _ c.if-not-rule_allows.true))
+    sym (l.invariant.0 ∙ check_fault _ _ _ _ _ _ _ c.loop-rest-test.true _ (ap (λ (t : Step). t.read) c.next_number-s.ensures) _ _ c.in-Good.is (sym c.rule_allows.ensures ∙ not-true _ c.if-not-rule_allows.true))
 
 pub returns-in-Broken : goal.returns-in-Broken
 returns-in-Broken c =
     let l = c.loop-rest in
-    sym (l.invariant.0 ∙ check_broken _ _ _ _ _ _ _ c.loop-rest-test.true _ (ap (λ (t : Step). t.read) c.next_number-s.ensures) _ c.read-in-Broken-1.given.1)
+    sym (l.invariant.0 ∙ check_broken _ _ _ _ _ _ _ c.loop-rest-test.true _ (ap (λ (t : Step). t.read) c.next_number-s.ensures) _ c.in-Broken.is)
 
 pub returns-in-Short : goal.returns-in-Short
 returns-in-Short c =
     let l = c.loop-rest in
-    sym (l.invariant.0 ∙ check_short _ _ _ _ _ _ _ c.loop-rest-test.true _ (ap (λ (t : Step). t.read) c.next_number-s.ensures) _ c.read-in-Short-1.given.1)
+    sym (l.invariant.0 ∙ check_short _ _ _ _ _ _ _ c.loop-rest-test.true _ (ap (λ (t : Step). t.read) c.next_number-s.ensures) _ c.in-Short.is)
 
 pub loop-rest-preserved : goal.loop-rest-preserved
 loop-rest-preserved c =
     let l = c.loop-rest in
-    let g = c.read-1.given.1 in
+    let g = c.in-Good.is in
     let read = ap (λ (t : Step). t.read) c.next_number-s.ensures in
     let m = step_moved _ l.p c.next_number-s.result c.next_number-s.ensures _ _ g in
     let w = width l.p.wide in

@@ -29,18 +29,18 @@ overflow_mul-pairs c =
     omega (
       arith,
       filled_at 9 2 bs from c.fill_wide.new.1.1.0 _ c.fill_wide.ensures 4 (lit< tt),
-      head_few (more_of wide) (top_of wide) 9 2 bs from _ w.seven w.some w.ten (wider c) (are c) (sym c.at-1.given.1 ∙ c.check_numbers.ensures),
+      head_few (more_of wide) (top_of wide) 9 2 bs from _ w.seven w.some w.ten (wider c) (are c) (sym c.in-All.is ∙ c.check_numbers.ensures),
     ) in
     omega (arith, few)
 
 pub returns-in-Stopped : goal.returns-in-Stopped
-returns-in-Stopped c = sym (rest_head _ _ _ _ _ c.check_numbers.ensures _ c.p-1.given.1)
+returns-in-Stopped c = sym (rest_head _ _ _ _ _ c.check_numbers.ensures _ c.in-Stopped.is)
 
 pub returns-in-Stopped-check_pairs : goal.returns-in-Stopped-check_pairs
-returns-in-Stopped-check_pairs c =     sym (rest_stopped _ _ 9 2 _ (wider c) _ _ _ c.check_numbers.ensures c.at-1.given.1 _ _ c.fill_wide.ensures _ c.check_pairs.ensures _ c.p-in-Stopped-check_pairs-1.given.1)
+returns-in-Stopped-check_pairs c =     sym (rest_stopped _ _ 9 2 _ (wider c) _ _ _ c.check_numbers.ensures c.in-All.is _ _ c.fill_wide.ensures _ c.check_pairs.ensures _ c.in-Stopped-check_pairs.is)
 
 pub returns-then-end-bytes : goal.returns-then-end-bytes
-returns-then-end-bytes c =     sym (rest_whole _ _ 9 2 _ (wider c) _ _ _ c.check_numbers.ensures c.at-1.given.1 _ _ c.fill_wide.ensures _ c.check_pairs.ensures _ c.end-1.given.1 c.if-end-bytes.true)
+returns-then-end-bytes c =     sym (rest_whole _ _ 9 2 _ (wider c) _ _ _ c.check_numbers.ensures c.in-All.is _ _ c.fill_wide.ensures _ c.check_pairs.ensures _ c.in-All-check_pairs.is c.if-end-bytes.true)
 
 pub returns-else-end-bytes : goal.returns-else-end-bytes
-returns-else-end-bytes c =     sym (rest_surplus _ _ 9 2 _ (wider c) _ _ _ c.check_numbers.ensures c.at-1.given.1 _ _ c.fill_wide.ensures _ c.check_pairs.ensures _ c.end-1.given.1 c.if-end-bytes.false)
+returns-else-end-bytes c =     sym (rest_surplus _ _ 9 2 _ (wider c) _ _ _ c.check_numbers.ensures c.in-All.is _ _ c.fill_wide.ensures _ c.check_pairs.ensures _ c.in-All-check_pairs.is c.if-end-bytes.false)

@@ -20,27 +20,27 @@ module _ (n : tie.After-next-number) where
   past m next q = (read_next 16 n.before.before.args.bytes.now 0 4 m next (lit< tt) (lit≤ tt) (λ i. (n.before.shared-slice-known.given i).fits) (sym is ∙ q)).0
 
 pub find_rest-requires : goal.find_rest-requires
-find_rest-requires c = past c _ _ c.read-1.given.1
+find_rest-requires c = past c _ _ c.in-Good.is
 
 pub returns-then-form-eq1 : goal.returns-then-form-eq1
-returns-then-form-eq1 c = c.find_rest.ensures ∙ sym (form_one _ _ _ (is c) _ _ c.read-1.given.1 c.if-form-eq1.true)
+returns-then-form-eq1 c = c.find_rest.ensures ∙ sym (form_one _ _ _ (is c) _ _ c.in-Good.is c.if-form-eq1.true)
 
 pub returns-then-not-any : goal.returns-then-not-any
-returns-then-not-any c = sym (form_old _ _ _ (is c) _ _ c.read-1.given.1 (not-true _ c.if-not-any.true) c.if-form-eq1.false)
+returns-then-not-any c = sym (form_old _ _ _ (is c) _ _ c.in-Good.is (not-true _ c.if-not-any.true) c.if-form-eq1.false)
 
 pub find_wide-requires : goal.find_wide-requires
-find_wide-requires c = past c _ _ c.read-1.given.1
+find_wide-requires c = past c _ _ c.in-Good.is
 
 pub returns-then-form-eq2 : goal.returns-then-form-eq2
 returns-then-form-eq2 c =
     c.find_wide.ensures
-    ∙ sym (form_two _ _ _ (is c) _ _ c.read-1.given.1 (not-false _ c.if-not-any.false) c.if-form-eq2.true)
+    ∙ sym (form_two _ _ _ (is c) _ _ c.in-Good.is (not-false _ c.if-not-any.false) c.if-form-eq2.true)
 
 pub returns-else-form-eq2 : goal.returns-else-form-eq2
-returns-else-form-eq2 c = sym (form_other _ _ _ (is c) _ _ c.read-1.given.1 c.if-form-eq1.false c.if-form-eq2.false)
+returns-else-form-eq2 c = sym (form_other _ _ _ (is c) _ _ c.in-Good.is c.if-form-eq1.false c.if-form-eq2.false)
 
 pub returns-in-Broken : goal.returns-in-Broken
-returns-in-Broken c = sym (form_broken _ _ _ (is c) _ c.read-in-Broken-1.given.1)
+returns-in-Broken c = sym (form_broken _ _ _ (is c) _ c.in-Broken.is)
 
 pub returns-in-Short : goal.returns-in-Short
-returns-in-Short c = sym (form_short _ _ _ (is c) _ c.read-in-Short-1.given.1)
+returns-in-Short c = sym (form_short _ _ _ (is c) _ c.in-Short.is)

@@ -5,7 +5,7 @@ use Rattle.slip_scan.proofs.Rest.{wide_none, wide_rest}
 use Rattle.slip_scan.proofs.find_wide.Goals as goal
 
 pub returns-in-Slip : goal.returns-in-Slip
-returns-in-Slip c = sym (wide_none _ _ _ c.find_rest.ensures _ _ c.enum_told-1.given.1)
+returns-in-Slip c = sym (wide_none _ _ _ c.find_rest.ensures _ _ c.in-Slip.is)
 
 pub returns-in-Malformed : goal.returns-in-Malformed
-returns-in-Malformed c = c.find_rest-in-Malformed.ensures ∙ sym (wide_rest _ _ _ c.find_rest.ensures _ c.enum_told-in-Malformed-1.given.1)
+returns-in-Malformed c = c.find_rest-in-Malformed.ensures ∙ sym (wide_rest _ _ _ c.find_rest.ensures _ c.in-Malformed.is)

@@ -5,10 +5,10 @@ use Rattle.spans.proofs.Spanning.{index_is, not_outside}
 use Rattle.spans.proofs.index_at.Goals as goal
 
 pub overflow_cast-result : goal.overflow_cast-result
-overflow_cast-result c = let h = (index_is _ _ _ c.sample_at.ensures _ c.index-1.given.1).0 in omega arith
+overflow_cast-result c = let h = (index_is _ _ _ c.sample_at.ensures _ c.in-At.is).0 in omega arith
 
 pub returns-in-At : goal.returns-in-At
-returns-in-At c = (index_is _ _ _ c.sample_at.ensures _ c.index-1.given.1).0
+returns-in-At c = (index_is _ _ _ c.sample_at.ensures _ c.in-At.is).0
 
 pub returns-in-Outside : goal.returns-in-Outside
-returns-in-Outside c = absurd (not_outside _ _ _ c.sample_at.ensures c.requires.1 c.enum_told-1.given.1)
+returns-in-Outside c = absurd (not_outside _ _ _ c.sample_at.ensures c.requires.1 c.in-Outside.is)

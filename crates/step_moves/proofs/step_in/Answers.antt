@@ -31,14 +31,14 @@ pub read_entries-requires : goal.read_entries-requires
 read_entries-requires c = ap (λ h. h.offsets) c.requires
 
 pub returns-in_default : goal.returns-in_default
-returns-in_default c =     moved_end _ _ (ready c) (may_not (ready c) (sym c.read_entries.ensures ∙ c.enum_told-1.given.1)) ∙ stepped_by (bytes c) c.args.samples c.args.m c.if-samples-m.false
+returns-in_default c =     moved_end _ _ (ready c) (may_not (ready c) (sym c.read_entries.ensures ∙ c.in_default.is)) ∙ stepped_by (bytes c) c.args.samples c.args.m c.if-samples-m.false
 
 pub moved-requires : goal.moved-requires
 moved-requires c =
-    let w = may_so (ready c) _ (sym c.read_entries.ensures ∙ c.n-1.given.1) in
+    let w = may_so (ready c) _ (sym c.read_entries.ensures ∙ c.in-At.is) in
     (ap (λ h. h.sizes) c.requires, sym (ap may_move w.1) ∙ w.0, omega (arith, ap (λ m. m.index) w.1, c.if-samples-m.false, c.well_formed, c.ranges))
 
 pub returns : goal.returns
 returns c =
-    let w = may_so (ready c) _ (sym c.read_entries.ensures ∙ c.n-1.given.1) in
+    let w = may_so (ready c) _ (sym c.read_entries.ensures ∙ c.in-At.is) in
     c.moved.ensures ∙ ap (moved_on c.args.stsz.now c.args.stss.now) (sym w.1) ∙ stepped_by (bytes c) c.args.samples c.args.m c.if-samples-m.false

@@ -30,7 +30,7 @@ returns-in_default c =
       offsets = c.part_of-offsets.ensures i;
       stss = c.part_of-stss.ensures i;
     }) c.args.from.samples c.loop-room.m) in
-    rw c.reached_at.ensures (reached _ _ _ _ _ _ c.loop-room.invariant (inr (steps_end _ (at c.args.from c.loop-room.m) _ (stepped) c.enum_told-1.given.1)))
+    rw c.reached_at.ensures (reached _ _ _ _ _ _ c.loop-room.invariant (inr (steps_end _ (at c.args.from c.loop-room.m) _ (stepped) c.in_default.is)))
 
 pub put_sample-requires : goal.put_sample-requires
 put_sample-requires c =
@@ -43,7 +43,7 @@ put_sample-requires c =
       offsets = c.part_of-offsets.ensures i;
       stss = c.part_of-stss.ensures i;
     }) c.args.from.samples c.loop-room.m) in
-    let low = (steps_next _ (at c.args.from c.loop-room.m) _ (stepped) _ _ c.step-1.given.1 (omega (arith, c.known_told-1.given.1))).elsewhere.low _ _ refl in
+    let low = (steps_next _ (at c.args.from c.loop-room.m) _ (stepped) _ _ c.in-To.is (omega (arith, c.known_told-1.given.1))).elsewhere.low _ _ refl in
     (low.0, low.1, low.2, omega (arith, c.loop-room-test.true, c.loop-room.invariant.within, c.loop-room.invariant.same))
 
 pub overflow_add-at : goal.overflow_add-at
@@ -64,7 +64,7 @@ loop-room-preserved c =
       stss = c.part_of-stss.ensures i;
     }) c.args.from.samples c.loop-room.m) in
     turn _ _ _ _ _ _ c.loop-room.invariant _ _ _
-    (steps_next _ (at c.args.from c.loop-room.m) _ (stepped) _ _ c.step-1.given.1 (omega (arith, c.known_told-1.given.1)))
+    (steps_next _ (at c.args.from c.loop-room.m) _ (stepped) _ _ c.in-To.is (omega (arith, c.known_told-1.given.1)))
     (omega (arith, c.loop-room-test.true, c.loop-room.invariant.within, c.loop-room.invariant.same))
     c.put_sample.ensures
 

@@ -5,7 +5,7 @@ use Rattle.track.proofs.Rows.{sum_within, over_is}
 use Rattle.track.proofs.is_over.Goals as goal
 
 pub returns-in-Sum : goal.returns-in-Sum
-returns-in-Sum c = sym (sum_within _ _ c.edits_total.ensures _ c.enum_told-1.given.1)
+returns-in-Sum c = sym (sum_within _ _ c.edits_total.ensures _ c.in-Sum.is)
 
 pub returns-in-Over : goal.returns-in-Over
-returns-in-Over c = sym (over_is _ _ c.edits_total.ensures c.enum_told-in-Over-1.given.1)
+returns-in-Over c = sym (over_is _ _ c.edits_total.ensures c.in-Over.is)

@@ -10,17 +10,17 @@ use Rattle.tree.proofs.Walking.{not_left}
 use Rattle.tree.proofs.is_ruled.Goals as goal
 
 pub returns-in-1836019574 : goal.returns-in-1836019574
-returns-in-1836019574 c = absurd (not_left e)
+returns-in-1836019574 c e = absurd (not_left e)
 
 pub returns-in-1836476516 : goal.returns-in-1836476516
-returns-in-1836476516 c = absurd (not_left e)
+returns-in-1836476516 c e = absurd (not_left e)
 
 pub returns-in-1937011827 : goal.returns-in-1937011827
-returns-in-1937011827 c = absurd (not_left e)
+returns-in-1937011827 c e = absurd (not_left e)
 
 pub returns-in_default : goal.returns-in_default
 unfolding with_kind bump form_of container
-returns-in_default c =
+returns-in_default c z =
     let r = c.in_default.rest in
     let dinf = ne_eqb _ kinds.dinf (λ e. r.0.0.1 (inl e)) in
     let edts = ne_eqb _ kinds.edts (λ e. r.0.0.1 (inr (inl e))) in

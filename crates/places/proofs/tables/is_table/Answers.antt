@@ -6,13 +6,13 @@ use Rattle.places.proofs.Finding.{not_left}
 use Rattle.places.proofs.tables.is_table.Goals as goal
 
 pub returns-in-1937011556 : goal.returns-in-1937011556
-returns-in-1937011556 c = absurd (not_left e)
+returns-in-1937011556 c e = absurd (not_left e)
 
 pub returns-in-1937011555 : goal.returns-in-1937011555
-returns-in-1937011555 c = absurd (not_left e)
+returns-in-1937011555 c e = absurd (not_left e)
 
 pub returns-in_default : goal.returns-in_default
-returns-in_default c =
+returns-in_default c z =
     let r = c.in_default.rest in
     record {
       stsd = ne_eqb _ _ (λ e. r.0.1 (inr (inl e)));

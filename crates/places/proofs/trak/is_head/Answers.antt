@@ -6,10 +6,10 @@ use Rattle.places.proofs.Finding.{not_left}
 use Rattle.places.proofs.trak.is_head.Goals as goal
 
 pub returns-in-1953196132 : goal.returns-in-1953196132
-returns-in-1953196132 c = absurd (not_left e)
+returns-in-1953196132 c e = absurd (not_left e)
 
 pub returns-in_default : goal.returns-in_default
-returns-in_default c =
+returns-in_default c z =
     let r = c.in_default.rest.1 in
     record {
       tkhd = ne_eqb _ _ (λ e. r (inr (inr (inr e))));

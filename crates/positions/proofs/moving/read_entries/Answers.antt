@@ -22,12 +22,12 @@ dealt_ready-requires c = ap (λ h. h.long) c.requires
 pub returns-in_default : goal.returns-in_default
 returns-in_default c =
     let ahead : c.dealt_ready.result ≡ ahead_of (readied c).dealt = c.dealt_ready.ensures ∙ ap (λ (n : ℕ). ahead_of (readied_dealt c.args.stsc.now c.args.offsets.now n c.args.m.dealt)) (ap (λ h. h.chunks) c.requires) in
-    none_dealt (readied c) c.if-m-gt4294967295.false (sym (ahead) ∙ c.enum_told-1.given.1)
+    none_dealt (readied c) c.if-m-gt4294967295.false (sym (ahead) ∙ c.in_default.is)
 
 pub returns : goal.returns
 returns c =
     let ahead : c.dealt_ready.result ≡ ahead_of (readied c).dealt = c.dealt_ready.ensures ∙ ap (λ (n : ℕ). ahead_of (readied_dealt c.args.stsc.now c.args.offsets.now n c.args.m.dealt)) (ap (λ h. h.chunks) c.requires) in
-    let w = dealt_at (readied c) _ c.if-m-gt4294967295.false (sym (ahead) ∙ c.dealt-1.given.1) in
+    let w = dealt_at (readied c) _ c.if-m-gt4294967295.false (sym (ahead) ∙ c.in-At.is) in
     (λ i. At (record {
       index = c.args.m.index;
       decode = c.args.m.decode;

@@ -4,10 +4,10 @@ use Rattle.stretch.proofs.Saying.{not_asked, asked_fits, asked_too_large}
 use Rattle.stretch.proofs.tables.asked_of.Goals as goal
 
 pub returns-then-pairs_fit : goal.returns-then-pairs_fit
-returns-then-pairs_fit c = asked_fits _ _ _ _ _ _ _ _ _ c.span_of.ensures _ c.span-1.given.1 _ c.pairs_fit.ensures c.if-pairs_fit.true
+returns-then-pairs_fit c = asked_fits _ _ _ _ _ _ _ _ _ c.span_of.ensures _ c.in-Samples.is _ c.pairs_fit.ensures c.if-pairs_fit.true
 
 pub returns-in-Refused : goal.returns-in-Refused
-returns-in-Refused c = not_asked _ _ _ _ _ _ _ _ _ c.span_of.ensures _ c.r-1.given.1
+returns-in-Refused c = not_asked _ _ _ _ _ _ _ _ _ c.span_of.ensures _ c.in-Refused.is
 
 pub returns-else-pairs_fit : goal.returns-else-pairs_fit
-returns-else-pairs_fit c = asked_too_large _ _ _ _ _ _ _ _ _ c.span_of.ensures _ c.span-1.given.1 _ c.pairs_fit.ensures c.if-pairs_fit.false
+returns-else-pairs_fit c = asked_too_large _ _ _ _ _ _ _ _ _ c.span_of.ensures _ c.in-Samples.is _ c.pairs_fit.ensures c.if-pairs_fit.false
