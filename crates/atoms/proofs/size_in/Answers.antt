@@ -17,11 +17,11 @@ unfolding size_in
 returns-then-parent-eq-FILE c =
     let a = c.args in
     let e : c.size_top.result ≡ size_in a.parent a.s.now = simp (eq-eqb _ _ c.if-parent-eq-FILE.true) c.size_top.ensures in
-    (e, rw e (size_le a.parent a.s.now))
+    record { value = e; upper_bound = rw e (size_le a.parent a.s.now) }
 
 pub returns-else-parent-eq-FILE : goal.returns-else-parent-eq-FILE
 unfolding size_in
 returns-else-parent-eq-FILE c =
     let a = c.args in
     let e : c.size_inside.result ≡ size_in a.parent a.s.now = simp (ne_eqb _ _ c.if-parent-eq-FILE.false) c.size_inside.ensures in
-    (e, rw e (size_le a.parent a.s.now))
+    record { value = e; upper_bound = rw e (size_le a.parent a.s.now) }

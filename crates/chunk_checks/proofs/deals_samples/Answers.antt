@@ -7,7 +7,7 @@ use native.Mathlib.Omega.{arith}
 use native.Mathlib.Decide.{ℕ_discrete}
 use lib.Dec.{eqb}
 use lib.ListN.{length-drop}
-use borrow.Author.Tests.{not-true, not-false, eq-eqb, ne_eqb}
+use borrow.Author.Tests.{eq-eqb, ne_eqb}
 use Rattle.bigendian.proofs.Parts.{rest as part-rest}
 use Rattle.lists.specs.Lists.{sum}
 use Rattle.chunks.specs.Chunks.{per_chunk}
@@ -45,7 +45,7 @@ loop-ahead-init c =
 pub returns-then-not-right : goal.returns-then-not-right
 returns-then-not-right c =
     let l = c.loop-ahead in
-    fails _ (sym l.invariant.2 ∙ dealing_falls _ _ _ c.loop-ahead-test.true (part-rest 12 l.ahead.now) l.invariant.0 c.first_of-next.ensures.0 _ c.u32_at-per.ensures c.u32_at-id.ensures c.right_entry-right.ensures (not-true _ c.if-not-right.true))
+    fails _ (sym l.invariant.2 ∙ dealing_falls _ _ _ c.loop-ahead-test.true (part-rest 12 l.ahead.now) l.invariant.0 c.first_of-next.ensures.0 _ c.u32_at-per.ensures c.u32_at-id.ensures c.right_entry-right.ensures c.if-not-right.true)
 
 pub overflow_mul-here : goal.overflow_mul-here
 overflow_mul-here c =
@@ -69,7 +69,7 @@ loop-ahead-preserved c =
     let l = c.loop-ahead in (
       c.first_of-next.ensures.0,
       c.first_of-next.ensures.1,
-      sym (dealing_on _ _ _ c.loop-ahead-test.true (part-rest 12 l.ahead.now) l.invariant.0 c.first_of-next.ensures.0 _ c.u32_at-per.ensures c.u32_at-id.ensures c.right_entry-right.ensures (not-false _ c.if-not-right.false)) ∙ l.invariant.2,
+      sym (dealing_on _ _ _ c.loop-ahead-test.true (part-rest 12 l.ahead.now) l.invariant.0 c.first_of-next.ensures.0 _ c.u32_at-per.ensures c.u32_at-id.ensures c.right_entry-right.ensures c.if-not-right.false) ∙ l.invariant.2,
       omega (arith, l.invariant.3),
       omega (arith, next_sum _ _ _ c.loop-ahead-test.true (part-rest 12 l.ahead.now) l.invariant.0 c.first_of-next.ensures.0 c.span.ensures c.u32_at-per.ensures _ _ (sym l.invariant.4), c.if-rest-here.false),
     )

@@ -3,7 +3,6 @@
 use Prim.Native.Nat.{ℕ, ◌*◌}
 use mathlib.Core.Path.{sym, ap, ◌∙◌}
 use native.Mathlib.Omega.{arith}
-use borrow.Author.Tests.{not-true, not-false}
 use lib.ListN.{drop, replicate}
 use Rattle.lists.proofs.Laws.{wide_mul}
 use Rattle.words.specs.Words.{numbers_in, width_of}
@@ -27,7 +26,7 @@ run_within-requires c = c.loop-c.invariant.1
 pub returns-then-not-run_within : goal.returns-then-not-run_within
 returns-then-not-run_within c =
     let l = c.loop-c in
-    sym (ends_past l.invariant.0 l.c.remaining (omega arith) c.run_within.ensures (not-true _ c.if-not-run_within.true))
+    sym (ends_past l.invariant.0 l.c.remaining (omega arith) c.run_within.ensures c.if-not-run_within.true)
 
 pub overflow_mul-count : goal.overflow_mul-count
 overflow_mul-count c = record { fits = wide_mul c.loop-c.invariant.1 (omega (arith, c.struct_known-in-loop-c-1.given)) }
@@ -44,7 +43,7 @@ pub loop-c-preserved : goal.loop-c-preserved
 loop-c-preserved c =
     let a = c.args in
     let l = c.loop-c in (
-      ending_next l.invariant.0 l.c.remaining (omega arith) c.pass.ensures c.ready-c-in-loop-c.ensures.0 c.run_within.ensures (not-false _ c.if-not-run_within.false)
+      ending_next l.invariant.0 l.c.remaining (omega arith) c.pass.ensures c.ready-c-in-loop-c.ensures.0 c.run_within.ensures c.if-not-run_within.false
           (ap (numbers_in (width_of a.long)) (c.after-others.ensures ∙ ap (λ (n : ℕ). drop (l.c.remaining * n) l.t.now) c.width_of-width.ensures) ∙ numbers_drop (width_of a.long) (width_above a.long) l.c.remaining l.t.now)
           (ap (λ (n : ℕ). replicate n a.each) c.remaining-stock.ensures ∙ sym (same_after l.stock a.each (l.c.remaining * l.c.per))),
       c.ready-c-in-loop-c.ensures.1 (omega (arith, ap (λ (y : ChunkCursor). y.remaining) c.pass.ensures, l.invariant.1)),

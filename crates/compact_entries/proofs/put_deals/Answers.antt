@@ -41,7 +41,7 @@ pub put_bytes-k-requires-then-not-same_deal : goal.put_bytes-k-requires-then-not
 put_bytes-k-requires-then-not-same_deal c =
     let l = c.loop-t in
     let t = l.t.now in
-    storing_room l.invariant (take 12 t) (deals_rest (take 12 t) (drop 12 t)) (deals_other l.e.now t c.loop-t-test.true c.same_deal.ensures (not-true _ c.if-not-same_deal.true))
+    storing_room l.invariant (take 12 t) (deals_rest (take 12 t) (drop 12 t)) (deals_other l.e.now t c.loop-t-test.true c.same_deal.ensures c.if-not-same_deal.true)
 
 pub loop-t-smaller : goal.loop-t-smaller
 loop-t-smaller c =

@@ -4,6 +4,7 @@
 use native.Mathlib.Omega.{arith}
 use mathlib.Core.Path.{refl, sym, ap, ◌∙◌}
 use mathlib.Core.Logic.{⊎_elim}
+use mathlib.Core.List.{[]}
 use lib.ListN.{length, take, drop, length-drop}
 use lib.Seq.{length-sets, length-take-le}
 use Rattle.bigendian.proofs.Parts.{rest}

@@ -2,7 +2,6 @@
 -- Assumes nothing.
 use mathlib.Core.Path.{sym, ap, ◌∙◌}
 use native.Mathlib.Omega.{arith}
-use borrow.Author.Tests.{not-true, not-false}
 use lib.ListN.{length, length-drop}
 use Rattle.bigendian.proofs.Parts.{rest as part-rest}
 use Rattle.edits.specs.Edits.{edits_in, all_ok}
@@ -31,7 +30,7 @@ pub returns-then-not-edit_ok : goal.returns-then-not-edit_ok
 returns-then-not-edit_ok c =
     sym
     (all_wrong _ _ _ _ c.loop-rows-test.true c.edit_at-e.ensures.0
-    (sym c.edit_ok.ensures ∙ not-true _ c.if-not-edit_ok.true)) ∙ c.loop-rows.invariant
+    (sym c.edit_ok.ensures ∙ c.if-not-edit_ok.true)) ∙ c.loop-rows.invariant
 
 pub loop-rows-smaller : goal.loop-rows-smaller
 loop-rows-smaller c = rw part-rest (simp length-drop (omega (arith, c.loop-rows-test.true)))
@@ -41,7 +40,7 @@ loop-rows-preserved c =
     rw part-rest
     (sym
     (all_right _ _ _ _ c.loop-rows-test.true c.edit_at-e.ensures.0
-    (sym c.edit_ok.ensures ∙ not-false _ c.if-not-edit_ok.false)) ∙ c.loop-rows.invariant)
+    (sym c.edit_ok.ensures ∙ c.if-not-edit_ok.false)) ∙ c.loop-rows.invariant)
 
 pub returns : goal.returns
 returns c = sym (all_end _ _ _ _ c.loop-rows-test.false) ∙ c.loop-rows.invariant

@@ -1,6 +1,5 @@
 -- `format_checks::lacks_one` meets its contract; the loop's invariant: the descriptions of the rest decide for all of them.
 -- Assumes nothing.
-use borrow.Author.Tests.{not-true, not-false}
 use native.Mathlib.Omega.{arith}
 use mathlib.Core.Path.{sym, ◌∙◌}
 use lib.ListN.{length-drop}
@@ -36,7 +35,7 @@ pub returns-then-not-is_named : goal.returns-then-not-is_named
 returns-then-not-is_named c =
     let l = c.loop-t in
     let d = c.entry_size-z in
-    let n = sym c.is_named.ensures ∙ not-true _ c.if-not-is_named.true in
+    let n = sym c.is_named.ensures ∙ c.if-not-is_named.true in
     sym (lacks_here _ l.t.now d.ensures.value c.if-z-eq0.false d.ensures.upper_bound _ c.u32_at.ensures _ n) ∙ l.invariant
 
 pub loop-t-smaller : goal.loop-t-smaller
@@ -50,6 +49,6 @@ loop-t-preserved c =
     let l = c.loop-t in
     let d = c.entry_size-z in
     let t = l.t.now in
-    let n = sym c.is_named.ensures ∙ not-false _ c.if-not-is_named.false in
+    let n = sym c.is_named.ensures ∙ c.if-not-is_named.false in
     rw (rest d.result t)
     (sym (lacks_next _ t d.ensures.value c.if-z-eq0.false d.ensures.upper_bound _ c.u32_at.ensures _ n) ∙ l.invariant)

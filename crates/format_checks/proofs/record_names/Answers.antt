@@ -1,14 +1,13 @@
 -- `format_checks::record_names` meets its contract, by what the calls ensure.
 -- Assumes nothing.
 use mathlib.Core.Path.{sym, ◌∙◌}
-use borrow.Author.Tests.{not-true, not-false}
 use Rattle.format_checks.proofs.record_names.Goals as goal
 
 pub returns-then-not-names_format : goal.returns-then-not-names_format
-returns-then-not-names_format c = rw (sym c.names_format.ensures ∙ not-true _ c.if-not-names_format.true)
+returns-then-not-names_format c = rw (sym c.names_format.ensures ∙ c.if-not-names_format.true)
 
 pub returns : goal.returns
-returns c = rw (sym c.names_format.ensures ∙ not-false _ c.if-not-names_format.false, c.u32_at.ensures)
+returns c = rw (sym c.names_format.ensures ∙ c.if-not-names_format.false, c.u32_at.ensures)
 
 pub record-names-spec : {M : Type 1} → statement M
 

@@ -1,7 +1,7 @@
 -- `host_fragments::hand_fragments` meets its contract, case by case of the answer.
 -- Assumes nothing.
 use mathlib.Core.Path.{sym, ◌∙◌}
-use mathlib.Core.List.{◌∷◌}
+use mathlib.Core.List.{[], ◌∷◌}
 use Rattle.hand.proofs.Answered.{handed, of_case}
 use Rattle.fragments.specs.Fragments.{fragments_numbers}
 use Rattle.host_fragments.proofs.hand_fragments.Goals as goal

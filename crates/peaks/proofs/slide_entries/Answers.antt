@@ -1,6 +1,5 @@
 -- `peaks::slide_entries` meets its contract: each turn takes the window to that of the next sample, whose run is no higher than the best.
 -- Assumes nothing.
-use borrow.Author.Tests.{not-false}
 use Prim.Native.Nat.{◌-◌}
 use mathlib.Core.Path.{refl, sym, ◌∙◌}
 use native.Mathlib.Omega.{arith}
@@ -106,8 +105,8 @@ pub loop-h-preserved : goal.loop-h-preserved
 loop-h-preserved c =
     let p = c.requires in
     let e = c.loop-h.invariant in
-    let r = no_higher_run_known _ _ _ _ _ (sym c.is_no_higher_run.ensures ∙ not-false _ c.if-not-is_no_higher_run.false) in
-    let u = single_known _ _ (sym c.are_single.ensures ∙ not-false _ c.if-not-are_single.false) in
+    let r = no_higher_run_known _ _ _ _ _ (sym c.is_no_higher_run.ensures ∙ c.if-not-is_no_higher_run.false) in
+    let u = single_known _ _ (sym c.are_single.ensures ∙ c.if-not-are_single.false) in
     rw (part-rest 8 c.loop-h.h.now, part-rest 8 c.loop-h.t.now, part-rest 4 c.loop-h.o.now, part-rest 4 c.loop-h.i.now, c.whole32-in-loop-h-2.ensures, c.whole32-in-loop-h-3.ensures)
     (enters_next _ _ _ p.1 _ _ p.5 _ _ _ _ _ e c.if-i-lt4.false c.loop-h-test.true c.whole32.ensures c.whole32-in-loop-h.ensures (omega (arith, c.whole32.type_inv)) u.0 u.1 r.0 (p.3 _ refl).0 r.1 r.2)
 

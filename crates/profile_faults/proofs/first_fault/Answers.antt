@@ -38,7 +38,7 @@ returns-then-format_fault c =
     found_format _ _ _ _ _ _ l.invariant _ c.loop-t-test.true c.u32_at.ensures c.if-u32_at-ne0.true (sym c.format_fault.ensures ∙ c.if-format_fault.true)
 
 pub judge_feature-judged-requires : goal.judge_feature-judged-requires
-judge_feature-judged-requires c =     (c.requires, c.loop-t.invariant.known)
+judge_feature-judged-requires c =     record { are_parts = c.requires; are_bounds = c.loop-t.invariant.known }
 
 pub returns-then-judged : goal.returns-then-judged
 returns-then-judged c =

@@ -1,6 +1,5 @@
 -- `references::all_in_this_file` meets its contract; the loop's invariant: the descriptions of the rest decide for all of them.
 -- Assumes nothing.
-use borrow.Author.Tests.{not-true, not-false}
 use native.Mathlib.Omega.{arith}
 use mathlib.Core.Path.{sym, ap, ◌∙◌}
 use lib.ListN.{length-drop}
@@ -43,7 +42,7 @@ returns-then-not-names_this_file c =
     let l = c.loop-t in
     let d = c.entry_size-z in
     let n = c.names_this_file.ensures ∙ ap (names_this_file _) c.u16_at.ensures in
-    sym (all_stop (size_entry _) l.t.now d.ensures.value _ c.if-z-eq0.false d.ensures.upper_bound (sym n ∙ not-true _ c.if-not-names_this_file.true)) ∙ l.invariant
+    sym (all_stop (size_entry _) l.t.now d.ensures.value _ c.if-z-eq0.false d.ensures.upper_bound (sym n ∙ c.if-not-names_this_file.true)) ∙ l.invariant
 
 pub loop-t-smaller : goal.loop-t-smaller
 loop-t-smaller c =
@@ -58,4 +57,4 @@ loop-t-preserved c =
     let t = l.t.now in
     let n = c.names_this_file.ensures ∙ ap (names_this_file _) c.u16_at.ensures in
     rw (rest d.result t)
-    (sym (all_next (size_entry _) t d.ensures.value _ c.if-z-eq0.false d.ensures.upper_bound (sym n ∙ not-false _ c.if-not-names_this_file.false)) ∙ l.invariant)
+    (sym (all_next (size_entry _) t d.ensures.value _ c.if-z-eq0.false d.ensures.upper_bound (sym n ∙ c.if-not-names_this_file.false)) ∙ l.invariant)

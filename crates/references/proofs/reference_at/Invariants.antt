@@ -1,6 +1,7 @@
 -- `references::reference_at` meets its contract; the loop's invariant: the reference that is looked for is the one at `skip` in the rest.
 -- Assumes nothing.
 use mathlib.Core.Path.{◌≡◌}
+use mathlib.Core.List.{[]}
 use lib.ListN.{length, get_or}
 use Rattle.atoms.specs.Pieces.{pieces}
 use Rattle.leaves.specs.Leaves.{size_entry}

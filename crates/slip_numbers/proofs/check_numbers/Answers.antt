@@ -3,7 +3,6 @@
 use mathlib.Core.Path.{◌≡◌, refl, sym, ap, ◌∙◌}
 use Prim.Native.Nat.{◌<◌, ◌^◌, ◌-◌}
 use native.Mathlib.Omega.{arith}
-use borrow.Author.Tests.{not-true, not-false}
 use Rattle.number_cursor.specs.declared.Step.{Step}
 use Rattle.leb128.specs.Reading.{more_of, top_of}
 use Rattle.leb128.proofs.Readings.{read_next, width}
@@ -17,7 +16,7 @@ loop-rest-init c = (refl, c.requires)
 pub returns-then-not-rule_allows : goal.returns-then-not-rule_allows
 returns-then-not-rule_allows c =
     let l = c.loop-rest in
-    sym (l.invariant.0 ∙ check_fault _ _ _ _ _ _ _ c.loop-rest-test.true _ (ap (λ (t : Step). t.read) c.next_number-s.ensures) _ _ c.in-Good.is (sym c.rule_allows.ensures ∙ not-true _ c.if-not-rule_allows.true))
+    sym (l.invariant.0 ∙ check_fault _ _ _ _ _ _ _ c.loop-rest-test.true _ (ap (λ (t : Step). t.read) c.next_number-s.ensures) _ _ c.in-Good.is (sym c.rule_allows.ensures ∙ c.if-not-rule_allows.true))
 
 pub returns-in-Broken : goal.returns-in-Broken
 returns-in-Broken c =
@@ -39,7 +38,7 @@ loop-rest-preserved c =
     let past = read_next (top_of l.p.wide) c.args.bytes.now l.p.at (more_of l.p.wide) _ _ w.some w.seven (λ i. (c.type_inv.bytes i).fits) (sym read ∙ g) in
     let few : l.p.count < 2 ^ 64 - 1 = omega (arith, l.invariant.1, past, c.well_formed) in
     let one = counted_one l.p.count few in (
-      rw (m.0, m.1, m.2, one) (l.invariant.0 ∙ check_good _ _ _ _ _ _ _ c.loop-rest-test.true _ read _ _ g (sym c.rule_allows.ensures ∙ not-false _ c.if-not-rule_allows.false)),
+      rw (m.0, m.1, m.2, one) (l.invariant.0 ∙ check_good _ _ _ _ _ _ _ c.loop-rest-test.true _ read _ _ g (sym c.rule_allows.ensures ∙ c.if-not-rule_allows.false)),
       omega (arith, m.0, m.1, one, l.invariant.1, past),
     )
 

@@ -1,7 +1,7 @@
 -- `slip_pairs::measure_each` meets its contract: the loop keeps what `Measuring` says, a pair with the next offset and the next sizes a turn.
 -- Assumes nothing.
 use mathlib.Core.Path.{refl}
-use mathlib.Core.List.{◌∷◌}
+use mathlib.Core.List.{[], ◌∷◌}
 use native.Mathlib.Omega.{arith}
 use lib.ListN.{length-drop}
 use Rattle.bigendian.proofs.Parts.{rest as part-rest}

@@ -1,6 +1,7 @@
 -- `slip_pairs::measure_pairs` meets its contract: the loop keeps what `Measuring` says, some chunks a turn.
 -- Assumes nothing.
 use mathlib.Core.Path.{sym, ◌∙◌}
+use mathlib.Core.List.{[]}
 use borrow.Author.Tests.{not-true, not-false}
 use Rattle.pairs.proofs.Walking.{some_remain, begins_low, past_less}
 use Rattle.pairs.proofs.Counting.{place_fits, step_fits}

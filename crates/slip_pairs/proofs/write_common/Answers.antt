@@ -1,6 +1,6 @@
 -- `slip_pairs::write_common` meets its contract: the loop keeps what `Writing` says, a pair with the next offset a turn.
 -- Assumes nothing.
-use mathlib.Core.List.{◌∷◌}
+use mathlib.Core.List.{[], ◌∷◌}
 use native.Mathlib.Omega.{arith}
 use lib.ListN.{length-drop}
 use Rattle.bigendian.proofs.Parts.{rest as part-rest}

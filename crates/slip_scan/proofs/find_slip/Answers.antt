@@ -2,7 +2,6 @@
 -- Assumes nothing.
 use mathlib.Core.Path.{◌≡◌, ap, sym, ◌∙◌}
 use Prim.Native.Nat.{ℕ, ◌<◌}
-use borrow.Author.Tests.{not-true, not-false}
 use lib.Dec.{lit<, lit≤}
 use Rattle.number_cursor.specs.declared.Step.{Step}
 use Rattle.slip_scan.proofs.Rest.{form_one, form_two, form_old, form_other, form_broken, form_short}
@@ -26,7 +25,7 @@ pub returns-then-form-eq1 : goal.returns-then-form-eq1
 returns-then-form-eq1 c = c.find_rest.ensures ∙ sym (form_one _ _ _ (is c) _ _ c.in-Good.is c.if-form-eq1.true)
 
 pub returns-then-not-any : goal.returns-then-not-any
-returns-then-not-any c = sym (form_old _ _ _ (is c) _ _ c.in-Good.is (not-true _ c.if-not-any.true) c.if-form-eq1.false)
+returns-then-not-any c = sym (form_old _ _ _ (is c) _ _ c.in-Good.is c.if-not-any.true c.if-form-eq1.false)
 
 pub find_wide-requires : goal.find_wide-requires
 find_wide-requires c = past c _ _ c.in-Good.is
@@ -34,7 +33,7 @@ find_wide-requires c = past c _ _ c.in-Good.is
 pub returns-then-form-eq2 : goal.returns-then-form-eq2
 returns-then-form-eq2 c =
     c.find_wide.ensures
-    ∙ sym (form_two _ _ _ (is c) _ _ c.in-Good.is (not-false _ c.if-not-any.false) c.if-form-eq2.true)
+    ∙ sym (form_two _ _ _ (is c) _ _ c.in-Good.is c.if-not-any.false c.if-form-eq2.true)
 
 pub returns-else-form-eq2 : goal.returns-else-form-eq2
 returns-else-form-eq2 c = sym (form_other _ _ _ (is c) _ _ c.in-Good.is c.if-form-eq1.false c.if-form-eq2.false)

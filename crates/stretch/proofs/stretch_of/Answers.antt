@@ -1,7 +1,7 @@
 -- `stretch::stretch_of` meets its contract: each way out is one of the answers of the question.
 -- Assumes nothing.
 use mathlib.Core.Path.{refl, sym, ap, ◌∙◌}
-use borrow.Author.Tests.{leb-true, leb-false, not-true, not-false}
+use borrow.Author.Tests.{leb-true, leb-false}
 use Rattle.questions.proofs.Asking.{ask_body}
 use Rattle.stretch.proofs.Spanning.{ask_span, asked_refused, asked_samples, ask_usable, no_span, of_whole, usable_whole, span_order, no-room, whole_stretch}
 use Rattle.stretch.proofs.Puts.{pairs_have_room}
@@ -30,13 +30,13 @@ returns-then-not-has_room c =
     let w = asked_samples _ _ _ _ _ _ (sym c.in-Samples.is ∙ c.span_asked.ensures ∙ ask_span _ _ _ _ c.of-ask.ensures _ _) in
     let d = ask_body _ _ _ _ c.of-ask.ensures (c.of-ask.ensures.refusal ∙ w.2.asks) _ c.part_of-body.ensures in
     of_whole _ _ _ _ _ _ _ _ c.whole.ensures
-    (no-room _ _ _ _ _ _ _ _ w.0 refl d _ (rw d w.1) _ refl (leb-false _ _ (sym c.has_room.ensures ∙ not-true c.has_room.result c.if-not-has_room.true)))
+    (no-room _ _ _ _ _ _ _ _ w.0 refl d _ (rw d w.1) _ refl (leb-false _ _ (sym c.has_room.ensures ∙ c.if-not-has_room.true)))
 
 pub put_in-q-requires : goal.put_in-q-requires
 put_in-q-requires c =
     let w = asked_samples _ _ _ _ _ _ (sym c.in-Samples.is ∙ c.span_asked.ensures ∙ ask_span _ _ _ _ c.of-ask.ensures _ _) in
     let d = ask_body _ _ _ _ c.of-ask.ensures (c.of-ask.ensures.refusal ∙ w.2.asks) _ c.part_of-body.ensures in
-    ((ask_usable _ _ _ _ c.of-ask.ensures w.2.asks _ c.part_of-body.ensures).0, usable_whole _ _ _ _ w.2.asks d (ap (λ (c : Source). c.alone) c.whole.ensures), span_order _ _ _ _ _ _ w.2 d _ (rw d w.1), pairs_have_room _ _ _ c.has_room.ensures (not-false c.has_room.result c.if-not-has_room.false))
+    ((ask_usable _ _ _ _ c.of-ask.ensures w.2.asks _ c.part_of-body.ensures).0, usable_whole _ _ _ _ w.2.asks d (ap (λ (c : Source). c.alone) c.whole.ensures), span_order _ _ _ _ _ _ w.2 d _ (rw d w.1), pairs_have_room _ _ _ c.has_room.ensures c.if-not-has_room.false)
 
 pub returns-in-Refused : goal.returns-in-Refused
 returns-in-Refused c =
@@ -48,4 +48,4 @@ returns-else-not-has_room c =
     let w = asked_samples _ _ _ _ _ _ (sym c.in-Samples.is ∙ c.span_asked.ensures ∙ ask_span _ _ _ _ c.of-ask.ensures _ _) in
     let d = ask_body _ _ _ _ c.of-ask.ensures (c.of-ask.ensures.refusal ∙ w.2.asks) _ c.part_of-body.ensures in
     of_whole _ _ _ _ _ _ _ _ c.whole.ensures
-    (whole_stretch _ _ _ _ _ _ _ _ w.0 refl d _ (rw d w.1) _ c.put_in-q.ensures.0 _ _ (rw c.put_in-q.ensures.0 (leb-true _ _ (sym c.has_room.ensures ∙ not-false c.has_room.result c.if-not-has_room.false))) c.put_in-q.ensures.1 c.put_in-q.ensures.2)
+    (whole_stretch _ _ _ _ _ _ _ _ w.0 refl d _ (rw d w.1) _ c.put_in-q.ensures.0 _ _ (rw c.put_in-q.ensures.0 (leb-true _ _ (sym c.has_room.ensures ∙ c.if-not-has_room.false))) c.put_in-q.ensures.1 c.put_in-q.ensures.2)

@@ -1,6 +1,7 @@
 -- `wide_pairs::put_pairs` meets its contract: the loop keeps what `Walked` says, some chunks a turn.
 -- Assumes nothing.
 use mathlib.Core.Path.{sym, ◌∙◌}
+use mathlib.Core.List.{[]}
 use native.Mathlib.Omega.{arith}
 use borrow.Author.Tests.{not-true, not-false}
 use Rattle.pairs.proofs.Walking.{some_remain, begins_low, past_from, past_less}

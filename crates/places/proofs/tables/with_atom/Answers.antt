@@ -1,13 +1,12 @@
 -- `places::tables::with_atom` meets its contract, by what the calls ensure; no other atom changes anything.
 -- Assumes nothing.
-use borrow.Author.Tests.{not-true}
 use Rattle.places.proofs.Finding.{same_tables}
 use Rattle.places.proofs.tables.with_atom.Goals as goal
 
 pub returns-then-not-is_table : goal.returns-then-not-is_table
 returns-then-not-is_table c =
     let a = c.args in
-    same_tables a.f a.kind a.next (c.is_table.ensures (not-true _ c.if-not-is_table.true))
+    same_tables a.f a.kind a.next (c.is_table.ensures c.if-not-is_table.true)
 
 pub returns : goal.returns
 returns c =

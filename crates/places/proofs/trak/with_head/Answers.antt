@@ -1,6 +1,5 @@
 -- `places::trak::with_head` meets its contract, by what the calls ensure; no other atom changes anything.
 -- Assumes nothing.
-use borrow.Author.Tests.{not-true}
 use Rattle.places.proofs.Finding.{same_heads}
 use Rattle.places.proofs.trak.with_head.Goals as goal
 
@@ -10,7 +9,7 @@ is_head-requires c = tt
 pub returns-then-not-is_head : goal.returns-then-not-is_head
 returns-then-not-is_head c =
     let a = c.args in
-    same_heads a.f a.kind a.next (c.is_head.ensures (not-true _ c.if-not-is_head.true))
+    same_heads a.f a.kind a.next (c.is_head.ensures c.if-not-is_head.true)
 
 pub first_part-requires : goal.first_part-requires
 first_part-requires c = tt

@@ -1,7 +1,6 @@
 -- `places::trak::with_one` meets its contract, by what the calls ensure; no other atom changes anything.
 -- Assumes nothing.
 use mathlib.Core.Path.{sym, ◌∙◌}
-use borrow.Author.Tests.{not-true}
 use Rattle.places.proofs.Finding.{same_three}
 use Rattle.places.proofs.trak.with_one.Goals as goal
 
@@ -11,7 +10,7 @@ is_one_of-requires c = tt
 pub returns-then-not-is_one_of : goal.returns-then-not-is_one_of
 returns-then-not-is_one_of c =
     let a = c.args in
-    same_three a.f a.a a.b a.c a.kind a.next (sym c.is_one_of.ensures ∙ not-true _ c.if-not-is_one_of.true)
+    same_three a.f a.a a.b a.c a.kind a.next (sym c.is_one_of.ensures ∙ c.if-not-is_one_of.true)
 
 pub first_part-requires : goal.first_part-requires
 first_part-requires c = tt

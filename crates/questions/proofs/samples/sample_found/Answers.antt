@@ -1,6 +1,5 @@
 -- `questions::samples::sample_found` meets its contract: the numbers are low, or the sample is refused.
 -- Assumes nothing.
-use borrow.Author.Tests.{not-true, not-false}
 use mathlib.Core.Path.{sym, ap, ◌∙◌}
 use native.Mathlib.Omega.{arith}
 use lib.IntN.{pos, ◌+ℤ◌}
@@ -16,11 +15,11 @@ pub is_low-requires : goal.is_low-requires
 is_low-requires c = tt
 
 pub returns-then-not-is_low : goal.returns-then-not-is_low
-returns-then-not-is_low c = found_refused _ _ _ _ _ _ _ _ _ _ c.located_offset-offset.ensures c.is_low.ensures (not-true _ c.if-not-is_low.true)
+returns-then-not-is_low c = found_refused _ _ _ _ _ _ _ _ _ _ c.located_offset-offset.ensures c.is_low.ensures c.if-not-is_low.true
 
 pub overflow_cast-start : goal.overflow_cast-start
 overflow_cast-start c =
-    let l = low_known _ _ _ _ (sym c.is_low.ensures ∙ not-false _ c.if-not-is_low.false) in
+    let l = low_known _ _ _ _ (sym c.is_low.ensures ∙ c.if-not-is_low.false) in
     record { fits = omega (arith, l.0) }
 
 pub shifted-requires : goal.shifted-requires
@@ -28,7 +27,7 @@ shifted-requires c = tt
 
 pub overflow_add-result : goal.overflow_add-result
 overflow_add-result c =
-    let l = low_known _ _ _ _ (sym c.is_low.ensures ∙ not-false _ c.if-not-is_low.false) in
+    let l = low_known _ _ _ _ (sym c.is_low.ensures ∙ c.if-not-is_low.false) in
     record { fits = omega (arith, l.1, c.well_formed) }
 
 pub size_of-requires : goal.size_of-requires
@@ -37,5 +36,5 @@ size_of-requires c = tt
 pub returns : goal.returns
 returns c =
     let s = c.shifted in
-    found_is _ _ _ _ _ _ _ _ _ _ c.located_offset-offset.ensures c.is_low.ensures (not-false _ c.if-not-is_low.false) _ _
+    found_is _ _ _ _ _ _ _ _ _ _ c.located_offset-offset.ensures c.is_low.ensures c.if-not-is_low.false _ _
     (kept s.result s.type_inv ∙ s.ensures ∙ ap (λ z. pos c.args.timing.start +ℤ z) (kept_narrow c.args.shift (omega (arith, c.well_formed)))) c.type_size.ensures
