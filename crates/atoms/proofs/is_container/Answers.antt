@@ -1,6 +1,7 @@
 -- `atoms::is_container` meets its contract: in each arm the kind is known.
 -- Assumes nothing.
-use borrow.Author.Tests.{ne_eqb}
+use native.Mathlib.Omega.{arith}
+use Rattle.std.proofs.lemmas.Grind.{common_steps}
 use mathlib.Core.Logic.{◌⊎◌, inl, inr, ⊎_elim}
 use Rattle.atoms.specs.Kinds.{container}
 use Rattle.atoms.proofs.is_container.Goals as goal
@@ -27,14 +28,4 @@ returns-in-1937007212 c = ⊎_elim (λ e. rw e) (λ e. rw e) c.in-1937007212.is
 
 pub returns-in_default : goal.returns-in_default
 unfolding container
-returns-in_default c =
-    let r = c.in_default.rest in
-    simp (
-      ne_eqb _ _ r.0.0.0.0.1,
-      ne_eqb _ _ r.0.0.0.1,
-      ne_eqb _ _ (λ e. r.0.0.1 (inl e)),
-      ne_eqb _ _ (λ e. r.0.0.1 (inr e)),
-      ne_eqb _ _ r.0.1,
-      ne_eqb _ _ (λ e. r.1 (inl e)),
-      ne_eqb _ _ (λ e. r.1 (inr e)),
-    )
+returns-in_default c = grind (arith, common_steps)

@@ -22,11 +22,11 @@ fit-requires c = tt
 
 pub returns-then-z-ne1 : goal.returns-then-z-ne1
 unfolding size_top
-returns-then-z-ne1 c =     simp (le-ltb _ _ c.if-s-lt8.false, ← c.u32_at-z.ensures, ne_eqb _ _ c.if-z-eq0.false, ne_eqb _ _ c.if-z-ne1.true) c.fit.ensures
+returns-then-z-ne1 c = simp (le-ltb _ _ c.if-s-lt8.false, ← c.u32_at-z.ensures, ne_eqb _ _ c.if-z-eq0.false, ne_eqb _ _ c.if-z-ne1.true) c.fit.ensures
 
 pub returns-then-s-lt16 : goal.returns-then-s-lt16
 unfolding size_top
-returns-then-s-lt16 c =     simp (le-ltb _ _ c.if-s-lt8.false, ← c.u32_at-z.ensures, ne_eqb _ _ c.if-z-eq0.false, eq-eqb _ _ c.if-z-ne1.false, lt-ltb (length c.args.s.now) 16 (omega arith))
+returns-then-s-lt16 c = simp (le-ltb _ _ c.if-s-lt8.false, ← c.u32_at-z.ensures, ne_eqb _ _ c.if-z-eq0.false, eq-eqb _ _ c.if-z-ne1.false, lt-ltb (length c.args.s.now) 16 (omega arith))
 
 pub u64_at-requires : goal.u64_at-requires
 u64_at-requires c = tt
