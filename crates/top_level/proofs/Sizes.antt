@@ -23,31 +23,31 @@ within_le least z rest = fit_le (leb least z && leb z rest) z rest (λ e. leb-tr
 module _ (rest : ℕ) (h : List ℕ) where
   -- r is that size
   abbrev pub Ahead : ℕ → Type 0
-  Ahead r = (r ≡ size_ahead rest h) × (r ≤ rest)
+  Ahead r = record { value : r ≡ size_ahead rest h; upper_bound : r ≤ rest }
 
   pub ahead_few : rest < 8 → Ahead 0
   unfolding size_ahead
-  ahead_few g = (rw (lt-ltb rest 8 g), omega arith)
+  ahead_few g = record { value = rw (lt-ltb rest 8 g); upper_bound = omega arith }
 
   module _ (g : 8 ≤ rest) where
     pub ahead_short : length h < 8 → Ahead 0
     unfolding size_ahead
-    ahead_short l = (rw (le-ltb rest 8 g, lt-ltb (length h) 8 l), omega arith)
+    ahead_short l = record { value = rw (le-ltb rest 8 g, lt-ltb (length h) 8 l); upper_bound = omega arith }
 
     module _ (l : 8 ≤ length h) (z : ℕ) (e : z ≡ u32_at h 0) where
       pub ahead_all : z ≡ 0 → Ahead rest
       unfolding size_ahead
-      ahead_all n = (rw (le-ltb rest 8 g, le-ltb (length h) 8 l, ← e, eq-eqb z 0 n), omega arith)
+      ahead_all n = record { value = rw (le-ltb rest 8 g, le-ltb (length h) 8 l, ← e, eq-eqb z 0 n); upper_bound = omega arith }
 
       pub ahead_plain : (z ≡ 0 → ⊥) → (z ≡ 1 → ⊥) → (r : ℕ) → r ≡ within 8 z rest → Ahead r
       unfolding size_ahead
-      ahead_plain m n r q = (rw (le-ltb rest 8 g, le-ltb (length h) 8 l, ← e, ne_eqb z 0 m, ne_eqb z 1 n) q, rw q (within_le 8 z rest))
+      ahead_plain m n r q = record { value = rw (le-ltb rest 8 g, le-ltb (length h) 8 l, ← e, ne_eqb z 0 m, ne_eqb z 1 n) q; upper_bound = rw q (within_le 8 z rest) }
 
       pub ahead_cut : z ≡ 1 → length h < 16 → Ahead 0
       unfolding size_ahead
-      ahead_cut n k = (rw (le-ltb rest 8 g, le-ltb (length h) 8 l, ← e, n, lt-ltb (length h) 16 k), omega arith)
+      ahead_cut n k = record { value = rw (le-ltb rest 8 g, le-ltb (length h) 8 l, ← e, n, lt-ltb (length h) 16 k); upper_bound = omega arith }
 
       pub ahead_wide : z ≡ 1 → 16 ≤ length h → (y r : ℕ) → y ≡ u64_at h 8 → r ≡ within 16 y rest → Ahead r
       unfolding size_ahead
       ahead_wide n k y r d q =
-          (rw (le-ltb rest 8 g, le-ltb (length h) 8 l, ← e, n, le-ltb (length h) 16 k, ← d) q, rw q (within_le 16 y rest))
+          record { value = rw (le-ltb rest 8 g, le-ltb (length h) 8 l, ← e, n, le-ltb (length h) 16 k, ← d) q; upper_bound = rw q (within_le 16 y rest) }

@@ -13,10 +13,10 @@ pub returns-then-z-eq0 : goal.returns-then-z-eq0
 returns-then-z-eq0 c = ahead_all _ _ c.if-rest-lt8.false c.if-header-lt8.false _ c.u32_at-z.ensures c.if-z-eq0.true
 
 pub returns-then-z-ne1 : goal.returns-then-z-ne1
-returns-then-z-ne1 c =     ahead_plain _ _ c.if-rest-lt8.false c.if-header-lt8.false _ c.u32_at-z.ensures c.if-z-eq0.false c.if-z-ne1.true _ c.within.ensures
+returns-then-z-ne1 c = ahead_plain _ _ c.if-rest-lt8.false c.if-header-lt8.false _ c.u32_at-z.ensures c.if-z-eq0.false c.if-z-ne1.true _ c.within.ensures
 
 pub returns-then-header-lt16 : goal.returns-then-header-lt16
-returns-then-header-lt16 c =     ahead_cut _ _ c.if-rest-lt8.false c.if-header-lt8.false _ c.u32_at-z.ensures c.if-z-ne1.false c.if-header-lt16.true
+returns-then-header-lt16 c = ahead_cut _ _ c.if-rest-lt8.false c.if-header-lt8.false _ c.u32_at-z.ensures c.if-z-ne1.false c.if-header-lt16.true
 
 pub returns : goal.returns
-returns c =     ahead_wide _ _ c.if-rest-lt8.false c.if-header-lt8.false _ c.u32_at-z.ensures c.if-z-ne1.false c.if-header-lt16.false _ _ c.u64_at.ensures c.within-2.ensures
+returns c = ahead_wide _ _ c.if-rest-lt8.false c.if-header-lt8.false _ c.u32_at-z.ensures c.if-z-ne1.false c.if-header-lt16.false _ _ c.u64_at.ensures c.within-2.ensures

@@ -12,7 +12,7 @@ pub returns-then-self : goal.returns-then-self
 returns-then-self c = c.end.ensures ∙ sym (step_end _ _ c.if-self-gt-LONGEST.false c.if-self.true)
 
 pub returns-then-size-eq0 : goal.returns-then-size-eq0
-returns-then-size-eq0 c =     sym (step_stop _ _ c.if-self-gt-LONGEST.false _ c.size_ahead-size.ensures.value c.if-self.false c.if-size-eq0.true)
+returns-then-size-eq0 c = sym (step_stop _ _ c.if-self-gt-LONGEST.false _ c.size_ahead-size.ensures.value c.if-self.false c.if-size-eq0.true)
 
 pub returns-then-u32_at-eq-MOOV : goal.returns-then-u32_at-eq-MOOV
 returns-then-u32_at-eq-MOOV c =
