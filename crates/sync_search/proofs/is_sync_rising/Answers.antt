@@ -19,4 +19,4 @@ overflow_mul-i c = omega (arith, c.last_upto-i.ensures, found_in c.after-part.re
 
 pub returns : goal.returns
 unfolding searched_sync
-returns c =     searched _ _ _ (rw (ne_eqb _ 0 c.if-stss-eq0.false, ← c.after-part.ensures, le-ltb _ 4 c.if-part-lt-WORD.false, ← c.last_upto-i.ensures, ← c.u32_at.ensures))
+returns c = searched _ _ _ (rw (ne_eqb _ 0 c.if-stss-eq0.false, ← c.after-part.ensures, le-ltb _ 4 c.if-part-lt-WORD.false, ← c.last_upto-i.ensures, ← c.u32_at.ensures))
