@@ -20,8 +20,8 @@ rank_of-requires-2 c = tt
 
 pub returns-then-rank_of : goal.returns-then-rank_of
 unfolding earlier_of
-returns-then-rank_of c =     simp (ne_eqb _ _ c.if-a-eq0.false, ne_eqb _ _ c.if-b-eq0.false, ← c.rank_of.ensures, ← c.rank_of-2.ensures, le-leb _ _ c.if-rank_of.true)
+returns-then-rank_of c = simp (ne_eqb _ _ c.if-a-eq0.false, ne_eqb _ _ c.if-b-eq0.false, ← c.rank_of.ensures, ← c.rank_of-2.ensures, le-leb _ _ c.if-rank_of.true)
 
 pub returns-else-rank_of : goal.returns-else-rank_of
 unfolding earlier_of
-returns-else-rank_of c =     simp (ne_eqb _ _ c.if-a-eq0.false, ne_eqb _ _ c.if-b-eq0.false, ← c.rank_of.ensures, ← c.rank_of-2.ensures, lt-leb _ _ c.if-rank_of.false)
+returns-else-rank_of c = simp (ne_eqb _ _ c.if-a-eq0.false, ne_eqb _ _ c.if-b-eq0.false, ← c.rank_of.ensures, ← c.rank_of-2.ensures, lt-leb _ _ c.if-rank_of.false)
