@@ -22,7 +22,7 @@ returns-then-more-eq0 c =
     let a = c.args in
     let l = c.loop-t in
     let d = c.entry_size-z.ensures in
-    sym (with_over (size_entry a.least) l.more l.t.now _ d.0 c.if-z-eq0.false d.1 c.if-more-eq0.true) ∙ l.invariant
+    sym (with_over (size_entry a.least) l.more l.t.now _ d.value c.if-z-eq0.false d.upper_bound c.if-more-eq0.true) ∙ l.invariant
 
 pub loop-t-smaller : goal.loop-t-smaller
 loop-t-smaller c =

@@ -1,5 +1,7 @@
 -- `leaves::form_of` meets its contract: in each arm the kind is known.
 -- Assumes nothing.
+use native.Mathlib.Omega.{arith}
+use Rattle.std.proofs.lemmas.Grind.{common_steps}
 use borrow.Author.Tests.{ne_eqb}
 use mathlib.Core.Path.{ap, ◌∙◌}
 use Rattle.leaves.specs.Leaves.{in_parent}
@@ -96,7 +98,4 @@ returns-in-1685218662 c = rw c.in-1685218662.is c.in_parent-in-1685218662.ensure
 
 pub returns-in_default : goal.returns-in_default
 unfolding form_of
-returns-in_default c =
-    let r = c.in_default.rest in
-    let q = r.0 in
-    simp (ne_eqb _ _ q.0.0.0.0.0.0.0.0.0.0.1, ne_eqb _ _ q.0.0.0.0.0.0.0.0.0.1, ne_eqb _ _ q.0.0.0.0.0.0.0.0.1, ne_eqb _ _ q.0.0.0.0.0.0.0.1, ne_eqb _ _ q.0.0.0.0.0.0.1, ne_eqb _ _ (λ e. q.0.0.0.0.0.1 (inl e)), ne_eqb _ _ (λ e. q.0.0.0.0.0.1 (inr e)), ne_eqb _ _ q.0.0.0.0.1, ne_eqb _ _ q.0.0.0.1, ne_eqb _ _ (λ e. q.0.0.1 (inl e)), ne_eqb _ _ (λ e. q.0.0.1 (inr e)), ne_eqb _ _ q.0.1, ne_eqb _ _ q.1, ne_eqb _ _ r.1)
+returns-in_default c = grind (arith, common_steps)
