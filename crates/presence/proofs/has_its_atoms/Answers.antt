@@ -1,5 +1,7 @@
 -- `presence::has_its_atoms` meets its contract: in each arm the parent is known, and `both` joins what is asked.
 -- Assumes nothing.
+use native.Mathlib.Omega.{arith}
+use Rattle.std.proofs.lemmas.Grind.{common_steps}
 use borrow.Author.Tests.{ne_eqb}
 use mathlib.Core.Path.{refl}
 use Rattle.presence.specs.Counts.{present_by}
@@ -58,4 +60,4 @@ returns-in-1684631142 c = rw c.in-1684631142.is
 
 pub returns-in_default : goal.returns-in_default
 unfolding present_by
-returns-in_default c = let r = c.in_default.rest in simp (ne_eqb _ _ r.0.0.0.0.0.0.0.1, ne_eqb _ _ r.0.0.0.0.0.0.1, ne_eqb _ _ r.0.0.0.0.0.1, ne_eqb _ _ r.0.0.0.0.1, ne_eqb _ _ r.0.0.0.1, ne_eqb _ _ r.0.0.1, ne_eqb _ _ r.0.1, ne_eqb _ _ r.1)
+returns-in_default c = grind (arith, common_steps)
