@@ -7,10 +7,6 @@ use lib.ListN.{get_or}
 use Rattle.slip_numbers.proofs.Ended.{end_one, ends_none, ends_more, fine_more}
 use Rattle.slip_numbers.proofs.ends.few_ends.Goals as goal
 
--- the place where the byte was told to end a number or not
-abbrev met : tie.After-fault invariant-loop decreases-loop → tie.After-end-of invariant-loop decreases-loop
-met c = c.before.before.before.before.before.before
-
 pub loop-i-init : goal.loop-i-init
 loop-i-init c = (omega arith, sym (ends_none _ _), omega arith, omega arith, λ z x h l. absurd (omega arith))
 
@@ -20,7 +16,7 @@ overflow_add-ends c =
     omega (arith, end_one (get_or a.bytes.now (a.from + c.loop-i.i) 0), c.end_of-ends.ensures, c.requires)
 
 pub overflow_add-faults : goal.overflow_add-faults
-overflow_add-faults c = omega (arith, c.fault-faults.ensures.0, (met c).before.before.before.before.before.requires)
+overflow_add-faults c = omega (arith, c.fault-faults.ensures.0, c.requires)
 
 pub overflow_add-i : goal.overflow_add-i
 overflow_add-i c = omega arith
@@ -30,16 +26,15 @@ loop-i-smaller c = omega arith
 
 pub loop-i-preserved : goal.loop-i-preserved
 loop-i-preserved c =
-    let d = met c in
-    let l = d.before.before.before.loop in
-    let a = d.before.before.before.before.before.args in
+    let l = c.loop-i in
+    let a = c.args in
     let e = ends_more a.bytes.now a.from l.i in
     let p : a.from + (l.i + 1) ≡ a.from + l.i + 1 = omega arith in (
       omega arith,
-      omega (arith, e, d.end_of_lem.ensures, l.inv.1),
-      omega (arith, end_one (get_or a.bytes.now (a.from + l.i) 0), d.end_of_lem.ensures),
+      omega (arith, e, c.end_of-ends.ensures, l.invariant.1),
+      omega (arith, end_one (get_or a.bytes.now (a.from + l.i) 0), c.end_of-ends.ensures),
       omega (arith, c.fault-faults.ensures.0),
-      λ z. rw p (fine_more a.bytes.now a.from (a.from + l.i) (l.inv.4 (omega arith)) (c.fault-faults.ensures.1 (omega arith))),
+      λ z. rw p (fine_more a.bytes.now a.from (a.from + l.i) (l.invariant.4 (omega arith)) (c.fault-faults.ensures.1 (omega arith))),
     )
 
 pub returns-then-faults-eq0 : goal.returns-then-faults-eq0
