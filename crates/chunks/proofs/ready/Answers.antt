@@ -23,7 +23,7 @@ returns-then-t-lt-ENTRY c =
     (sym (ready_end _ _ c.loop-r.r (part-rest c.loop-r.r.at s) c.if-t-lt-ENTRY.true) ∙ c.loop-r.invariant.0, c.loop-r.invariant.1)
 
 pub overflow_add-r : goal.overflow_add-r
-overflow_add-r c =     omega (arith, c.well_formed.0.0, c.if-t-lt-ENTRY.false, ap length (part-rest c.loop-r.r.at c.args.stsc.now), length-drop c.loop-r.r.at c.args.stsc.now)
+overflow_add-r c = omega (arith, c.well_formed.0.0, c.if-t-lt-ENTRY.false, ap length (part-rest c.loop-r.r.at c.args.stsc.now), length-drop c.loop-r.r.at c.args.stsc.now)
 
 pub loop-r-smaller : goal.loop-r-smaller
 loop-r-smaller c =

@@ -48,14 +48,13 @@ overflow_add-passed c =
     omega (arith, seeking_fits c.loop-c.invariant.0, few)
 
 pub loop-c-smaller : goal.loop-c-smaller
-loop-c-smaller c =     seeking_less c.loop-c.invariant.0 c.pass.ensures c.ready-c-in-loop-c.ensures.0 c.loop-c-test.true
+loop-c-smaller c = seeking_less c.loop-c.invariant.0 c.pass.ensures c.ready-c-in-loop-c.ensures.0 c.loop-c-test.true
 
 pub loop-c-preserved : goal.loop-c-preserved
-loop-c-preserved c =
-    (
-      seeking_past c.loop-c.invariant.0 c.pass.ensures c.ready-c-in-loop-c.ensures.0 c.if-rest-samples.false,
-      c.ready-c-in-loop-c.ensures.1 (omega (arith, ap (λ (x : ChunkCursor). x.remaining) c.pass.ensures)),
-    )
+loop-c-preserved c = (
+  seeking_past c.loop-c.invariant.0 c.pass.ensures c.ready-c-in-loop-c.ensures.0 c.if-rest-samples.false,
+  c.ready-c-in-loop-c.ensures.1 (omega (arith, ap (λ (x : ChunkCursor). x.remaining) c.pass.ensures)),
+)
 
 pub overflow_cast-result-2 : goal.overflow_cast-result-2
 overflow_cast-result-2 c = omega (arith, c.loop-c.invariant.0.low, c.ranges.index)
