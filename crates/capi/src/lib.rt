@@ -2,16 +2,16 @@
 // puts the values into lent places, in the order of the documents. Each is one call: a function that is exported must stand in this crate.
 #![tactic(auto)]
 
-mod checks;
-mod compacting;
-mod filing;
-mod fragment_check;
-mod handles;
-mod index;
-mod moov;
-mod quay_check;
-mod steps;
-mod version;
+pub mod checks;
+pub mod compacting;
+pub mod filing;
+pub mod fragment_check;
+pub mod handles;
+pub mod index;
+pub mod moov;
+pub mod quay_check;
+pub mod steps;
+pub mod version;
 
 ghost use Rattle.std.specs.Prelude.{true, false};
 ghost use Rattle.slip.specs.Slip.{slip_in};
