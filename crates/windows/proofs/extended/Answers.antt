@@ -16,7 +16,7 @@ returns-then-head-eq0 c =
     record { slides = l.invariant.0; from = l.invariant.1; all = λ h. before_none _ _ _ l.invariant.0.head c.if-head-eq0.true }
 
 pub grown-r-requires : goal.grown-r-requires
-grown-r-requires c =     (omega (arith, c.loop-r.invariant.0.few, c.requires.1.few), omega (arith, c.loop-r-test.true, c.ranges.scale), omega (arith, c.loop-r.invariant.0.few, c.loop-r.invariant.0.low, c.requires.1.few))
+grown-r-requires c = (omega (arith, c.loop-r.invariant.0.few, c.requires.1.few), omega (arith, c.loop-r-test.true, c.ranges.scale), omega (arith, c.loop-r.invariant.0.few, c.loop-r.invariant.0.low, c.requires.1.few))
 
 pub loop-r-smaller : goal.loop-r-smaller
 loop-r-smaller c =
@@ -26,7 +26,7 @@ loop-r-smaller c =
 
 pub loop-r-preserved : goal.loop-r-preserved
 loop-r-preserved c =
-    let z = c.type_size in
+    let z = c.size_of in
     let k = slides_grown _ _ _ c.requires.1.some_scale _ c.loop-r.invariant.0 _ c.loop-r-test.true (omega (arith, c.if-head-eq0.false)) z.ensures (omega arith) in
     rw c.grown-r.ensures (k, c.loop-r.invariant.1)
 

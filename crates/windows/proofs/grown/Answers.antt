@@ -7,7 +7,7 @@ use Rattle.runs.specs.Cursors.{readied_run}
 use Rattle.windows.proofs.grown.Goals as goal
 
 pub overflow_add-result-3 : goal.overflow_add-result-3
-overflow_add-result-3 c =     record { fits = omega (arith, c.ranges.size, c.requires.2) }
+overflow_add-result-3 c = record { fits = omega (arith, c.ranges.size, c.requires.2) }
 
 pub returns : goal.returns
 returns c =

@@ -14,4 +14,4 @@ returns-then-span-scale c = rw (lt-leb _ _ c.if-scale-rest.false, lt-ltb _ _ c.i
 
 pub returns : goal.returns
 unfolding no_higher_run
-returns c =     rw (lt-leb _ _ c.if-scale-rest.false, le-ltb _ _ c.if-span-scale.false) c.is_no_higher.ensures
+returns c = rw (lt-leb _ _ c.if-scale-rest.false, le-ltb _ _ c.if-span-scale.false) c.is_no_higher.ensures

@@ -4,10 +4,10 @@ use Rattle.windows.proofs.Sliding.{tail_fits, bytes_fit, slides_shrunk}
 use Rattle.windows.proofs.next_window.Goals as goal
 
 pub overflow_sub-rest : goal.overflow_sub-rest
-overflow_sub-rest c =     tail_fits _ _ _ c.requires.1.some_scale _ c.requires.0 c.requires.2
+overflow_sub-rest c = tail_fits _ _ _ c.requires.1.some_scale _ c.requires.0 c.requires.2
 
 pub overflow_sub-rest-2 : goal.overflow_sub-rest-2
-overflow_sub-rest-2 c =     bytes_fit _ _ _ c.requires.1.some_scale _ c.requires.0 c.requires.2 _ c.type_size.ensures
+overflow_sub-rest-2 c = bytes_fit _ _ _ c.requires.1.some_scale _ c.requires.0 c.requires.2 _ c.size_of.ensures
 
 pub extended-requires : goal.extended-requires
-extended-requires c =     (slides_shrunk _ _ _ c.requires.1.some_scale _ c.requires.0 c.requires.2 _ _ _ c.run_pass.ensures c.run_ready.ensures c.type_size.ensures, c.requires.1)
+extended-requires c = (slides_shrunk _ _ _ c.requires.1.some_scale _ c.requires.0 c.requires.2 _ _ _ c.run_pass.ensures c.run_ready.ensures c.size_of.ensures, c.requires.1)

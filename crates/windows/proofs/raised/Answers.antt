@@ -12,13 +12,13 @@ pub is_no_higher-requires : goal.is_no_higher-requires
 is_no_higher-requires c = (c.requires.4, (c.requires.0 _ c.in-Run.is).1)
 
 pub returns-then-is_no_higher : goal.returns-then-is_no_higher
-returns-then-is_no_higher c =     raised_kept _ _ _ c.requires.0 _ c.in-Run.is c.requires.3 c.requires.4 (no_higher_known _ _ _ (sym c.is_no_higher.ensures ∙ c.if-is_no_higher.true))
+returns-then-is_no_higher c = raised_kept _ _ _ c.requires.0 _ c.in-Run.is c.requires.3 c.requires.4 (no_higher_known _ _ _ (sym c.is_no_higher.ensures ∙ c.if-is_no_higher.true))
 
 pub returns-in_default-rated : goal.returns-in_default-rated
-returns-in_default-rated c =     raised_uncomputed _ _ _ c.requires.0 _ c.in-Run.is (sym c.in_default-rated.is ∙ c.rated.ensures.0)
+returns-in_default-rated c = raised_uncomputed _ _ _ c.requires.0 _ c.in-Run.is (sym c.in_default-rated.is ∙ c.rated.ensures.0)
 
 pub returns-then-b-r : goal.returns-then-b-r
-returns-then-b-r c =     raised_higher _ _ _ c.requires.0 _ c.in-Run.is _ (sym c.in-Run-rated.is ∙ c.rated.ensures.0) (rw c.in-Run-rated.is at c.rated.ensures.1) c.if-b-r.true
+returns-then-b-r c = raised_higher _ _ _ c.requires.0 _ c.in-Run.is _ (sym c.in-Run-rated.is ∙ c.rated.ensures.0) (rw c.in-Run-rated.is at c.rated.ensures.1) c.if-b-r.true
 
 pub returns : goal.returns
-returns c =     raised_lower _ _ _ c.requires.0 _ c.in-Run.is _ (sym c.in-Run-rated.is ∙ c.rated.ensures.0) (rw c.in-Run-rated.is at c.rated.ensures.1) c.if-b-r.false
+returns c = raised_lower _ _ _ c.requires.0 _ c.in-Run.is _ (sym c.in-Run-rated.is ∙ c.rated.ensures.0) (rw c.in-Run-rated.is at c.rated.ensures.1) c.if-b-r.false
