@@ -2,13 +2,14 @@
 -- Assumes nothing.
 use Prim.Native.Nat.{ℕ, ◌+◌, ◌-◌, ◌<◌}
 use mathlib.Core.Path.{◌≡◌, sym, ap, ◌∙◌}
-use mathlib.Core.List.{[], ◌∷◌}
+use mathlib.Core.List.{List, [], ◌∷◌}
 use native.Mathlib.Omega.{arith}
 use Rattle.bigendian.proofs.Halves.{kept}
 use Rattle.lists.specs.Lists.{sum}
 use Rattle.runs.specs.Runs.{per_sample}
 use Rattle.words.specs.Words.{sizes}
 use Rattle.edits.specs.Edits.{start_of, in_media}
+use Rattle.edits.specs.declared.Edit.{Edit}
 use Rattle.edits.specs.declared.EditStart.{EditStart}
 use Rattle.edits.proofs.Sentences.{ok_from}
 use Rattle.averages.specs.Averages.{range_at, covered_from, covered_by}
@@ -16,14 +17,10 @@ use Rattle.averages.specs.Computed.{added_all}
 use Rattle.averages.proofs.Covers.{added_one}
 use Rattle.averages.proofs.entry_added.Goals as goal
 
-covers : (c : tie.After-start-of) {p : EditStart} → p ≡ c.start_of_lem.result →
-    let a = c.before.before.before.before.args in
-    let ds = per_sample a.stts.now in
-    added_all ds (sizes a.stsz.now) (covered_from a.scale a.movie ds a.e.duration p) ≡ added_all ds (sizes a.stsz.now) (covered_by a.scale a.movie ds a.e)
-covers c q =
-    let a = c.before.before.before.before.args in
-    let ds = per_sample a.stts.now in
-    ap (λ x. added_all ds (sizes a.stsz.now) (covered_from a.scale a.movie ds a.e.duration x)) (q ∙ known c)
+-- what is covered from the place that the media time stands for
+covers : (ds zs : List ℕ) (scale movie : ℕ) (e : Edit) {p r : EditStart} → r ≡ start_of e.media → p ≡ r →
+    added_all ds zs (covered_from scale movie ds e.duration p) ≡ added_all ds zs (covered_by scale movie ds e)
+covers ds zs scale movie e k q = ap (λ x. added_all ds zs (covered_from scale movie ds e.duration x)) (q ∙ k)
 
 pub last_place-last-requires : goal.last_place-last-requires
 last_place-last-requires c =
@@ -49,19 +46,26 @@ added_between-requires c =
 pub returns-in-From : goal.returns-in-From
 returns-in-From c =
     let a = c.args in
+    let known : c.start_of-p.result ≡ start_of c.args.e.media = c.start_of-p.ensures ∙ ap start_of (kept c.args.e.media (omega (arith, c.requires.1))) in
     let ds = per_sample a.stts.now in
     let zs = sizes a.stsz.now in
     let m = c.in-From.m in (
       c.added_between.ensures.0
           ∙ added_one ds zs (range_at ds m c.last_place-last.result.0)
           ∙ ap (λ (x : ℕ). added_all ds zs (range_at ds m x ∷ [])) c.last_place-last.ensures
-          ∙ covers c (sym c.in-From.is),
+          ∙ covers (per_sample a.stts.now) (sizes a.stsz.now) a.scale a.movie a.e known (sym c.in-From.is),
       c.added_between.ensures.1,
       c.added_between.ensures.2,
     )
 
 pub returns-in-Empty : goal.returns-in-Empty
-returns-in-Empty c = (covers c (sym c.in-Empty.is), omega arith, omega arith)
+returns-in-Empty c =
+    let a = c.args in
+    let known : c.start_of-p.result ≡ start_of c.args.e.media = c.start_of-p.ensures ∙ ap start_of (kept c.args.e.media (omega (arith, c.requires.1))) in
+    (covers (per_sample a.stts.now) (sizes a.stsz.now) a.scale a.movie a.e known (sym c.in-Empty.is), omega arith, omega arith)
 
 pub returns-in-Wrong : goal.returns-in-Wrong
-returns-in-Wrong c = (covers c (sym c.in-Wrong.is), omega arith, omega arith)
+returns-in-Wrong c =
+    let a = c.args in
+    let known : c.start_of-p.result ≡ start_of c.args.e.media = c.start_of-p.ensures ∙ ap start_of (kept c.args.e.media (omega (arith, c.requires.1))) in
+    (covers (per_sample a.stts.now) (sizes a.stsz.now) a.scale a.movie a.e known (sym c.in-Wrong.is), omega arith, omega arith)
