@@ -1,11 +1,11 @@
 -- What `find_rest`, `find_wide` and `find_slip` answer, by what their calls answer; over the width.
 -- Assumes nothing.
 use mathlib.Core.Path.{◌≡◌, refl, ap, sym, subst, ◌∙◌}
-use mathlib.Core.Bool.{Bool, true, false, cond, ◌&&◌}
+use mathlib.Core.Bool.{Bool, true, false}
 use mathlib.Core.List.{List, [], ◌∷◌, ◌++◌}
-use Prim.Native.Nat.{ℕ, ◌+◌, ◌*◌, ◌<◌, ◌≤◌}
+use Prim.Native.Nat.{ℕ, ◌*◌, ◌<◌, ◌≤◌}
 use native.Mathlib.Omega.{arith}
-use lib.Dec.{ltb, leb, eqb, lit<}
+use lib.Dec.{ltb, leb, lit<}
 use lib.ListN.{length, get_or, get_or-append}
 use borrow.Author.Tests.{leb-true, eq-eqb, ne_eqb}
 use Rattle.lists.proofs.Booleans.{and_both, and_false}
