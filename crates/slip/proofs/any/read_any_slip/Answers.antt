@@ -7,13 +7,13 @@ use Rattle.number_values.proofs.Values.{length_values}
 use Rattle.slip.proofs.any.read_any_slip.Goals as goal
 
 pub overflow_mul-n : goal.overflow_mul-n
-overflow_mul-n c =     omega (arith, found_few true _ (λ i. (c.type_inv.bytes i).fits) _ c.find_slip.ensures _ _ c.in-Slip.is)
+overflow_mul-n c = omega (arith, found_few true _ (λ i. (c.type_inv.bytes i).fits) _ c.find_slip.ensures _ _ c.in-Slip.is)
 
 pub returns-then-room-n : goal.returns-then-room-n
-returns-then-room-n c =     reads_no_room true _ c.args.room.now _ _ (found_accepted true _ (λ i. (c.type_inv.bytes i).fits) _ c.find_slip.ensures _ _ c.in-Slip.is) (length_values 9 2 _ _ _) c.if-room-n.true
+returns-then-room-n c = reads_no_room true _ c.args.room.now _ _ (found_accepted true _ (λ i. (c.type_inv.bytes i).fits) _ c.find_slip.ensures _ _ c.in-Slip.is) (length_values 9 2 _ _ _) c.if-room-n.true
 
 pub returns-in-Malformed : goal.returns-in-Malformed
-returns-in-Malformed c =     reads_malformed true _ c.args.room.now _ (found_malformed true _ (λ i. (c.type_inv.bytes i).fits) _ c.find_slip.ensures _ c.in-Malformed.is)
+returns-in-Malformed c = reads_malformed true _ c.args.room.now _ (found_malformed true _ (λ i. (c.type_inv.bytes i).fits) _ c.find_slip.ensures _ c.in-Malformed.is)
 
 pub returns-else-room-n : goal.returns-else-room-n
-returns-else-room-n c =     reads_accepted true _ c.args.room.now _ _ (found_accepted true _ (λ i. (c.type_inv.bytes i).fits) _ c.find_slip.ensures _ _ c.in-Slip.is) (length_values 9 2 _ _ _) c.if-room-n.false _ c.fill_wide.ensures
+returns-else-room-n c = reads_accepted true _ c.args.room.now _ _ (found_accepted true _ (λ i. (c.type_inv.bytes i).fits) _ c.find_slip.ensures _ _ c.in-Slip.is) (length_values 9 2 _ _ _) c.if-room-n.false _ c.fill_wide.ensures
