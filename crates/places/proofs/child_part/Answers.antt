@@ -1,7 +1,6 @@
 -- `places::child_part` meets its contract: the rest of the body stands at the place, and the atom that is looked for is the one at `skip` in the rest.
 -- Assumes nothing.
 use mathlib.Core.Path.{refl, sym, ap, ◌∙◌}
-use mathlib.Core.Logic.{⊎_elim}
 use native.Mathlib.Omega.{arith}
 use lib.ListN.{length-drop}
 use Rattle.bigendian.proofs.Parts.{rest}
@@ -9,6 +8,7 @@ use Rattle.atoms.specs.Atoms.{child_in}
 use Rattle.atoms.proofs.Laws.{child_none, child_here, child_past, child_next}
 use Rattle.places.specs.Places.{part_in}
 use Rattle.places.proofs.Parts.{part_at, at_front, at_next}
+use Rattle.places.proofs.child_part.Goals.{then-u32_at-kind+else-skip-eq0, else-u32_at-kind}
 use Rattle.places.proofs.child_part.Goals as goal
 
 pub part_of-body-requires : goal.part_of-body-requires
@@ -22,7 +22,7 @@ size_in-n-requires c = tt
 
 pub returns-then-n-lt8 : goal.returns-then-n-lt8
 unfolding part_in
-returns-then-n-lt8 c =     sym (child_none _ _ _ c.size_in-n.ensures.value _ c.loop-t.skip c.if-n-lt8.true) ∙ c.loop-t.invariant.1 ∙ ap (child_in _ _ _) c.part_of-body.ensures
+returns-then-n-lt8 c = sym (child_none _ _ _ c.size_in-n.ensures.value _ c.loop-t.skip c.if-n-lt8.true) ∙ c.loop-t.invariant.1 ∙ ap (child_in _ _ _) c.part_of-body.ensures
 
 pub u32_at-requires : goal.u32_at-requires
 u32_at-requires c = tt
@@ -55,8 +55,8 @@ loop-t-preserved c =
     let u = c.u32_at.ensures in
     rw (rest n t) (
       at_next _ t l.at n l.invariant.0 c.size_in-n.ensures.upper_bound,
-      ⊎_elim
-          (λ w. rw w.2 (sym (child_past _ t n e _ l.skip h (sym u ∙ w.0.taken) w.1.left) ∙ l.invariant.1))
-          (λ w. rw w.1 (sym (child_next _ t n e _ l.skip h (λ q. w.0.left (u ∙ q))) ∙ l.invariant.1))
-          c.if-u32_at-kind.branch,
+      elim c.if-u32_at-kind.branch [
+        | then-u32_at-kind+else-skip-eq0 w ↦ rw w.skip-is (sym (child_past _ t n e _ l.skip h (sym u ∙ w.if-u32_at-kind.true) w.if-skip-eq0.false) ∙ l.invariant.1)
+        | else-u32_at-kind w ↦ rw w.skip-is (sym (child_next _ t n e _ l.skip h (λ q. w.if-u32_at-kind.false (u ∙ q))) ∙ l.invariant.1)
+      ],
     )

@@ -22,7 +22,7 @@ pub size_in-n-requires : goal.size_in-n-requires
 size_in-n-requires c = tt
 
 pub returns-then-n-lt8 : goal.returns-then-n-lt8
-returns-then-n-lt8 c =     rw (sym c.part_of-body.ensures) (finding_end _ _ _ _ _ c.size_in-n.ensures.value c.loop-t.invariant.1 c.if-n-lt8.true)
+returns-then-n-lt8 c = rw (sym c.part_of-body.ensures) (finding_end _ _ _ _ _ c.size_in-n.ensures.value c.loop-t.invariant.1 c.if-n-lt8.true)
 
 pub u32_at-requires : goal.u32_at-requires
 u32_at-requires c = tt

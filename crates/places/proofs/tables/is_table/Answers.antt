@@ -13,7 +13,7 @@ returns-in-1937011555 c e = absurd (not_left e)
 
 pub returns-in_default : goal.returns-in_default
 returns-in_default c z =
-    let r = c.in_default.rest in
+    let r = c.in_default.in_default-own.rest in
     record {
       stsd = ne_eqb _ _ (λ e. r.0.1 (inr (inl e)));
       stts = ne_eqb _ _ (λ e. r.0.1 (inr (inr (inr e))));

@@ -16,7 +16,7 @@ pub size_in-n-requires : goal.size_in-n-requires
 size_in-n-requires c = tt
 
 pub returns-then-n-lt8 : goal.returns-then-n-lt8
-returns-then-n-lt8 c =     heads_end _ _ _ c.size_in-n.ensures.value c.if-n-lt8.true c.loop-t.found c.loop-t.invariant.1
+returns-then-n-lt8 c = heads_end _ _ _ c.size_in-n.ensures.value c.if-n-lt8.true c.loop-t.found c.loop-t.invariant.1
 
 pub u32_at-requires : goal.u32_at-requires
 u32_at-requires c = tt

@@ -10,7 +10,7 @@ returns-in-1953196132 c e = absurd (not_left e)
 
 pub returns-in_default : goal.returns-in_default
 returns-in_default c z =
-    let r = c.in_default.rest.1 in
+    let r = c.in_default.in_default-own.rest.1 in
     record {
       tkhd = ne_eqb _ _ (λ e. r (inr (inr (inr e))));
       mdia = ne_eqb _ _ (λ e. r (inr (inl e)));

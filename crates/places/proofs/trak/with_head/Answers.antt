@@ -26,8 +26,8 @@ first_profile-requires c = tt
 pub returns : goal.returns
 returns c =
     λ i. record {
-  tkhd = c.first_part.ensures i;
-  mdia = c.first_part-2.ensures i;
-  edts = c.first_part-3.ensures i;
-  prfl = c.first_profile.ensures i;
-}
+      tkhd = c.first_part.ensures i;
+      mdia = c.first_part-2.ensures i;
+      edts = c.first_part-3.ensures i;
+      prfl = c.first_profile.ensures i;
+    }

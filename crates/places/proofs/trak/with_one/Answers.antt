@@ -24,7 +24,7 @@ first_part-requires-3 c = tt
 pub returns : goal.returns
 returns c =
     λ i. record {
-  a = c.first_part.ensures i;
-  b = c.first_part-2.ensures i;
-  c = c.first_part-3.ensures i;
-}
+      a = c.first_part.ensures i;
+      b = c.first_part-2.ensures i;
+      c = c.first_part-3.ensures i;
+    }
