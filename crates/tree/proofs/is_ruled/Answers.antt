@@ -21,7 +21,7 @@ returns-in-1937011827 c e = absurd (not_left e)
 pub returns-in_default : goal.returns-in_default
 unfolding with_kind bump form_of container
 returns-in_default c z =
-    let r = c.in_default.rest in
+    let r = c.in_default.in_default-own.rest in
     let dinf = ne_eqb _ kinds.dinf (λ e. r.0.0.1 (inl e)) in
     let edts = ne_eqb _ kinds.edts (λ e. r.0.0.1 (inr (inl e))) in
     let mdia = ne_eqb _ kinds.mdia (λ e. r.0.0.1 (inr (inr (inl e)))) in
