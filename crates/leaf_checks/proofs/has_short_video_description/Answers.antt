@@ -14,7 +14,7 @@ u32_at-requires c = tt
 
 pub returns-then-u32_at-ne-VIDE : goal.returns-then-u32_at-ne-VIDE
 unfolding short_video_description subtype_of
-returns-then-u32_at-ne-VIDE c =     simp (← c.requires.hdlr, ← c.part_of.ensures, ← c.u32_at.ensures, ne_eqb _ _ c.if-u32_at-ne-VIDE.true)
+returns-then-u32_at-ne-VIDE c = simp (← c.requires.hdlr, ← c.part_of.ensures, ← c.u32_at.ensures, ne_eqb _ _ c.if-u32_at-ne-VIDE.true)
 
 pub part_of-requires-2 : goal.part_of-requires-2
 part_of-requires-2 c = tt

@@ -18,4 +18,4 @@ either-requires c = tt
 
 pub returns : goal.returns
 unfolding wrong_track_size
-returns c =     either_are c.either.ensures c.has_short_video_description-small.ensures (ap not (c.is_profile_sized-sized.ensures ∙ ap profile_ok c.requires.1))
+returns c = either_are c.either.ensures c.has_short_video_description-small.ensures (ap not (c.is_profile_sized-sized.ensures ∙ ap profile_ok c.requires.1))
