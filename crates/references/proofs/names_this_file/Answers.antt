@@ -17,4 +17,4 @@ is_this_file-requires c = tt
 
 pub returns : goal.returns
 unfolding names_this_file
-returns c =     simp (ne_eqb _ _ c.if-index-eq0.false) (c.is_this_file.ensures ∙ ap is_this_file c.reference_at.ensures)
+returns c = simp (ne_eqb _ _ c.if-index-eq0.false) (c.is_this_file.ensures ∙ ap is_this_file c.reference_at.ensures)
