@@ -16,10 +16,10 @@ unfolding chunks_at_once
 returns-then-begin-from c = (search rules, rw (ne_eqb _ 1 c.if-count-eq1.false, lt-ltb _ _ c.if-begin-from.true))
 
 pub returns-then-n-eq0 : goal.returns-then-n-eq0
-returns-then-n-eq0 c =     (one_at_once _ _ _ _ _ c.requires.0, one_of_none _ _ _ _ _ c.if-count-eq1.false c.if-begin-from.false _ _ 0 c.whole_end.ensures.2 c.whole_chunks-n.ensures.3 c.if-n-eq0.true)
+returns-then-n-eq0 c = (one_at_once _ _ _ _ _ c.requires.0, one_of_none _ _ _ _ _ c.if-count-eq1.false c.if-begin-from.false _ _ 0 c.whole_end.ensures.2 c.whole_chunks-n.ensures.3 c.if-n-eq0.true)
 
 pub returns-then-offsets_there-p : goal.returns-then-offsets_there-p
-returns-then-offsets_there-p c =     (one_at_once _ _ _ _ _ c.requires.0, one_of_few _ _ _ _ _ c.if-count-eq1.false c.if-begin-from.false _ _ _ c.whole_end.ensures.2 c.whole_chunks-n.ensures.3 c.if-n-eq0.false c.offsets_there.ensures c.if-offsets_there-p.true)
+returns-then-offsets_there-p c = (one_at_once _ _ _ _ _ c.requires.0, one_of_few _ _ _ _ _ c.if-count-eq1.false c.if-begin-from.false _ _ _ c.whole_end.ensures.2 c.whole_chunks-n.ensures.3 c.if-n-eq0.false c.offsets_there.ensures c.if-offsets_there-p.true)
 
 pub returns : goal.returns
 returns c =

@@ -25,11 +25,11 @@ slice_bounds-result-end-then-n-z c = sym (length-take-le _ c.run_sizes-z.result.
 
 pub returns-then-n-z : goal.returns-then-n-z
 unfolding sizes_to
-returns-then-n-z c =     (listed_cut _ _ _ c.u32_at.ensures c.if-u32_at-ne0.false c.if-stop-p.false c.run_sizes-z.ensures _ c.if-n-z.true (omega arith), rw (← c.u32_at.ensures, eq-eqb _ 0 c.if-u32_at-ne0.false, lt-leb _ _ c.if-stop-p.false, ← c.run_sizes-z.ensures))
+returns-then-n-z c = (listed_cut _ _ _ c.u32_at.ensures c.if-u32_at-ne0.false c.if-stop-p.false c.run_sizes-z.ensures _ c.if-n-z.true (omega arith), rw (← c.u32_at.ensures, eq-eqb _ 0 c.if-u32_at-ne0.false, lt-leb _ _ c.if-stop-p.false, ← c.run_sizes-z.ensures))
 
 whole_list : {z : List ℕ} {n : ℕ} → length z < n → z ≡ take n z
 whole_list {z} {n} h = sym (take_all n z (omega arith))
 
 pub returns : goal.returns
 unfolding sizes_to
-returns c =     (listed_all _ _ _ c.u32_at.ensures c.if-u32_at-ne0.false c.if-stop-p.false c.run_sizes-z.ensures (omega (arith, c.if-n-z.false)), rw (← c.u32_at.ensures, eq-eqb _ 0 c.if-u32_at-ne0.false, lt-leb _ _ c.if-stop-p.false, ← c.run_sizes-z.ensures) (whole_list c.if-n-z.false))
+returns c = (listed_all _ _ _ c.u32_at.ensures c.if-u32_at-ne0.false c.if-stop-p.false c.run_sizes-z.ensures (omega (arith, c.if-n-z.false)), rw (← c.u32_at.ensures, eq-eqb _ 0 c.if-u32_at-ne0.false, lt-leb _ _ c.if-stop-p.false, ← c.run_sizes-z.ensures) (whole_list c.if-n-z.false))
