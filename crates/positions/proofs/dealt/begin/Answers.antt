@@ -6,13 +6,8 @@ use lib.ListN.{get_or}
 use Rattle.words.specs.Words.{chunk_offsets}
 use Rattle.words.proofs.Turns.{offsets_of}
 use Rattle.positions.specs.Dealing.{begun, ahead_of}
-use Rattle.positions.specs.declared.dealt.Dealt.{Dealt}
 use Rattle.positions.proofs.Dealing.{begun_none, begun_some, begun_offset, begun_rest, none_ahead, too_high, some_ahead}
 use Rattle.positions.proofs.dealt.begin.Goals as goal
-
--- the next chunk begun
-abbrev next : tie.Start → Dealt
-next e = begun e.args.stsc.now e.args.offsets.now e.args.head.chunks e.args.d
 
 pub returns-then-head-chunk : goal.returns-then-head-chunk
 returns-then-head-chunk c = none_ahead c.args.d c.requires.1 ∙ ap ahead_of (begun_none _ _ _ _ c.if-head-chunk.true)
@@ -20,10 +15,10 @@ returns-then-head-chunk c = none_ahead c.args.d c.requires.1 ∙ ap ahead_of (be
 pub returns-then-offset-gt9223372036854775807 : goal.returns-then-offset-gt9223372036854775807
 returns-then-offset-gt9223372036854775807 c =
     let offset : let a = c.args in c.number_in-offset.result ≡ get_or (chunk_offsets a.offsets.now) a.d.chunk 0 = c.number_in-offset.ensures ∙ sym (ap (λ os. get_or os c.args.d.chunk 0) (offsets_of c.args.offsets.now c.requires.0 c.after.ensures)) in
-    too_high (next c) (omega (arith, begun_offset c.args.stsc.now c.args.offsets.now c.args.head.chunks c.args.d c.if-head-chunk.false, offset, c.if-offset-gt9223372036854775807.true))
+    too_high (begun c.args.stsc.now c.args.offsets.now c.args.head.chunks c.args.d) (omega (arith, begun_offset c.args.stsc.now c.args.offsets.now c.args.head.chunks c.args.d c.if-head-chunk.false, offset, c.if-offset-gt9223372036854775807.true))
 
 pub returns-then-c-eq0 : goal.returns-then-c-eq0
-returns-then-c-eq0 c = none_ahead (next c) (begun_rest _ _ _ _ c.if-head-chunk.false ∙ sym (ap (λ r. r.per) c.ready-c.ensures.0) ∙ c.if-c-eq0.true)
+returns-then-c-eq0 c = none_ahead (begun c.args.stsc.now c.args.offsets.now c.args.head.chunks c.args.d) (begun_rest _ _ _ _ c.if-head-chunk.false ∙ sym (ap (λ r. r.per) c.ready-c.ensures.0) ∙ c.if-c-eq0.true)
 
 pub returns : goal.returns
 returns c =

@@ -4,30 +4,25 @@ use Prim.Native.Nat.{ℕ}
 use mathlib.Core.Path.{◌≡◌, sym, ap, ◌∙◌}
 use Rattle.positions.specs.Dealing.{readied_dealt, ahead_of}
 use Rattle.positions.specs.Moving.{readied_moving}
-use Rattle.positions.specs.declared.moving.Moving.{Moving}
 use Rattle.positions.specs.declared.moving.Readied.TheVariants.{At}
 use Rattle.positions.proofs.Standing.{too_late, none_dealt, dealt_at}
 use Rattle.positions.proofs.moving.read_entries.Goals as goal
 
--- the places with the entries read
-abbrev readied : tie.Start → Moving
-readied e = readied_moving e.args.stts.now e.args.ctts.now e.args.stsc.now e.args.offsets.now e.args.m
-
 pub returns-then-m-gt4294967295 : goal.returns-then-m-gt4294967295
-returns-then-m-gt4294967295 c = too_late (readied c) c.if-m-gt4294967295.true
+returns-then-m-gt4294967295 c = too_late (readied_moving c.args.stts.now c.args.ctts.now c.args.stsc.now c.args.offsets.now c.args.m) c.if-m-gt4294967295.true
 
 pub dealt_ready-requires : goal.dealt_ready-requires
 dealt_ready-requires c = ap (λ h. h.long) c.requires
 
 pub returns-in_default : goal.returns-in_default
 returns-in_default c =
-    let ahead : c.dealt_ready.result ≡ ahead_of (readied c).dealt = c.dealt_ready.ensures ∙ ap (λ (n : ℕ). ahead_of (readied_dealt c.args.stsc.now c.args.offsets.now n c.args.m.dealt)) (ap (λ h. h.chunks) c.requires) in
-    none_dealt (readied c) c.if-m-gt4294967295.false (sym (ahead) ∙ c.in_default.is)
+    let ahead : c.dealt_ready.result ≡ ahead_of (readied_moving c.args.stts.now c.args.ctts.now c.args.stsc.now c.args.offsets.now c.args.m).dealt = c.dealt_ready.ensures ∙ ap (λ (n : ℕ). ahead_of (readied_dealt c.args.stsc.now c.args.offsets.now n c.args.m.dealt)) (ap (λ h. h.chunks) c.requires) in
+    none_dealt (readied_moving c.args.stts.now c.args.ctts.now c.args.stsc.now c.args.offsets.now c.args.m) c.if-m-gt4294967295.false (sym (ahead) ∙ c.in_default.is)
 
 pub returns : goal.returns
 returns c =
-    let ahead : c.dealt_ready.result ≡ ahead_of (readied c).dealt = c.dealt_ready.ensures ∙ ap (λ (n : ℕ). ahead_of (readied_dealt c.args.stsc.now c.args.offsets.now n c.args.m.dealt)) (ap (λ h. h.chunks) c.requires) in
-    let w = dealt_at (readied c) _ c.if-m-gt4294967295.false (sym (ahead) ∙ c.in-At.is) in
+    let ahead : c.dealt_ready.result ≡ ahead_of (readied_moving c.args.stts.now c.args.ctts.now c.args.stsc.now c.args.offsets.now c.args.m).dealt = c.dealt_ready.ensures ∙ ap (λ (n : ℕ). ahead_of (readied_dealt c.args.stsc.now c.args.offsets.now n c.args.m.dealt)) (ap (λ h. h.chunks) c.requires) in
+    let w = dealt_at (readied_moving c.args.stts.now c.args.ctts.now c.args.stsc.now c.args.offsets.now c.args.m) _ c.if-m-gt4294967295.false (sym (ahead) ∙ c.in-At.is) in
     (λ i. At (record {
       index = c.args.m.index;
       decode = c.args.m.decode;

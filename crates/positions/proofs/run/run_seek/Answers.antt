@@ -25,7 +25,7 @@ returns-then-t-lt-RUN c =
     c.run_pass.ensures ∙ sym (seek_end _ l.r l.skip c.after-t.ensures c.if-t-lt-RUN.true) ∙ l.invariant
 
 pub overflow_add-r : goal.overflow_add-r
-overflow_add-r c =     record { fits = omega (arith, c.well_formed.0.0, c.if-t-lt-RUN.false, ap length c.after-t.ensures, length-drop c.loop-r.r.at c.args.table.now) }
+overflow_add-r c = record { fits = omega (arith, c.well_formed.0.0, c.if-t-lt-RUN.false, ap length c.after-t.ensures, length-drop c.loop-r.r.at c.args.table.now) }
 
 pub u32_at-requires : goal.u32_at-requires
 u32_at-requires c = tt
@@ -34,7 +34,7 @@ pub u32_at-requires-in-loop-r : goal.u32_at-requires-in-loop-r
 u32_at-requires-in-loop-r c = tt
 
 pub loop-r-smaller : goal.loop-r-smaller
-loop-r-smaller c =     omega (arith, c.if-t-lt-RUN.false, ap length c.after-t.ensures, length-drop c.loop-r.r.at c.args.table.now)
+loop-r-smaller c = omega (arith, c.if-t-lt-RUN.false, ap length c.after-t.ensures, length-drop c.loop-r.r.at c.args.table.now)
 
 pub loop-r-preserved : goal.loop-r-preserved
 loop-r-preserved c =

@@ -23,10 +23,10 @@ pub returns-then-index-u32_at : goal.returns-then-index-u32_at
 returns-then-index-u32_at c = let l = c.loop-t in omega (arith, l.invariant, place_here c.args.stss.now c.args.index l.at c.after-t.ensures c.if-t-lt-WORD.false c.u32_at.ensures c.if-index-u32_at.true)
 
 pub overflow_add-at : goal.overflow_add-at
-overflow_add-at c =     record { fits = omega (arith, c.well_formed.0.0, c.if-t-lt-WORD.false, ap length c.after-t.ensures, length-drop c.loop-t.at c.args.stss.now) }
+overflow_add-at c = record { fits = omega (arith, c.well_formed.0.0, c.if-t-lt-WORD.false, ap length c.after-t.ensures, length-drop c.loop-t.at c.args.stss.now) }
 
 pub loop-t-smaller : goal.loop-t-smaller
-loop-t-smaller c =     omega (arith, c.if-t-lt-WORD.false, ap length c.after-t.ensures, length-drop c.loop-t.at c.args.stss.now)
+loop-t-smaller c = omega (arith, c.if-t-lt-WORD.false, ap length c.after-t.ensures, length-drop c.loop-t.at c.args.stss.now)
 
 pub loop-t-preserved : goal.loop-t-preserved
 loop-t-preserved c =
