@@ -1,7 +1,7 @@
 -- The best run, by the better of two run after run, is the first whose rate is the greatest; so the pass finds the rate and the place that are defined.
 -- Assumes nothing.
 use Prim.Native.Nat.{ℕ, suc, ◌+◌, ◌*◌, ◌≤◌, ◌<◌, max}
-use mathlib.Core.Path.{◌≡◌, refl, sym, ap, ◌∙◌}
+use mathlib.Core.Path.{◌≡◌, refl, sym, ap, subst, ◌∙◌}
 use mathlib.Core.Bool.{Bool, true, false, cond}
 use mathlib.Core.List.{List, [], ◌∷◌}
 use native.Mathlib.Omega.{arith}
@@ -87,7 +87,10 @@ module _ (s i d : ℕ) (ds zs : List ℕ) (h : s ≤ d + sum ds) where
           let k : y ≡ b = cc in
           let m : s ≤ sum ds = reached l in
           let u = r.place m y refl in
-          rw (← k, e, ne_eqb p y.rate (λ z. omega arith)) (omega (arith, u.0), u.1)
+          subst
+          (λ (x : RatedRun). (x.first ≡ suc (i + first_at s x.rate (d ∷ ds) zs)) × (x.count ≡ run_length s (drop (first_at s x.rate (d ∷ ds) zs) (d ∷ ds))))
+          k
+          (rw (e, ne_eqb p y.rate (λ z. omega arith)) (omega (arith, u.0), u.1))
 
 is_best : (s i : ℕ) (ds zs : List ℕ) → 0 < s → BestIs s i ds zs (best_from s i ds zs)
 is_best s i [] zs p = record { rate = refl; place = λ l b g. absurd (omega arith) }

@@ -37,7 +37,7 @@ slid-requires c =
     (c.loop-w.invariant.reaches.slides, k, c.loop-w-test.true, r.rated, raised_absorbs _ _ _ _ r)
 
 pub next_window-w-requires : goal.next_window-w-requires
-next_window-w-requires c =     (c.slid.ensures.slides, c.requires, c.slid.ensures.reaches)
+next_window-w-requires c = (c.slid.ensures.slides, c.requires, c.slid.ensures.reaches)
 
 pub loop-w-smaller : goal.loop-w-smaller
 loop-w-smaller c =

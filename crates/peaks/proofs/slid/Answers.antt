@@ -21,13 +21,13 @@ pub returns-then-steps-lt8 : goal.returns-then-steps-lt8
 returns-then-steps-lt8 c = skips_none _ _ _ _ _ c.requires.0 c.requires.2 c.requires.4
 
 pub most_bytes-most-requires : goal.most_bytes-most-requires
-most_bytes-most-requires c =     ((rate_known _ _ _ (c.requires.3 _ c.in-Run.is).0).divides, span_fits _ _ _ c.requires.1 _ c.requires.0)
+most_bytes-most-requires c = ((rate_known _ _ _ (c.requires.3 _ c.in-Run.is).0).divides, span_fits _ _ _ c.requires.1 _ c.requires.0)
 
 pub returns-then-most-w : goal.returns-then-most-w
-returns-then-most-w c =     skips_none _ _ _ _ _ c.requires.0 c.requires.2 c.requires.4
+returns-then-most-w c = skips_none _ _ _ _ _ c.requires.0 c.requires.2 c.requires.4
 
 pub slide_over-requires : goal.slide_over-requires
-slide_over-requires c =     may_slide _ _ _ c.requires.1 _ c.requires.0 c.requires.2 _ _ c.level_steps-steps.ensures c.if-most-w.false
+slide_over-requires c = may_slide _ _ _ c.requires.1 _ c.requires.0 c.requires.2 _ _ c.level_steps-steps.ensures c.if-most-w.false
 
 pub moved_by-requires : goal.moved_by-requires
 moved_by-requires c =

@@ -117,4 +117,4 @@ window_at-requires c =
     may_stand _ _ _ p.1 _ _ p.5 _ _ _ _ _ e c.well_formed.0.0
 
 pub returns : goal.returns
-returns c =     rw c.window_at.ensures c.loop-h.invariant.skips
+returns c = rw c.window_at.ensures c.loop-h.invariant.skips

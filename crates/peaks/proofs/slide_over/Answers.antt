@@ -9,13 +9,13 @@ pub returns-then-u32_at-ne0 : goal.returns-then-u32_at-ne0
 returns-then-u32_at-ne0 c = slid_common _ _ _ _ _ _ _ c.u32_at.ensures c.if-u32_at-ne0.true c.requires
 
 pub slice_bounds-slide_listed-end : goal.slice_bounds-slide_listed-end
-slice_bounds-slide_listed-end c =     sym (length-take-le _ _ (tails_enough _ _ _ _ _ _ _ _ _ _ c.u32_at.ensures c.if-u32_at-ne0.false c.after-part.ensures c.after-tails.ensures c.after-heads.ensures c.requires))
+slice_bounds-slide_listed-end c = sym (length-take-le _ _ (tails_enough _ _ _ _ _ _ _ _ _ _ c.u32_at.ensures c.if-u32_at-ne0.false c.after-part.ensures c.after-tails.ensures c.after-heads.ensures c.requires))
 
 pub slice_bounds-slide_listed-end-2 : goal.slice_bounds-slide_listed-end-2
-slice_bounds-slide_listed-end-2 c =     sym (length-take-le _ _ (heads_enough _ _ _ _ _ _ _ _ _ _ c.u32_at.ensures c.if-u32_at-ne0.false c.after-part.ensures c.after-tails.ensures c.after-heads.ensures c.requires))
+slice_bounds-slide_listed-end-2 c = sym (length-take-le _ _ (heads_enough _ _ _ _ _ _ _ _ _ _ c.u32_at.ensures c.if-u32_at-ne0.false c.after-part.ensures c.after-tails.ensures c.after-heads.ensures c.requires))
 
 pub slide_listed-requires : goal.slide_listed-requires
-slide_listed-requires c =     parts_stay _ _ _ _ _ _ _ _ _ _ c.u32_at.ensures c.if-u32_at-ne0.false c.after-part.ensures c.after-tails.ensures c.after-heads.ensures c.requires
+slide_listed-requires c = parts_stay _ _ _ _ _ _ _ _ _ _ c.u32_at.ensures c.if-u32_at-ne0.false c.after-part.ensures c.after-tails.ensures c.after-heads.ensures c.requires
 
 pub returns : goal.returns
-returns c =     parts_slid _ _ _ _ _ _ _ _ _ _ c.u32_at.ensures c.if-u32_at-ne0.false c.after-part.ensures c.after-tails.ensures c.after-heads.ensures c.requires _ c.slide_listed.ensures
+returns c = parts_slid _ _ _ _ _ _ _ _ _ _ c.u32_at.ensures c.if-u32_at-ne0.false c.after-part.ensures c.after-tails.ensures c.after-heads.ensures c.requires _ c.slide_listed.ensures
