@@ -34,7 +34,7 @@ too_many_is m profile n r e p q = e ∙ rw (p, q)
 
 pub returns-then-not-versions : goal.returns-then-not-versions
 unfolding movie_rows first
-returns-then-not-versions c =     simp (version_is c.args.wide _ _ c.requires.0, c.if-not-versions.true)
+returns-then-not-versions c = simp (version_is c.args.wide _ _ c.requires.0, c.if-not-versions.true)
 
 pub is_profile_sized-requires : goal.is_profile_sized-requires
 is_profile_sized-requires c = tt
@@ -44,15 +44,15 @@ both-requires c = tt
 
 pub returns-then-not-both : goal.returns-then-not-both
 unfolding movie_rows first
-returns-then-not-both c =     simp (version_is c.args.wide _ _ c.requires.0, c.if-not-versions.false, size_is c.args.wide _ _ _ _ c.both.ensures c.requires.1 (c.is_profile_sized.ensures ∙ ap profile_ok c.requires.2), c.if-not-both.true)
+returns-then-not-both c = simp (version_is c.args.wide _ _ c.requires.0, c.if-not-versions.false, size_is c.args.wide _ _ _ _ c.both.ensures c.requires.1 (c.is_profile_sized.ensures ∙ ap profile_ok c.requires.2), c.if-not-both.true)
 
 pub is_too_many-requires : goal.is_too_many-requires
 is_too_many-requires c = tt
 
 pub returns-then-is_too_many : goal.returns-then-is_too_many
 unfolding movie_rows first
-returns-then-is_too_many c =     simp (version_is c.args.wide _ _ c.requires.0, c.if-not-versions.false, size_is c.args.wide _ _ _ _ c.both.ensures c.requires.1 (c.is_profile_sized.ensures ∙ ap profile_ok c.requires.2), c.if-not-both.false, ← too_many_is c.args.moov.now c.args.profile.now c.args.tracks _ c.is_too_many.ensures c.requires.2 c.requires.3, c.if-is_too_many.true)
+returns-then-is_too_many c = simp (version_is c.args.wide _ _ c.requires.0, c.if-not-versions.false, size_is c.args.wide _ _ _ _ c.both.ensures c.requires.1 (c.is_profile_sized.ensures ∙ ap profile_ok c.requires.2), c.if-not-both.false, ← too_many_is c.args.moov.now c.args.profile.now c.args.tracks _ c.is_too_many.ensures c.requires.2 c.requires.3, c.if-is_too_many.true)
 
 pub returns : goal.returns
 unfolding movie_rows first
-returns c =     simp (version_is c.args.wide _ _ c.requires.0, c.if-not-versions.false, size_is c.args.wide _ _ _ _ c.both.ensures c.requires.1 (c.is_profile_sized.ensures ∙ ap profile_ok c.requires.2), c.if-not-both.false, ← too_many_is c.args.moov.now c.args.profile.now c.args.tracks _ c.is_too_many.ensures c.requires.2 c.requires.3, c.if-is_too_many.false)
+returns c = simp (version_is c.args.wide _ _ c.requires.0, c.if-not-versions.false, size_is c.args.wide _ _ _ _ c.both.ensures c.requires.1 (c.is_profile_sized.ensures ∙ ap profile_ok c.requires.2), c.if-not-both.false, ← too_many_is c.args.moov.now c.args.profile.now c.args.tracks _ c.is_too_many.ensures c.requires.2 c.requires.3, c.if-is_too_many.false)

@@ -22,8 +22,8 @@ is_over_limits-requires c =
 
 pub returns-then-is_over_limits : goal.returns-then-is_over_limits
 unfolding movie_rows first
-returns-then-is_over_limits c =     simp (← c.is_wrong_track_size.ensures, c.if-is_wrong_track_size.false, ← c.is_over_limits.ensures, c.if-is_over_limits.true)
+returns-then-is_over_limits c = simp (← c.is_wrong_track_size.ensures, c.if-is_wrong_track_size.false, ← c.is_over_limits.ensures, c.if-is_over_limits.true)
 
 pub returns : goal.returns
 unfolding movie_rows first
-returns c =     simp (← c.is_wrong_track_size.ensures, c.if-is_wrong_track_size.false, ← c.is_over_limits.ensures, c.if-is_over_limits.false)
+returns c = simp (← c.is_wrong_track_size.ensures, c.if-is_wrong_track_size.false, ← c.is_over_limits.ensures, c.if-is_over_limits.false)
