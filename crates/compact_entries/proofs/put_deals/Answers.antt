@@ -1,14 +1,13 @@
 -- `compact_entries::put_deals` meets its contract: at each turn the last entry written and the rest of the part give what is still to be written.
 -- Assumes nothing.
-use borrow.Author.Tests.{not-true, not-false}
 use native.Mathlib.Omega.{arith}
 use mathlib.Core.Path.{refl, sym, ap, ◌∙◌}
-use mathlib.Core.Logic.{⊎_elim}
 use lib.ListN.{length, take, drop, length-drop}
 use lib.Seq.{length-sets, length-take-le}
 use Rattle.bigendian.proofs.Parts.{rest}
 use Rattle.byte_writing.proofs.Writing.{storing_start, storing_end, storing_same, storing_room, storing_next, two_writes}
 use Rattle.compact_entries.proofs.Merging.{deals_rest, deals_none, deals_first, deals_end, deals_same, deals_other}
+use Rattle.compact_entries.proofs.put_deals.Goals.{then-not-same_deal, else-not-same_deal}
 use Rattle.compact_entries.proofs.put_deals.Goals as goal
 
 pub returns-then-part-lt12 : goal.returns-then-part-lt12
@@ -55,12 +54,12 @@ loop-t-preserved c =
     let h = c.loop-t-test.true in
     let q = c.same_deal.ensures in
     rw (rest 12 t)
-    (⊎_elim
-    (λ w. rw (w.5, w.6, w.7)
-    (storing_next l.invariant (take 12 t) (deals_rest (take 12 t) (drop 12 t)) (deals_other l.e.now t h q (not-true _ w.0.taken)) _ _ w.2.ensures.0 w.2.ensures.1))
-    (λ w. rw (w.1, w.2, w.3)
-    (storing_same l.invariant _ (deals_same l.e.now t h q (not-false _ w.0.left))))
-    c.if-not-same_deal.branch)
+    (elim c.if-not-same_deal.branch [
+      | then-not-same_deal w ↦
+          rw (w.out-is, w.e-is, w.k-is)
+          (storing_next l.invariant (take 12 t) (deals_rest (take 12 t) (drop 12 t)) (deals_other l.e.now t h q w.if-not-same_deal.true) _ _ w.put_bytes-k-then-not-same_deal.ensures.0 w.put_bytes-k-then-not-same_deal.ensures.1)
+      | else-not-same_deal w ↦ rw (w.out-is, w.e-is, w.k-is) (storing_same l.invariant _ (deals_same l.e.now t h q w.if-not-same_deal.false))
+    ])
 
 pub shape_of-out : goal.shape_of-out
 shape_of-out c = c.loop-t.invariant.same ∙ ap length c.put_bytes-k.ensures.1 ∙ length-sets c.args.out.now c.args.at (take 12 c.args.part.now)

@@ -3,7 +3,6 @@
 -- Assumes nothing.
 use native.Mathlib.Omega.{arith}
 use mathlib.Core.Path.{refl, sym, ap, ◌∙◌}
-use mathlib.Core.Logic.{⊎_elim}
 use mathlib.Core.List.{[]}
 use lib.ListN.{length, take, drop, length-drop}
 use lib.Seq.{length-sets, length-take-le}
@@ -12,6 +11,7 @@ use Rattle.bigendian.specs.BigEndian.{u32_at}
 use Rattle.compact_entries.specs.Entries.{with_count}
 use Rattle.byte_writing.proofs.Writing.{storing_start, storing_end, storing_same, storing_room, storing_next}
 use Rattle.compact_entries.proofs.Merging.{runs_rest, runs_none, runs_first, rest_end, rest_same, rest_other}
+use Rattle.compact_entries.proofs.put_runs.Goals.{then-u32_at, else-u32_at}
 use Rattle.compact_entries.proofs.put_runs.Goals as goal
 
 pub returns-then-part-lt8 : goal.returns-then-part-lt8
@@ -70,12 +70,14 @@ loop-t-preserved c =
     let p = c.u32_at.ensures in
     let q = c.u32_at-in-loop-t.ensures in
     rw (rest 8 t)
-    (⊎_elim
-    (λ w. rw (w.2, w.3, w.4, w.5)
-    (storing_same l.invariant.0 _ (rest_same l.count l.e.now t h p q w.1.ensures w.0.taken), omega (arith, l.invariant.1, length-drop 8 t, h)))
-    (λ w. rw (w.6, w.7, w.8, w.9)
-    (storing_next l.invariant.0 (with_count l.count l.e.now) (runs_rest w.5.result (take 8 t) (drop 8 t)) (rest_other l.count l.e.now t h p q w.5.ensures w.0.left) _ _ w.2.ensures.0 w.2.ensures.1, omega (arith, l.invariant.1, length-drop 8 t, h)))
-    c.if-u32_at.branch)
+    (elim c.if-u32_at.branch [
+      | then-u32_at w ↦
+          rw (w.out-is, w.e-is, w.count-is, w.k-is)
+          (storing_same l.invariant.0 _ (rest_same l.count l.e.now t h p q w.u32_at-then-u32_at.ensures w.if-u32_at.true), omega (arith, l.invariant.1, length-drop 8 t, h))
+      | else-u32_at w ↦
+          rw (w.out-is, w.e-is, w.count-is, w.k-is)
+          (storing_next l.invariant.0 (with_count l.count l.e.now) (runs_rest w.u32_at-count-else-u32_at.result (take 8 t) (drop 8 t)) (rest_other l.count l.e.now t h p q w.u32_at-count-else-u32_at.ensures w.if-u32_at.false) _ _ w.put_run-k.ensures.0 w.put_run-k.ensures.1, omega (arith, l.invariant.1, length-drop 8 t, h))
+    ])
 
 pub put_run-requires : goal.put_run-requires
 put_run-requires c =
