@@ -1,6 +1,6 @@
 -- A return that is put into places is read from them again.
 -- Assumes nothing.
-use Prim.Native.Nat.{ℕ, suc, ◌+◌, ◌≤◌, ◌<◌}
+use Prim.Native.Nat.{ℕ, ◌+◌, ◌≤◌, ◌<◌}
 use mathlib.Core.Path.{◌≡◌, refl, sym, ap, ◌∙◌}
 use mathlib.Core.List.{List, [], ◌∷◌, ◌++◌, map, append_assoc}
 use native.Mathlib.Omega.{arith}
@@ -8,7 +8,7 @@ use native.Mathlib.Nat.{zero-add, mod-eq_of_lt}
 use mir.Val.{Val}
 use denote.Shadow.{shadow}
 use denote.Array.{each}
-use denote.Struct.Field.{u32-field}
+use denote.Builtin.{u32}
 use lib.ListN.{length, get_or, take, drop, length-append}
 use lib.Seq.{sets, sets-eq, take_at, drop_at, drop-append-add, get_or-append-add}
 use Rattle.lists.proofs.Stores.{sets_append}
@@ -23,7 +23,7 @@ pub record Whole (r : FilmReturn) : Type 0 where
   pub low : map low r.scales ≡ r.scales
 
 -- the elements of an array of 32-bit numbers are not cut
-pub array_low : (xs : List ℕ) (us : List Val) → shadow (each ℕ (λ x vs. u32-field.row.own_val x vs) (map (λ (v : ℕ). v) xs) us) → map low xs ≡ xs
+pub array_low : (xs : List ℕ) (us : List Val) → shadow (each u32.Denot u32.own_val xs us) → map low xs ≡ xs
 array_low [] us h = refl
 array_low (x ∷ xs) [] h = absurd h
 array_low (x ∷ xs) (u ∷ us) h = let b : x < 4294967296 = h.0.1 in rw (mod-eq_of_lt b, array_low xs us h.1)

@@ -1,5 +1,5 @@
 -- A film return as numbers: 83 of them, in the order of its fields.
-use Rattle.std.specs.Prelude.{ℕ, ◌%◌, ◌≡◌, List, [], ◌∷◌, ◌++◌, map, length, get_or, take, drop}
+use Rattle.std.specs.Prelude.{ℕ, ◌%◌, ◌≡◌, List, ◌∷◌, ◌++◌, map, get_or, take, drop}
 use Rattle.return_totals.specs.declared.FilmReturn.{FilmReturn}
 
 -- accepted, 14 refused, tracks, samples, bytes, count, 32 scales, 32 units

@@ -1,6 +1,6 @@
 -- `return_numbers::copy_from` meets its contract. The loop's invariant: the first i places hold the first i numbers.
 -- Assumes nothing.
-use Prim.Native.Nat.{ℕ, ◌-◌}
+use Prim.Native.Nat.{ℕ}
 use mathlib.Core.Path.{refl, sym}
 use native.Mathlib.Omega.{arith}
 use lib.ListN.{length-set}

@@ -1,6 +1,5 @@
 -- `return_numbers::copy_low` meets its contract. The loop's invariant: the first i places hold the first i numbers, cut.
 -- Assumes nothing.
-use Prim.Native.Nat.{◌-◌}
 use mathlib.Core.Path.{refl, sym}
 use native.Mathlib.Omega.{arith}
 use lib.ListN.{length-set}

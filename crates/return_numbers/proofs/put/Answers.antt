@@ -1,6 +1,5 @@
 -- `return_numbers::put` meets its contract. The loop's invariant: the values that are left, stored from there on, make what all of them make.
 -- Assumes nothing.
-use Prim.Native.Nat.{◌-◌}
 use mathlib.Core.Path.{refl}
 use native.Mathlib.Omega.{arith}
 use native.Mathlib.Nat.{add-zero}
