@@ -2,6 +2,7 @@
 -- Assumes nothing.
 use mathlib.Core.Path.{sym, ap, ◌∙◌}
 use native.Mathlib.Omega.{arith}
+use Rattle.std.proofs.lemmas.Bool.{not-true, not-false}
 use Rattle.structure.specs.Rows.{first, or_else}
 use Rattle.shape.specs.Refusals.{wrong_counts, file_rows}
 use Rattle.shape.specs.MovieRows.{refusal_of}
@@ -39,7 +40,7 @@ pub returns-then-not-tree : goal.returns-then-not-tree
 unfolding refusal_of or_else file_rows first wrong_counts
 returns-then-not-tree c =
     judged_refused _ _ 3 _ c.refused-then-not-tree.ensures
-    (simp (← c.is_too_long.ensures, c.if-is_too_long.false, ← c.has_wrong_atoms.ensures, c.if-has_wrong_atoms.false, sym (ap (λ x. x.present) c.check_tree-tree.ensures) ∙ c.if-not-tree.true))
+    (simp (← c.is_too_long.ensures, c.if-is_too_long.false, ← c.has_wrong_atoms.ensures, c.if-has_wrong_atoms.false, sym (ap (λ x. x.present) c.check_tree-tree.ensures) ∙ not-true _ c.if-not-tree.true))
     (λ z. omega arith)
 
 pub moov_part-requires : goal.moov_part-requires
@@ -48,7 +49,7 @@ moov_part-requires c = tt
 pub judge_movie-requires : goal.judge_movie-requires
 judge_movie-requires c =
     let a = c.args in
-    moov_told a.source.alone a.lent.now _ _ c.check_tree-tree.ensures c.if-not-tree.false c.moov_part.ensures
+    moov_told a.source.alone a.lent.now _ _ c.check_tree-tree.ensures (not-false _ c.if-not-tree.false) c.moov_part.ensures
 
 pub returns : goal.returns
 unfolding refusal_of or_else file_rows first wrong_counts
@@ -56,7 +57,7 @@ returns c =
     let m = c.moov_part.ensures in
     let j = c.judge_movie.ensures in
     record {
-      refusal = simp (← c.is_too_long.ensures, c.if-is_too_long.false, ← c.has_wrong_atoms.ensures, c.if-has_wrong_atoms.false, sym (ap (λ x. x.present) c.check_tree-tree.ensures) ∙ c.if-not-tree.false, ← m) j.refusal;
+      refusal = simp (← c.is_too_long.ensures, c.if-is_too_long.false, ← c.has_wrong_atoms.ensures, c.if-has_wrong_atoms.false, sym (ap (λ x. x.present) c.check_tree-tree.ensures) ∙ not-false _ c.if-not-tree.false, ← m) j.refusal;
       movie = λ z. rw m at (j.movie z);
       none = j.none;
     }

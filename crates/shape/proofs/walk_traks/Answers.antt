@@ -1,7 +1,6 @@
 -- `shape::walk_traks` meets its contract: the rest of the body stands at the place, and its tracks are still to be judged.
 -- Assumes nothing.
 use mathlib.Core.Path.{sym, ap, ◌∙◌}
-use mathlib.Core.Logic.{⊎_elim}
 use native.Mathlib.Omega.{arith}
 use lib.ListN.{length-drop}
 use Rattle.bigendian.proofs.Parts.{rest}
@@ -9,6 +8,7 @@ use Rattle.atoms.specs.Atoms.{body_of}
 use Rattle.places.specs.Places.{part_in}
 use Rattle.places.proofs.Parts.{part_at, at_front, at_next}
 use Rattle.shape.proofs.Walking.{walk_start, walk_end, walk_next, walk_here}
+use Rattle.shape.proofs.walk_traks.Goals.{then-u32_at-eq-TRAK, else-u32_at-eq-TRAK}
 use Rattle.shape.proofs.walk_traks.Goals as goal
 
 pub part_of-body-requires : goal.part_of-body-requires
@@ -69,11 +69,11 @@ loop-t-preserved c =
     let f = at_front _ t l.at n l.invariant.0 c.size_in-n.ensures.upper_bound in
     rw (rest n t) (
       at_next _ t l.at n l.invariant.0 c.size_in-n.ensures.upper_bound,
-      ⊎_elim
-          (λ w.
-          let k = w.5.ensures ∙ w.2.ensures.body in
-          walk_here _ _ _ t n e l.refusal l.traks l.invariant.1 h _ _ _ _ _ (sym u ∙ w.0.taken) (k ∙ w.1.ensures ∙ ap body_of f) (rw k w.2.ensures) w.6.ensures
-          (w.9 ∙ w.7.ensures) (w.10 ∙ w.8.ensures))
-          (λ w. walk_next _ _ _ t n e l.refusal l.traks l.invariant.1 h _ _ (λ q. w.0.left (u ∙ q)) w.1 w.2)
-          c.if-u32_at-eq-TRAK.branch,
+      elim c.if-u32_at-eq-TRAK.branch [
+        | then-u32_at-eq-TRAK w ↦
+            let k = w.part_of.ensures ∙ w.trak_of-trak.ensures.body in
+            walk_here _ _ _ t n e l.refusal l.traks l.invariant.1 h _ _ _ _ _ (sym u ∙ w.if-u32_at-eq-TRAK.true) (k ∙ w.body_part.ensures ∙ ap body_of f) (rw k w.trak_of-trak.ensures) w.track_refusal.ensures
+            (w.refusal-is ∙ w.earlier_of-refusal.ensures) (w.traks-is ∙ w.with_trak-traks.ensures)
+        | else-u32_at-eq-TRAK w ↦ walk_next _ _ _ t n e l.refusal l.traks l.invariant.1 h _ _ (λ q. w.if-u32_at-eq-TRAK.false (u ∙ q)) w.refusal-is w.traks-is
+      ],
     )
