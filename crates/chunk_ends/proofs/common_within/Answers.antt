@@ -32,7 +32,7 @@ pub overflow_mul-count : goal.overflow_mul-count
 overflow_mul-count c = record { fits = wide_mul c.loop-c.invariant.1 (omega (arith, c.struct_known-in-loop-c-1.given)) }
 
 pub overflow_mul-count-in-loop-c : goal.overflow_mul-count-in-loop-c
-overflow_mul-count-in-loop-c c =     record { fits = width_fits c.args.long c.loop-c.invariant.1 c.width_of-width.ensures }
+overflow_mul-count-in-loop-c c = record { fits = width_fits c.args.long c.loop-c.invariant.1 c.width_of-width.ensures }
 
 pub loop-c-smaller : goal.loop-c-smaller
 loop-c-smaller c =

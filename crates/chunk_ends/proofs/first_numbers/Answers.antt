@@ -11,7 +11,7 @@ pub nonzero_div-part : goal.nonzero_div-part
 nonzero_div-part c = omega (arith, c.width_of-width.ensures, width_above c.args.long)
 
 pub overflow_mul-n : goal.overflow_mul-n
-overflow_mul-n c =     record { fits = omega (arith, first_fits c.args.long c.args.part.now c.args.count c.width_of-width.ensures c.if-count-part.true, c.well_formed) }
+overflow_mul-n c = record { fits = omega (arith, first_fits c.args.long c.args.part.now c.args.count c.width_of-width.ensures c.if-count-part.true, c.well_formed) }
 
 pub slice_bounds-result-end : goal.slice_bounds-result-end
 slice_bounds-result-end c =

@@ -23,10 +23,10 @@ loop-c-init c =
     )
 
 pub slice_bounds-sum_words-end : goal.slice_bounds-sum_words-end
-slice_bounds-sum_words-end c =     sym (length-take-le c.smaller-n.result c.loop-c.z.now (omega (arith, c.smaller-n.ensures)))
+slice_bounds-sum_words-end c = sym (length-take-le c.smaller-n.result c.loop-c.z.now (omega (arith, c.smaller-n.ensures)))
 
 pub sum_words-bytes-requires : goal.sum_words-bytes-requires
-sum_words-bytes-requires c =     omega (arith, length-take c.smaller-n.result c.loop-c.z.now, c.smaller-n.ensures, c.struct_known-in-loop-c-1.given)
+sum_words-bytes-requires c = omega (arith, length-take c.smaller-n.result c.loop-c.z.now, c.smaller-n.ensures, c.struct_known-in-loop-c-1.given)
 
 pub returns-then-passes : goal.returns-then-passes
 returns-then-passes c =
@@ -37,10 +37,10 @@ returns-then-passes c =
     (one_asked a.limit l.c.per (drop l.index cs) (words_in l.z.now) (c.number_in.ensures ∙ at_front l.index cs) (c.sum_words-bytes.ensures.0 ∙ first_part l.z.now l.c.per c.smaller-n.ensures) c.passes.ensures) (ap not c.if-passes.true))
 
 pub overflow_add-index : goal.overflow_add-index
-overflow_add-index c =     omega (arith, c.loop-c.invariant.1)
+overflow_add-index c = omega (arith, c.loop-c.invariant.1)
 
 pub loop-c-smaller : goal.loop-c-smaller
-loop-c-smaller c =     omega (arith, ending_length c.loop-c.invariant.0 1 (omega (arith, c.loop-c-test.true)) c.pass.ensures c.ready-c-in-loop-c.ensures.0)
+loop-c-smaller c = omega (arith, ending_length c.loop-c.invariant.0 1 (omega (arith, c.loop-c-test.true)) c.pass.ensures c.ready-c-in-loop-c.ensures.0)
 
 pub loop-c-preserved : goal.loop-c-preserved
 loop-c-preserved c =
