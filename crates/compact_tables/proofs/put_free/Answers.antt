@@ -34,7 +34,7 @@ put_zeros-requires c =
       ap length c.put_u32.ensures,
       length-sets a.out.now a.at (be32 a.n),
       ap length c.put_u32-2.ensures,
-      length-sets c.put_u32.new.0 (a.at + 4) (be32 free),
+      length-sets c.put_u32.new.out (a.at + 4) (be32 free),
     )
 
 pub returns : goal.returns
@@ -42,6 +42,6 @@ returns c =
     let a = c.args in
     let e = c.put_zeros.ensures in
     let r = replicate {A = ℕ} (a.n - 8) 0 in
-    let f = two_writes (be32 free) r c.put_u32.new.0 c.put_u32-2.new.0 c.put_zeros.new.0 (a.at + 4) (a.at + 8) c.put_zeros.result (omega (arith, be32_length free)) c.put_u32-2.ensures (rw (length-replicate {A = ℕ} (a.n - 8) 0) e.0) e.1 in
+    let f = two_writes (be32 free) r c.put_u32.new.out c.put_u32-2.new.out c.put_zeros.new.out (a.at + 4) (a.at + 8) c.put_zeros.result (omega (arith, be32_length free)) c.put_u32-2.ensures (rw (length-replicate {A = ℕ} (a.n - 8) 0) e.0) e.1 in
     rw (free_some a.n c.if-n-lt8.false)
     (two_writes (be32 a.n) (be32 free ++ r) a.out.now _ _ a.at (a.at + 4) _ (omega (arith, be32_length a.n)) c.put_u32.ensures f.0 f.1)
