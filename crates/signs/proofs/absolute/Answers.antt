@@ -31,7 +31,7 @@ pub overflow_cast-result : goal.overflow_cast-result
 overflow_cast-result c = cast_at c.args.n c.ranges.n.sfits c.if-n-ge0.true
 
 pub overflow_sub-result : goal.overflow_sub-result
-overflow_sub-result c =     rw (away_at c.args.n c.ranges.n.sfits c.if-n-ge0.false) (record { sfits = c.ranges.n.sfits })
+overflow_sub-result c = rw (away_at c.args.n c.ranges.n.sfits c.if-n-ge0.false) (record { sfits = c.ranges.n.sfits })
 
 pub overflow_cast-result-2 : goal.overflow_cast-result-2
 overflow_cast-result-2 c =
