@@ -4,21 +4,24 @@
 
 mod show;
 
+use program_input::{Argument, MOST_FILM, arguments, named, open, read_full, read_up_to};
+use std::io;
+use std::rt::Files;
 use structure::source::Source;
 use track_list::{LINE, Line, TrackList, track_list};
 
 // The most bytes that a film may have.
-const MOST_BYTES: usize = 65536;
+const MOST_BYTES: usize = MOST_FILM;
 
 // The lines of so many tracks, from the first places of the room; of fewer where it has no place for so many, which an accepted list never needs.
-fn print_tracks(room: &[u32], count: usize) {
+fn print_tracks(rt: &impl Print, room: &[u32], count: usize) -> io::Result<()> {
     let mut t = room;
     let mut i = 0;
     while i < count {
         if t.len() < LINE {
-            return;
+            return Ok(());
         }
-        show::line(Line {
+        let line = Line {
             id: t[0],
             subtype: t[1],
             scale: t[2],
@@ -27,52 +30,49 @@ fn print_tracks(room: &[u32], count: usize) {
             chunks: t[5],
             edits: t[6],
             stored: t[7],
-        });
+        };
+        show::line(rt, line)?;
         t = &t[LINE..];
         i += 1;
     }
+    Ok(())
 }
 
-fn print_list(film: &[u8]) {
+fn print_list(rt: &impl Print, film: &[u8]) -> io::Result<()> {
     // Eight numbers for each of 16 tracks: more tracks are refused 6.
     let mut room = [0u32; 128];
     match track_list(film, Source::whole(), &mut room) {
         TrackList::Tracks(count) => {
-            show::heading();
-            print_tracks(&room, count);
+            show::heading(rt)?;
+            print_tracks(rt, &room, count)
         }
-        TrackList::Refused(number) => show::refused(number),
+        TrackList::Refused(number) => show::refused(rt, number),
     }
 }
 
 // Whether the input has a byte more.
-fn has_more(fd: i32) -> bool {
+fn has_more(reader: &mut impl io::Read) -> bool {
     let mut byte = [0u8; 1];
-    io::read_full(fd, &mut byte) > 0
+    read_full(reader, &mut byte) > 0
 }
 
 // Lists the film that is read to the input's end, whatever is given at a time; a read that fails counts as the end. Only after a full buffer is one byte
 // more asked for: an input that has ended is not read again, since a terminal would wait.
-fn list(fd: i32) {
-    let mut film = io::large_buffer();
-    let n = io::read_full(fd, &mut film);
-    if n == MOST_BYTES {
-        if has_more(fd) {
-            show::too_long();
-            return;
+fn list(rt: &(impl Print + AllocGlobal), reader: &mut impl io::Read) -> io::Result<()> {
+    let film = read_up_to(rt.alloc(), reader, MOST_BYTES)?;
+    if film.len() == MOST_BYTES {
+        if has_more(reader) {
+            return show::too_long(rt);
         }
     }
-    print_list(&film[..n]);
+    print_list(rt, &film)
 }
 
-fn list_file(name: &[u8]) {
-    let fd = os::open_read(name);
-    if fd < 0 {
-        os::fail(name);
-        return;
+fn list_file(rt: &(impl Files + Print + Eprint + AllocGlobal), name: &[u8]) -> io::Result<()> {
+    match open(rt, name)? {
+        Some(mut file) => list(rt, &mut file),
+        None => Ok(()),
     }
-    list(fd);
-    libc::close(fd);
 }
 
 fn is_dash(name: &[u8]) -> bool {
@@ -82,32 +82,34 @@ fn is_dash(name: &[u8]) -> bool {
     name[0] == b'-'
 }
 
-fn list_named(name: &[u8]) {
+fn list_named(
+    rt: &(impl Files + Input + Print + Eprint + AllocGlobal),
+    name: &[u8],
+) -> io::Result<()> {
     if is_dash(name) {
-        list(libc::STDIN_FILENO);
+        list(rt, &mut rt.reader())
     } else {
-        list_file(name);
+        list_file(rt, name)
     }
 }
 
-fn argument(i: usize) {
-    let mut name = io::buffer();
-    let length = os::arg(i, &mut name);
-    if os::errno() != 0 {
-        os::fail(b"name");
-        return;
+fn argument(
+    rt: &(impl Files + Input + Print + Eprint + AllocGlobal),
+    argument: &Argument,
+) -> io::Result<()> {
+    match named(rt, argument)? {
+        Some(name) => list_named(rt, name),
+        None => Ok(()),
     }
-    list_named(&name[..length]);
 }
 
-fn main() {
-    let count = os::arg_count();
-    if count < 2 {
-        list(libc::STDIN_FILENO);
+fn main(rt: HostRuntime) -> io::Result<()> {
+    let names = arguments(&rt)?;
+    if names.is_empty() {
+        list(&rt, &mut rt.reader())?;
     }
-    let mut i = 1;
-    while i < count {
-        argument(i);
-        i += 1;
+    for name in &names {
+        argument(&rt, name)?;
     }
+    Ok(())
 }

@@ -1,44 +1,45 @@
 // What the program prints, line by line.
+use std::io;
 use track_list::Line;
 
-fn text(s: &[u8]) {
-    io::write_all(libc::STDOUT_FILENO, s);
+fn text(rt: &impl Print, s: &[u8]) -> io::Result<()> {
+    rt.write_all(s)
 }
 
-fn decimal(n: u32) {
-    io::print_decimal(libc::STDOUT_FILENO, n as u64);
+fn decimal(rt: &impl Print, n: u32) -> io::Result<()> {
+    print!(rt; "{n}")
 }
 
 // A blank, and a number after it.
-fn next(n: u32) {
-    text(b" ");
-    decimal(n);
+fn next(rt: &impl Print, n: u32) -> io::Result<()> {
+    text(rt, b" ")?;
+    decimal(rt, n)
 }
 
-pub fn heading() {
-    text(b"id subtype scale total samples chunks edits stored\n");
+pub fn heading(rt: &impl Print) -> io::Result<()> {
+    text(rt, b"id subtype scale total samples chunks edits stored\n")
 }
 
 // A track: the subtype as eight hex digits, the rest decimal.
-pub fn line(line: Line) {
-    decimal(line.id);
-    text(b" ");
-    io::print_hex(libc::STDOUT_FILENO, line.subtype as u64, 8);
-    next(line.scale);
-    next(line.total);
-    next(line.samples);
-    next(line.chunks);
-    next(line.edits);
-    next(line.stored);
-    text(b"\n");
+pub fn line(rt: &impl Print, line: Line) -> io::Result<()> {
+    decimal(rt, line.id)?;
+    text(rt, b" ")?;
+    print!(rt; "{:08x}", line.subtype)?;
+    next(rt, line.scale)?;
+    next(rt, line.total)?;
+    next(rt, line.samples)?;
+    next(rt, line.chunks)?;
+    next(rt, line.edits)?;
+    next(rt, line.stored)?;
+    text(rt, b"\n")
 }
 
-pub fn refused(number: u32) {
-    text(b"refused");
-    next(number);
-    text(b"\n");
+pub fn refused(rt: &impl Print, number: u32) -> io::Result<()> {
+    text(rt, b"refused")?;
+    next(rt, number)?;
+    text(rt, b"\n")
 }
 
-pub fn too_long() {
-    text(b"too long\n");
+pub fn too_long(rt: &impl Print) -> io::Result<()> {
+    text(rt, b"too long\n")
 }
