@@ -9,7 +9,7 @@ pub returns-then-stsc-gt4294967295 : goal.returns-then-stsc-gt4294967295
 returns-then-stsc-gt4294967295 c = too_long _ _ _ _ _ _ c.if-stsc-gt4294967295.true
 
 pub returns-then-not-is_long : goal.returns-then-not-is_long
-returns-then-not-is_long c =     short_fits _ _ _ _ _ _ c.if-stsc-gt4294967295.false (sym c.is_long.ensures ∙ c.if-not-is_long.true) (λ i. (c.type_inv.stsz i).fits) (λ i. (c.type_inv.offsets i).fits) (omega arith) (omega arith)
+returns-then-not-is_long c = short_fits _ _ _ _ _ _ c.if-stsc-gt4294967295.false (sym c.is_long.ensures ∙ c.if-not-is_long.true) (λ i. (c.type_inv.stsz i).fits) (λ i. (c.type_inv.offsets i).fits) (omega arith) (omega arith)
 
 pub returns-then-is_past : goal.returns-then-is_past
 returns-then-is_past c = past_fits _ _ _ _ _ _ _ c.start_place-p.ensures c.if-stsc-gt4294967295.false (sym c.is_past.ensures ∙ c.if-is_past.true)
@@ -18,4 +18,4 @@ pub start_fits-requires : goal.start_fits-requires
 start_fits-requires c = omega (arith, start_low _ _ _ _ c.start_place-p.ensures)
 
 pub returns : goal.returns
-returns c =     first_fits _ _ _ _ _ _ _ c.start_place-p.ensures (sym c.is_past.ensures ∙ c.if-is_past.false) (λ i. (c.type_inv.stsz i).fits) (λ i. (c.type_inv.offsets i).fits) (omega arith) c.if-stsc-gt4294967295.false _ c.start_fits.ensures
+returns c = first_fits _ _ _ _ _ _ _ c.start_place-p.ensures (sym c.is_past.ensures ∙ c.if-is_past.false) (λ i. (c.type_inv.stsz i).fits) (λ i. (c.type_inv.offsets i).fits) (omega arith) c.if-stsc-gt4294967295.false _ c.start_fits.ensures
