@@ -1,5 +1,5 @@
 -- The numbers of some pairs as a slip writes them: how long they are, and what writing them leaves. Between the crates' own functions.
-use Rattle.std.specs.Prelude.{ℕ, ◌+◌, ◌≤◌, ◌≡◌, List, [], ◌∷◌, length}
+use Rattle.std.specs.Prelude.{ℕ, ◌+◌, ◌≡◌, List, length}
 use Rattle.std.proofs.lemmas.List.Edits.{sets}
 use Rattle.leb128.specs.Numbers.{writes}
 use Rattle.slip_head.specs.Bytes.{any_wide}

@@ -7,7 +7,7 @@ pub store_number-middle-requires : goal.store_number-middle-requires
 store_number-middle-requires c = first_fits c.args.q c.args.out.now c.args.at c.requires
 
 pub store_number-requires : goal.store_number-requires
-store_number-requires c =     second_fits c.args.q c.args.out.now c.args.at c.requires _ _ c.store_number-middle.ensures.0 c.store_number-middle.ensures.1
+store_number-requires c = second_fits c.args.q c.args.out.now c.args.at c.requires _ _ c.store_number-middle.ensures.0 c.store_number-middle.ensures.1
 
 pub returns : goal.returns
-returns c =     one_wrote _ _ _ c.requires _ _ c.store_number-middle.ensures.0 c.store_number-middle.ensures.1 _ _ c.store_number.ensures.0 c.store_number.ensures.1
+returns c = one_wrote _ _ _ c.requires _ _ c.store_number-middle.ensures.0 c.store_number-middle.ensures.1 _ _ c.store_number.ensures.0 c.store_number.ensures.1
