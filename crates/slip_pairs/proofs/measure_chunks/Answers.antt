@@ -8,10 +8,10 @@ use Rattle.pair_bytes.proofs.Streaming.{once_fits, same_short}
 use Rattle.slip_pairs.proofs.measure_chunks.Goals as goal
 
 pub pair_at-requires : goal.pair_at-requires
-pair_at-requires c =     (c.requires.0, once_fits (at_once_one _ _ _ _ c.args.p c.args.n c.if-n-eq1.true refl) c.requires.2)
+pair_at-requires c = (c.requires.0, once_fits (at_once_one _ _ _ _ c.args.p c.args.n c.if-n-eq1.true refl) c.requires.2)
 
 pub returns-then-n-eq1 : goal.returns-then-n-eq1
-returns-then-n-eq1 c =     c.measure_pair.ensures ∙ ap measured_of (sym (at_once_one _ _ _ _ c.args.p c.args.n c.if-n-eq1.true c.pair_at.ensures))
+returns-then-n-eq1 c = c.measure_pair.ensures ∙ ap measured_of (sym (at_once_one _ _ _ _ c.args.p c.args.n c.if-n-eq1.true c.pair_at.ensures))
 
 pub run_offsets-these-requires : goal.run_offsets-these-requires
 run_offsets-these-requires c = (c.requires.1.whole c.if-n-eq1.false).there

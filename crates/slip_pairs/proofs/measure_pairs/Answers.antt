@@ -2,7 +2,6 @@
 -- Assumes nothing.
 use mathlib.Core.Path.{sym, ◌∙◌}
 use mathlib.Core.List.{[]}
-use borrow.Author.Tests.{not-true, not-false}
 use Rattle.pairs.proofs.Walking.{some_remain, begins_low, past_less}
 use Rattle.pairs.proofs.Counting.{place_fits, step_fits}
 use Rattle.pair_bytes.proofs.Streaming.{measuring_start, measuring_end, measure_next, measure_fits, measuring_turn, same_rest}
@@ -20,39 +19,39 @@ loop-p-init c =
 pub chunks_at_once-n-requires : goal.chunks_at_once-n-requires
 chunks_at_once-n-requires c =
     let l = c.loop-p in
-    let e = sym c.is_past.ensures ∙ not-true c.is_past.result c.loop-p-test.true in
+    let e = sym c.is_past.ensures ∙ c.loop-p-test.true in
     (some_remain _ [] [] _ _ _ _ l.invariant.0.place e, (place_fits _ _ _ _ _ l.invariant.0.place e c.requires.0 c.ranges.chunks.fits (λ x. (c.type_inv.stsc x).fits) c.ranges.stop.fits).1)
 
 pub measure_chunks-requires : goal.measure_chunks-requires
 measure_chunks-requires c =
     let l = c.loop-p in
-    let e = sym c.is_past.ensures ∙ not-true c.is_past.result c.loop-p-test.true in
+    let e = sym c.is_past.ensures ∙ c.loop-p-test.true in
     let o = c.chunks_at_once-n.ensures.0 in
     (begins_low _ [] [] _ _ _ _ l.invariant.0.place e, o, walking_fits _ _ _ _ _ _ _ l.invariant.0 e _ o, measure_next l.invariant.1 _ _ (walking_split _ _ _ _ _ _ _ l.invariant.0 e _ o) c.requires.2)
 
 pub both-m-requires : goal.both-m-requires
 both-m-requires c =
     let l = c.loop-p in
-    let e = sym c.is_past.ensures ∙ not-true c.is_past.result c.loop-p-test.true in
+    let e = sym c.is_past.ensures ∙ c.loop-p-test.true in
     measure_fits l.invariant.1 _ _ (walking_split _ _ _ _ _ _ _ l.invariant.0 e _ c.chunks_at_once-n.ensures.0) c.requires.2 _ c.measure_chunks.ensures
 
 pub place_past-p-requires : goal.place_past-p-requires
 place_past-p-requires c =
     let l = c.loop-p in
-    let e = sym c.is_past.ensures ∙ not-true c.is_past.result c.loop-p-test.true in
+    let e = sym c.is_past.ensures ∙ c.loop-p-test.true in
     step_fits _ _ _ _ _ l.invariant.0.place e c.requires.0 c.ranges.chunks.fits (λ x. (c.type_inv.stsc x).fits) c.ranges.stop.fits _ _ _ c.chunks_at_once-n.ensures.0
 
 pub loop-p-smaller : goal.loop-p-smaller
 loop-p-smaller c =
     let l = c.loop-p in
-    let e = sym c.is_past.ensures ∙ not-true c.is_past.result c.loop-p-test.true in
+    let e = sym c.is_past.ensures ∙ c.loop-p-test.true in
     let w = c.chunks_at_once-n.ensures.0 in
     rw c.place_past-p.ensures (past_less _ [] [] _ _ _ _ l.invariant.0.place e _ w.few w.some)
 
 pub loop-p-preserved : goal.loop-p-preserved
 loop-p-preserved c =
     let l = c.loop-p in
-    let e = sym c.is_past.ensures ∙ not-true c.is_past.result c.loop-p-test.true in
+    let e = sym c.is_past.ensures ∙ c.loop-p-test.true in
     let w = c.chunks_at_once-n.ensures.0 in
     let t = walking_turn _ _ _ _ _ _ _ l.invariant.0 e _ w _ c.place_past-p.ensures in
     (t.0, same_rest (sym t.1) (measuring_turn l.invariant.1 _ _ (walking_split _ _ _ _ _ _ _ l.invariant.0 e _ w) _ _ c.measure_chunks.ensures c.both-m.ensures))
@@ -60,4 +59,4 @@ loop-p-preserved c =
 pub returns : goal.returns
 returns c =
     let l = c.loop-p in
-    measuring_end l.invariant.1 (walking_end _ _ _ _ _ _ _ l.invariant.0 (sym c.is_past.ensures ∙ not-false c.is_past.result c.loop-p-test.false))
+    measuring_end l.invariant.1 (walking_end _ _ _ _ _ _ _ l.invariant.0 (sym c.is_past.ensures ∙ c.loop-p-test.false))

@@ -13,7 +13,7 @@ pub loop-t-init : goal.loop-t-init
 loop-t-init c = omega arith
 
 pub overflow_add-len : goal.overflow_add-len
-overflow_add-len c =     omega (arith, words_turn c.loop-t.t.now c.loop-t-test.true, c.number_len-len.ensures, ap (λ (x : ℕ). length (groups x)) c.whole32.ensures, c.loop-t.invariant, c.requires)
+overflow_add-len c = omega (arith, words_turn c.loop-t.t.now c.loop-t-test.true, c.number_len-len.ensures, ap (λ (x : ℕ). length (groups x)) c.whole32.ensures, c.loop-t.invariant, c.requires)
 
 pub loop-t-smaller : goal.loop-t-smaller
 loop-t-smaller c =

@@ -7,13 +7,13 @@ use Rattle.pair_bytes.proofs.Streaming.{once_fits, same_fit, same_wrote}
 use Rattle.slip_pairs.proofs.write_chunks.Goals as goal
 
 pub pair_at-q-requires : goal.pair_at-q-requires
-pair_at-q-requires c =     (c.requires.0, once_fits (at_once_one _ _ _ _ c.args.p c.args.n c.if-n-eq1.true refl) c.requires.2)
+pair_at-q-requires c = (c.requires.0, once_fits (at_once_one _ _ _ _ c.args.p c.args.n c.if-n-eq1.true refl) c.requires.2)
 
 pub write_pair-requires : goal.write_pair-requires
-write_pair-requires c =     same_fit _ (sym (at_once_one _ _ _ _ c.args.p c.args.n c.if-n-eq1.true c.pair_at-q.ensures)) c.requires.3
+write_pair-requires c = same_fit _ (sym (at_once_one _ _ _ _ c.args.p c.args.n c.if-n-eq1.true c.pair_at-q.ensures)) c.requires.3
 
 pub returns-then-n-eq1 : goal.returns-then-n-eq1
-returns-then-n-eq1 c =     same_wrote (sym (at_once_one _ _ _ _ c.args.p c.args.n c.if-n-eq1.true c.pair_at-q.ensures)) c.write_pair.ensures
+returns-then-n-eq1 c = same_wrote (sym (at_once_one _ _ _ _ c.args.p c.args.n c.if-n-eq1.true c.pair_at-q.ensures)) c.write_pair.ensures
 
 pub run_offsets-these-requires : goal.run_offsets-these-requires
 run_offsets-these-requires c = (c.requires.1.whole c.if-n-eq1.false).there
