@@ -11,4 +11,4 @@ pub returns-in-Sum : goal.returns-in-Sum
 returns-in-Sum c = sym (sum_is _ _ c.total_duration.ensures _ c.in-Sum.is) ∙ total_by _ _ (c.part_of.ensures ∙ c.requires.0.stts)
 
 pub returns-in-Over : goal.returns-in-Over
-returns-in-Over c =     absurd (not_over _ _ c.total_duration.ensures c.in-Over.is (rw (total_by _ _ (c.part_of.ensures ∙ c.requires.0.stts)) c.requires.1))
+returns-in-Over c = absurd (not_over _ _ c.total_duration.ensures c.in-Over.is (rw (total_by _ _ (c.part_of.ensures ∙ c.requires.0.stts)) c.requires.1))

@@ -37,13 +37,13 @@ returns-then-has_data_elsewhere c =
     sym (timed_19 _ _ _ _ _ c.requires.1.0 c.ranges.total.fits (over ∙ c.if-is_over.false) (sym c.has_other_duration.ensures ∙ c.if-has_other_duration.false) (sym c.has_data_elsewhere.ensures ∙ c.if-has_data_elsewhere.true))
 
 pub chunks_end_within-requires : goal.chunks_end_within-requires
-chunks_end_within-requires c =     omega (arith, ap length (c.part_of.ensures ∙ c.requires.0.stsc), table_short stsc c.args.trak.now, c.requires.1)
+chunks_end_within-requires c = omega (arith, ap length (c.part_of.ensures ∙ c.requires.0.stsc), table_short stsc c.args.trak.now, c.requires.1)
 
 pub returns-then-not-chunks_end_within : goal.returns-then-not-chunks_end_within
 returns-then-not-chunks_end_within c =
     let ends : chunk_past_end c.args.len c.args.trak.now ≡ not c.chunks_end_within.result = sym (chunk_past_end_by _ _ _ _ _ _ (c.part_of.ensures ∙ c.requires.0.stsc) (c.part_of-stsz.ensures ∙ c.requires.0.stsz) (c.part_of-2.ensures ∙ c.requires.0.offsets) c.chunks_end_within.ensures) in
     let over : ltb 4294967295 (edit_total (elst_of c.args.trak.now)) ≡ c.is_over.result = sym (c.is_over.ensures ∙ ap (λ (l : List ℕ). ltb 4294967295 (edit_total l)) (c.part_of-elst.ensures ∙ c.requires.0.elst)) in
-    sym (timed_12 _ _ _ _ _ c.requires.1.0 c.ranges.total.fits (over ∙ c.if-is_over.false) (sym c.has_other_duration.ensures ∙ c.if-has_other_duration.false) (sym c.has_data_elsewhere.ensures ∙ c.if-has_data_elsewhere.false) (ends ∙ c.if-not-chunks_end_within.true))
+    sym (timed_12 _ _ _ _ _ c.requires.1.0 c.ranges.total.fits (over ∙ c.if-is_over.false) (sym c.has_other_duration.ensures ∙ c.if-has_other_duration.false) (sym c.has_data_elsewhere.ensures ∙ c.if-has_data_elsewhere.false) (ends ∙ ap not c.if-not-chunks_end_within.true))
 
 pub scale_in-requires : goal.scale_in-requires
 scale_in-requires c = c.requires.0
@@ -53,11 +53,11 @@ returns-then-not-edits_ok c =
     let shows : wrong_edits c.args.movie c.args.trak.now ≡ not c.edits_ok.result = sym (wrong_by _ _ _ _ _ _ (c.part_of-elst.ensures ∙ c.requires.0.elst) c.scale_in.ensures c.requires.1.0 c.edits_ok.ensures) in
     let ends : chunk_past_end c.args.len c.args.trak.now ≡ not c.chunks_end_within.result = sym (chunk_past_end_by _ _ _ _ _ _ (c.part_of.ensures ∙ c.requires.0.stsc) (c.part_of-stsz.ensures ∙ c.requires.0.stsz) (c.part_of-2.ensures ∙ c.requires.0.offsets) c.chunks_end_within.ensures) in
     let over : ltb 4294967295 (edit_total (elst_of c.args.trak.now)) ≡ c.is_over.result = sym (c.is_over.ensures ∙ ap (λ (l : List ℕ). ltb 4294967295 (edit_total l)) (c.part_of-elst.ensures ∙ c.requires.0.elst)) in
-    sym (timed_13 _ _ _ _ _ c.requires.1.0 c.ranges.total.fits (over ∙ c.if-is_over.false) (sym c.has_other_duration.ensures ∙ c.if-has_other_duration.false) (sym c.has_data_elsewhere.ensures ∙ c.if-has_data_elsewhere.false) (ends ∙ c.if-not-chunks_end_within.false) (shows ∙ c.if-not-edits_ok.true))
+    sym (timed_13 _ _ _ _ _ c.requires.1.0 c.ranges.total.fits (over ∙ c.if-is_over.false) (sym c.has_other_duration.ensures ∙ c.if-has_other_duration.false) (sym c.has_data_elsewhere.ensures ∙ c.if-has_data_elsewhere.false) (ends ∙ ap not c.if-not-chunks_end_within.false) (shows ∙ ap not c.if-not-edits_ok.true))
 
 pub returns : goal.returns
 returns c =
     let shows : wrong_edits c.args.movie c.args.trak.now ≡ not c.edits_ok.result = sym (wrong_by _ _ _ _ _ _ (c.part_of-elst.ensures ∙ c.requires.0.elst) c.scale_in.ensures c.requires.1.0 c.edits_ok.ensures) in
     let ends : chunk_past_end c.args.len c.args.trak.now ≡ not c.chunks_end_within.result = sym (chunk_past_end_by _ _ _ _ _ _ (c.part_of.ensures ∙ c.requires.0.stsc) (c.part_of-stsz.ensures ∙ c.requires.0.stsz) (c.part_of-2.ensures ∙ c.requires.0.offsets) c.chunks_end_within.ensures) in
     let over : ltb 4294967295 (edit_total (elst_of c.args.trak.now)) ≡ c.is_over.result = sym (c.is_over.ensures ∙ ap (λ (l : List ℕ). ltb 4294967295 (edit_total l)) (c.part_of-elst.ensures ∙ c.requires.0.elst)) in
-    sym (timed_0 _ _ _ _ _ c.requires.1.0 c.ranges.total.fits (over ∙ c.if-is_over.false) (sym c.has_other_duration.ensures ∙ c.if-has_other_duration.false) (sym c.has_data_elsewhere.ensures ∙ c.if-has_data_elsewhere.false) (ends ∙ c.if-not-chunks_end_within.false) (shows ∙ c.if-not-edits_ok.false))
+    sym (timed_0 _ _ _ _ _ c.requires.1.0 c.ranges.total.fits (over ∙ c.if-is_over.false) (sym c.has_other_duration.ensures ∙ c.if-has_other_duration.false) (sym c.has_data_elsewhere.ensures ∙ c.if-has_data_elsewhere.false) (ends ∙ ap not c.if-not-chunks_end_within.false) (shows ∙ ap not c.if-not-edits_ok.false))
