@@ -7,13 +7,13 @@ use Rattle.pairs.proofs.Wholes.{at_once_one, at_once_whole, equal_given}
 use Rattle.wide_pairs.proofs.put_chunks.Goals as goal
 
 pub pair_at-q-requires : goal.pair_at-q-requires
-pair_at-q-requires c =     (c.requires.0, omega (arith, (one_room (same_room (sym (at_once_one _ _ _ _ c.args.p c.args.n c.if-n-eq1.true refl)) c.requires.3)).0))
+pair_at-q-requires c = (c.requires.0, omega (arith, (one_room (same_room (sym (at_once_one _ _ _ _ c.args.p c.args.n c.if-n-eq1.true refl)) c.requires.3)).0))
 
 pub put_pair-requires : goal.put_pair-requires
-put_pair-requires c =     (one_room (same_room (sym (at_once_one _ _ _ _ c.args.p c.args.n c.if-n-eq1.true c.pair_at-q.ensures)) c.requires.3)).2
+put_pair-requires c = (one_room (same_room (sym (at_once_one _ _ _ _ c.args.p c.args.n c.if-n-eq1.true c.pair_at-q.ensures)) c.requires.3)).2
 
 pub returns-then-n-eq1 : goal.returns-then-n-eq1
-returns-then-n-eq1 c =     same_put (sym (at_once_one _ _ _ _ c.args.p c.args.n c.if-n-eq1.true c.pair_at-q.ensures)) (one_put c.put_pair.ensures)
+returns-then-n-eq1 c = same_put (sym (at_once_one _ _ _ _ c.args.p c.args.n c.if-n-eq1.true c.pair_at-q.ensures)) (one_put c.put_pair.ensures)
 
 pub run_offsets-these-requires : goal.run_offsets-these-requires
 run_offsets-these-requires c = (c.requires.1.whole c.if-n-eq1.false).there

@@ -30,10 +30,10 @@ overflow_add-start c =
     record { fits = omega (arith, f.2, c.loop-part.invariant.walk.filling.same, c.well_formed) }
 
 pub put_pair-requires : goal.put_pair-requires
-put_pair-requires c =     (listing_fits c.loop-part.invariant.walk (sym c.is_whole.ensures ∙ c.loop-part-test.true) (λ x. record { offset = c.number_in-offset.ensures x; length = c.listed_bytes-length.ensures x }) (sym (offsets_of _ c.is_long-long.ensures c.after-part.ensures)) c.requires.room.total).2
+put_pair-requires c = (listing_fits c.loop-part.invariant.walk (sym c.is_whole.ensures ∙ c.loop-part-test.true) (λ x. record { offset = c.number_in-offset.ensures x; length = c.listed_bytes-length.ensures x }) (sym (offsets_of _ c.is_long-long.ensures c.after-part.ensures)) c.requires.room.total).2
 
 pub overflow_add-bytes : goal.overflow_add-bytes
-overflow_add-bytes c =     record { fits = listing_total c.loop-part.invariant.walk (sym c.is_whole.ensures ∙ c.loop-part-test.true) (λ x. record { offset = c.number_in-offset.ensures x; length = c.listed_bytes-length.ensures x }) (sym (offsets_of _ c.is_long-long.ensures c.after-part.ensures)) c.requires.room.total }
+overflow_add-bytes c = record { fits = listing_total c.loop-part.invariant.walk (sym c.is_whole.ensures ∙ c.loop-part-test.true) (λ x. record { offset = c.number_in-offset.ensures x; length = c.listed_bytes-length.ensures x }) (sym (offsets_of _ c.is_long-long.ensures c.after-part.ensures)) c.requires.room.total }
 
 pub overflow_add-n : goal.overflow_add-n
 overflow_add-n c =
@@ -41,10 +41,10 @@ overflow_add-n c =
     record { fits = omega (arith, f.2, c.loop-part.invariant.walk.filling.same, c.well_formed) }
 
 pub sizes_past-others-requires : goal.sizes_past-others-requires
-sizes_past-others-requires c =     sizes_there c.loop-part.invariant.walk (sym c.is_whole.ensures ∙ c.loop-part-test.true)
+sizes_past-others-requires c = sizes_there c.loop-part.invariant.walk (sym c.is_whole.ensures ∙ c.loop-part-test.true)
 
 pub loop-part-smaller : goal.loop-part-smaller
-loop-part-smaller c =     passing_less c.loop-part.invariant (sym c.is_whole.ensures ∙ c.loop-part-test.true) c.next_cursor-c.ensures
+loop-part-smaller c = passing_less c.loop-part.invariant (sym c.is_whole.ensures ∙ c.loop-part-test.true) c.next_cursor-c.ensures
 
 pub loop-part-preserved : goal.loop-part-preserved
 loop-part-preserved c =
@@ -55,7 +55,7 @@ pub overflow_sub-passed : goal.overflow_sub-passed
 overflow_sub-passed c = c.loop-part.invariant.within
 
 pub place_by-requires : goal.place_by-requires
-place_by-requires c =     (c.loop-part.invariant.fits, passing_begin c.loop-part.invariant c.sizes_to-sizes.ensures.0 (omega (arith, c.well_formed)) c.ranges.stop.fits)
+place_by-requires c = (c.loop-part.invariant.fits, passing_begin c.loop-part.invariant c.sizes_to-sizes.ensures.0 (omega (arith, c.well_formed)) c.ranges.stop.fits)
 
 pub overflow_mul-result : goal.overflow_mul-result
 overflow_mul-result c = record { fits = omega (arith, c.loop-part.invariant.walk.filling.few, c.loop-part.invariant.walk.filling.same, c.well_formed) }

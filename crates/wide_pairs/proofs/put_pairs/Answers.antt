@@ -3,7 +3,6 @@
 use mathlib.Core.Path.{sym, ◌∙◌}
 use mathlib.Core.List.{[]}
 use native.Mathlib.Omega.{arith}
-use borrow.Author.Tests.{not-true, not-false}
 use Rattle.pairs.proofs.Walking.{some_remain, begins_low, past_from, past_less}
 use Rattle.pairs.proofs.Counting.{place_fits, step_fits}
 use Rattle.pairs.proofs.Filling.{walked_start, walked_end, step_at, step_room, step_total, step_turn, walked_moving, walked_moved, walked_total, walked_less}
@@ -18,67 +17,67 @@ loop-p-init c = walked_start _ _ _ _ _ _ _ _ c.start_place-p.ensures c.requires
 pub common_at_once-n-requires : goal.common_at_once-n-requires
 common_at_once-n-requires c =
     let l = c.loop-p in
-    let e = sym c.is_past.ensures ∙ not-true c.is_past.result c.loop-p-test.true in
+    let e = sym c.is_past.ensures ∙ c.loop-p-test.true in
     (some_remain _ [] [] _ _ _ _ l.invariant.place e, (place_fits _ _ _ _ _ l.invariant.place e c.requires.short c.ranges.chunks.fits (λ x. (c.type_inv.stsc x).fits) c.ranges.stop.fits).1)
 
 pub put_chunks-total-requires : goal.put_chunks-total-requires
 put_chunks-total-requires c =
     let l = c.loop-p in
-    let e = sym c.is_past.ensures ∙ not-true c.is_past.result c.loop-p-test.true in
+    let e = sym c.is_past.ensures ∙ c.loop-p-test.true in
     (begins_low _ [] [] _ _ _ _ l.invariant.place e, c.common_at_once-n.ensures.0, c.common_at_once-n.ensures.1, step_room l.invariant e _ c.common_at_once-n.ensures.0 c.requires.total)
 
 pub overflow_add-total : goal.overflow_add-total
 overflow_add-total c =
     let l = c.loop-p in
-    let e = sym c.is_past.ensures ∙ not-true c.is_past.result c.loop-p-test.true in
+    let e = sym c.is_past.ensures ∙ c.loop-p-test.true in
     record { fits = step_total l.invariant e _ c.common_at_once-n.ensures.0 c.requires.total c.put_chunks-total.ensures }
 
 pub overflow_mul-at : goal.overflow_mul-at
 overflow_mul-at c =
     let l = c.loop-p in
-    let e = sym c.is_past.ensures ∙ not-true c.is_past.result c.loop-p-test.true in
+    let e = sym c.is_past.ensures ∙ c.loop-p-test.true in
     record { fits = omega (arith, step_at l.invariant e c.common_at_once-n.result c.common_at_once-n.ensures.0, c.well_formed) }
 
 pub overflow_add-at : goal.overflow_add-at
 overflow_add-at c =
     let l = c.loop-p in
-    let e = sym c.is_past.ensures ∙ not-true c.is_past.result c.loop-p-test.true in
+    let e = sym c.is_past.ensures ∙ c.loop-p-test.true in
     record { fits = omega (arith, step_at l.invariant e c.common_at_once-n.result c.common_at_once-n.ensures.0, c.well_formed) }
 
 pub place_past-next-requires : goal.place_past-next-requires
 place_past-next-requires c =
     let l = c.loop-p in
-    let e = sym c.is_past.ensures ∙ not-true c.is_past.result c.loop-p-test.true in
+    let e = sym c.is_past.ensures ∙ c.loop-p-test.true in
     step_fits _ _ _ _ _ l.invariant.place e c.requires.short c.ranges.chunks.fits (λ x. (c.type_inv.stsc x).fits) c.ranges.stop.fits _ _ _ c.common_at_once-n.ensures.0
 
 pub put_listed-m-requires : goal.put_listed-m-requires
 put_listed-m-requires c =
     let l = c.loop-p in
-    let e = sym c.is_past.ensures ∙ not-true c.is_past.result c.loop-p-test.true in
+    let e = sym c.is_past.ensures ∙ c.loop-p-test.true in
     let w = c.common_at_once-n.ensures.0 in
     walked_moving (step_turn l.invariant e _ w c.put_chunks-total.ensures c.place_past-next.ensures) c.requires.total c.requires.short (past_from _ [] [] _ _ _ _ l.invariant.place e _ w.few w.some c.place_past-next.ensures)
 
 pub overflow_add-total-in-loop-p : goal.overflow_add-total-in-loop-p
 overflow_add-total-in-loop-p c =
     let l = c.loop-p in
-    let e = sym c.is_past.ensures ∙ not-true c.is_past.result c.loop-p-test.true in
+    let e = sym c.is_past.ensures ∙ c.loop-p-test.true in
     record { fits = walked_total (step_turn l.invariant e _ c.common_at_once-n.ensures.0 c.put_chunks-total.ensures c.place_past-next.ensures) c.requires.total c.put_listed-m.ensures }
 
 pub loop-p-smaller : goal.loop-p-smaller
 loop-p-smaller c =
     let l = c.loop-p in
-    let e = sym c.is_past.ensures ∙ not-true c.is_past.result c.loop-p-test.true in
+    let e = sym c.is_past.ensures ∙ c.loop-p-test.true in
     let w = c.common_at_once-n.ensures.0 in
     walked_less c.put_listed-m.ensures (rw c.place_past-next.ensures (past_less _ [] [] _ _ _ _ l.invariant.place e _ w.few w.some))
 
 pub loop-p-preserved : goal.loop-p-preserved
 loop-p-preserved c =
     let l = c.loop-p in
-    let e = sym c.is_past.ensures ∙ not-true c.is_past.result c.loop-p-test.true in
+    let e = sym c.is_past.ensures ∙ c.loop-p-test.true in
     walked_moved (step_turn l.invariant e _ c.common_at_once-n.ensures.0 c.put_chunks-total.ensures c.place_past-next.ensures) c.put_listed-m.ensures
 
 pub shape_of-room : goal.shape_of-room
 shape_of-room c = c.loop-p.invariant.filling.same
 
 pub returns : goal.returns
-returns c = walked_end c.loop-p.invariant (sym c.is_past.ensures ∙ not-false c.is_past.result c.loop-p-test.false)
+returns c = walked_end c.loop-p.invariant (sym c.is_past.ensures ∙ c.loop-p-test.false)

@@ -60,7 +60,7 @@ pub shape_of-room-then-t-width : goal.shape_of-room-then-t-width
 shape_of-room-then-t-width c = c.loop-t.invariant.2.same
 
 pub returns-then-t-width : goal.returns-then-t-width
-returns-then-t-width c =     filling_end _ _ _ _ _ _ _ c.loop-t.invariant.2 (equal_none c.args.bytes c.args.long c.loop-t.t.now c.loop-t.invariant.0 c.loop-t.invariant.1 c.if-t-width.true)
+returns-then-t-width c = filling_end _ _ _ _ _ _ _ c.loop-t.invariant.2 (equal_none c.args.bytes c.args.long c.loop-t.t.now c.loop-t.invariant.0 c.loop-t.invariant.1 c.if-t-width.true)
 
 pub put_pair-requires-2 : goal.put_pair-requires-2
 put_pair-requires-2 c =
