@@ -8,4 +8,4 @@ pub overflow_mul-count : goal.overflow_mul-count
 overflow_mul-count c = record { fits = wide_mul c.requires (omega (arith, c.well_formed)) }
 
 pub returns : goal.returns
-returns c = λ i. record { count = c.wrapping_add_u64.ensures i; total = c.wrapping_add_u64-2.ensures i }
+returns c = λ i. record { count = c.wrapping_add_u64.ensures.value i; total = c.wrapping_add_u64-2.ensures.value i }
