@@ -14,4 +14,4 @@ returns-then-i-ge14 c =
     rw (← none_refused c.args.number _ c.slot_of-i.ensures (return_of r) (omega (arith, l, c.if-i-ge14.true))) c.unchanged_return-f.ensures.1
 
 pub returns : goal.returns
-returns c =     rw (← refused_more c.args.number _ c.slot_of-i.ensures (return_of c.args.r)) (c.add_at.ensures c.args.r _ c.unchanged_return-f.ensures.1)
+returns c = rw (← refused_more c.args.number _ c.slot_of-i.ensures (return_of c.args.r)) (c.add_at.ensures c.args.r _ c.unchanged_return-f.ensures.1)

@@ -23,4 +23,4 @@ loop-i-preserved c =
     (omega (arith, h), λ r t w. toward_next r _ _ _ _ _ _ (next_scale c.args.other _ c.loop-i.i h (omega (arith, n, scales_long)) (omega (arith, n, units_long))) c.add_scale-next.ensures (c.loop-i.invariant.1 r t w))
 
 pub returns : goal.returns
-returns c r t w =     toward_none r _ _ _ (no_scale c.args.other _ c.loop-i.i c.loop-i-test.false) (c.loop-i.invariant.1 r t w)
+returns c r t w = toward_none r _ _ _ (no_scale c.args.other _ c.loop-i.i c.loop-i-test.false) (c.loop-i.invariant.1 r t w)

@@ -26,7 +26,7 @@ pub loop-t-smaller : goal.loop-t-smaller
 loop-t-smaller c = rw part-rest (simp length-drop (omega (arith, c.loop-t-test.true)))
 
 pub loop-t-preserved : goal.loop-t-preserved
-loop-t-preserved c =     rw part-rest (sym (at_next _ _ c.loop-t-test.true c.u32_at-count.ensures c.if-ahead-count.false) ∙ c.loop-t.invariant)
+loop-t-preserved c = rw part-rest (sym (at_next _ _ c.loop-t-test.true c.u32_at-count.ensures c.if-ahead-count.false) ∙ c.loop-t.invariant)
 
 pub returns : goal.returns
 unfolding composition_offset

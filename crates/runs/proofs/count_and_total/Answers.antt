@@ -26,14 +26,13 @@ loop-t-init c =
     )
 
 pub returns-then-count-eq0 : goal.returns-then-count-eq0
-returns-then-count-eq0 c =     (sym (count_zero _ _ _ c.u32_at-count.ensures c.loop-t-test.true c.if-count-eq0.true) ∙ c.loop-t.invariant.0, refl)
+returns-then-count-eq0 c = (sym (count_zero _ _ _ c.u32_at-count.ensures c.loop-t-test.true c.if-count-eq0.true) ∙ c.loop-t.invariant.0, refl)
 
 pub returns-then-rest-count : goal.returns-then-rest-count
-returns-then-rest-count c =
-    (
-      sym (count_over _ _ _ c.u32_at-count.ensures c.loop-t-test.true c.if-count-eq0.false c.if-rest-count.true) ∙ c.loop-t.invariant.0,
-      refl,
-    )
+returns-then-rest-count c = (
+  sym (count_over _ _ _ c.u32_at-count.ensures c.loop-t-test.true c.if-count-eq0.false c.if-rest-count.true) ∙ c.loop-t.invariant.0,
+  refl,
+)
 
 pub overflow_mul-total : goal.overflow_mul-total
 overflow_mul-total c =

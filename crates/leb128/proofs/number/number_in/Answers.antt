@@ -11,19 +11,19 @@ pub loop-p-init : goal.loop-p-init
 loop-p-init c = joining_start _ _ _ _
 
 pub ended-requires : goal.ended-requires
-ended-requires c =     (omega arith, joining_last_fits _ _ _ _ _ _ _ _ c.loop-p.invariant _ c.if-rest-eq0.true c.if-b-top.true c.requires.2)
+ended-requires c = (omega arith, joining_last_fits _ _ _ _ _ _ _ _ c.loop-p.invariant _ c.if-rest-eq0.true c.if-b-top.true c.requires.2)
 
 pub returns-then-b-top : goal.returns-then-b-top
-returns-then-b-top c =     c.ended.ensures ∙ sym (joining_last _ _ _ _ _ _ _ _ c.loop-p.invariant _ c.loop-p-test.true refl c.if-rest-eq0.true c.if-b-top.true)
+returns-then-b-top c = c.ended.ensures ∙ sym (joining_last _ _ _ _ _ _ _ _ c.loop-p.invariant _ c.loop-p-test.true refl c.if-rest-eq0.true c.if-b-top.true)
 
 pub returns-then-rest-eq0 : goal.returns-then-rest-eq0
-returns-then-rest-eq0 c =     sym (joining_broken _ _ _ _ _ _ _ _ c.loop-p.invariant _ c.loop-p-test.true refl c.if-rest-eq0.true c.if-b-top.false)
+returns-then-rest-eq0 c = sym (joining_broken _ _ _ _ _ _ _ _ c.loop-p.invariant _ c.loop-p-test.true refl c.if-rest-eq0.true c.if-b-top.false)
 
 pub ended-requires-then-b-lt128 : goal.ended-requires-then-b-lt128
-ended-requires-then-b-lt128 c =     (omega arith, joining_fits _ _ _ _ _ _ _ _ c.loop-p.invariant _ c.if-rest-eq0.false c.requires.0 c.if-b-lt128.true c.requires.2)
+ended-requires-then-b-lt128 c = (omega arith, joining_fits _ _ _ _ _ _ _ _ c.loop-p.invariant _ c.if-rest-eq0.false c.requires.0 c.if-b-lt128.true c.requires.2)
 
 pub returns-then-b-lt128 : goal.returns-then-b-lt128
-returns-then-b-lt128 c =     c.ended-then-b-lt128.ensures ∙ sym (joining_one _ _ _ _ _ _ _ _ c.loop-p.invariant _ c.loop-p-test.true refl c.if-rest-eq0.false c.if-b-lt128.true)
+returns-then-b-lt128 c = c.ended-then-b-lt128.ensures ∙ sym (joining_one _ _ _ _ _ _ _ _ c.loop-p.invariant _ c.loop-p-test.true refl c.if-rest-eq0.false c.if-b-lt128.true)
 
 pub overflow_cast-low : goal.overflow_cast-low
 overflow_cast-low c = omega (arith, c.type_inv.bytes c.loop-p.p)
@@ -39,7 +39,7 @@ overflow_add-low c =
     omega (arith, low_fits)
 
 pub overflow_mul-unit : goal.overflow_mul-unit
-overflow_mul-unit c =     record { fits = joining_unit _ _ _ _ _ _ _ _ c.loop-p.invariant c.if-rest-eq0.false c.requires.0 c.requires.2 }
+overflow_mul-unit c = record { fits = joining_unit _ _ _ _ _ _ _ _ c.loop-p.invariant c.if-rest-eq0.false c.requires.0 c.requires.2 }
 
 pub loop-p-preserved : goal.loop-p-preserved
 loop-p-preserved c =

@@ -16,10 +16,10 @@ returns-then-t-lt-ENTRY c =
     sym (ready_end _ l.r c.after-t.ensures c.if-t-lt-ENTRY.true) ∙ l.invariant
 
 pub overflow_add-r : goal.overflow_add-r
-overflow_add-r c =     omega (arith, c.well_formed.0.0, c.if-t-lt-ENTRY.false, ap length c.after-t.ensures, length-drop c.loop-r.r.at c.args.table.now)
+overflow_add-r c = omega (arith, c.well_formed.0.0, c.if-t-lt-ENTRY.false, ap length c.after-t.ensures, length-drop c.loop-r.r.at c.args.table.now)
 
 pub loop-r-smaller : goal.loop-r-smaller
-loop-r-smaller c =     omega (arith, c.if-t-lt-ENTRY.false, ap length c.after-t.ensures, length-drop c.loop-r.r.at c.args.table.now)
+loop-r-smaller c = omega (arith, c.if-t-lt-ENTRY.false, ap length c.after-t.ensures, length-drop c.loop-r.r.at c.args.table.now)
 
 pub loop-r-preserved : goal.loop-r-preserved
 loop-r-preserved c =
