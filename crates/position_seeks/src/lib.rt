@@ -22,7 +22,7 @@ pub fn moving_seek(
     index: u32,
 ) -> Moving
     requires { length stsc.now < 2 ^ 32 }
-    ensures { result ≡ sought_moving (record { stts = stts.entry.now; ctts = ctts.now; stsc = stsc.now; stsz = stsz.now; offsets = offsets.now; stss = stss.now }) index }
+    ensures { result ≡ sought_moving (record { stts = stts.now; ctts = ctts.now; stsc = stsc.now; stsz = stsz.now; offsets = offsets.now; stss = stss.now }) index }
 {
     let timing = timing_of(stts, index);
     let times = run_seek(stts, index);

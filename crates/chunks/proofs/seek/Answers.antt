@@ -18,7 +18,7 @@ loop-c-init c = (seeking_start _ _ _ c.start_cursor.ensures c.ready-c.ensures.0,
 
 pub overflow_mul-samples : goal.overflow_mul-samples
 overflow_mul-samples c =
-    let per_small : c.loop-c.c.per < 2 ^ 32 = omega (arith, c.struct_known-in-loop-c-1.given) in
+    let per_small : c.loop-c.c.per < 2 ^ 32 = omega arith in
     let m = c.loop-c in omega (arith, run_fits m.invariant.1 (per_small))
 
 pub nonzero_div-skip : goal.nonzero_div-skip
@@ -34,7 +34,7 @@ nonzero_rem-result c = pos_of_lt_mul _ _ _ c.if-rest-samples.true
 
 pub overflow_cast-result : goal.overflow_cast-result
 overflow_cast-result c =
-    let per_small : c.loop-c.c.per < 2 ^ 32 = omega (arith, c.struct_known-in-loop-c-1.given) in
+    let per_small : c.loop-c.c.per < 2 ^ 32 = omega arith in
     omega (arith, mod-lt c.loop-c.rest {m = c.loop-c.c.per} (pos_of_lt_mul _ _ _ c.if-rest-samples.true), per_small)
 
 pub returns-then-rest-samples : goal.returns-then-rest-samples

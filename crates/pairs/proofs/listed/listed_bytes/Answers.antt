@@ -10,7 +10,7 @@ pub slice_bounds-sum_words-end : goal.slice_bounds-sum_words-end
 slice_bounds-sum_words-end c = sym (length-take-le _ c.args.sizes.now c.requires)
 
 pub sum_words-requires : goal.sum_words-requires
-sum_words-requires c = omega (arith, length-take-le (c.args.c.per * 4) c.args.sizes.now c.requires, c.struct_known-1.given)
+sum_words-requires c = omega (arith, length-take-le (c.args.c.per * 4) c.args.sizes.now c.requires)
 
 pub returns : goal.returns
 returns c = c.sum_words.ensures.0
