@@ -20,7 +20,7 @@ index_at-from-requires c =
     (omega (arith, c.if-stts-gt4294967295.false), h.0, h.1)
 
 pub returns-else-samples-last : goal.returns-else-samples-last
-returns-else-samples-last c =     span_found _ _ _ _ c.if-end-first.false c.if-stts-gt4294967295.false _ c.sample_at.ensures _ c.in-At.is c.if-samples-last.false _ _ c.index_at-from.ensures refl
+returns-else-samples-last c = span_found _ _ _ _ c.if-end-first.false c.if-stts-gt4294967295.false _ c.sample_at.ensures _ c.in-At.is c.if-samples-last.false _ _ c.index_at-from.ensures refl
 
 pub returns-in-Outside : goal.returns-in-Outside
 returns-in-Outside c = span_outside _ _ _ _ c.if-end-first.false c.if-stts-gt4294967295.false _ c.sample_at.ensures c.in-Outside.is
