@@ -16,7 +16,7 @@ pub bounds-ids-i : goal.bounds-ids-i
 bounds-ids-i c = omega (arith, c.loop-i-test.true, c.requires)
 
 pub returns-then-ids-i : goal.returns-then-ids-i
-returns-then-ids-i c =     sym (listed_here _ c.loop-i.i _ _ c.loop-i-test.true (omega (arith, c.requires)) c.if-ids-i.true) ∙ c.loop-i.invariant.1
+returns-then-ids-i c = sym (listed_here _ c.loop-i.i _ _ c.loop-i-test.true (omega (arith, c.requires)) c.if-ids-i.true) ∙ c.loop-i.invariant.1
 
 pub overflow_add-i : goal.overflow_add-i
 overflow_add-i c = record { fits = omega (arith, c.loop-i-test.true, c.requires) }
@@ -30,4 +30,4 @@ loop-i-preserved c =
     (omega (arith, h), sym (listed_on _ c.loop-i.i _ _ h (omega (arith, c.requires)) c.if-ids-i.false) ∙ c.loop-i.invariant.1)
 
 pub returns : goal.returns
-returns c =     sym (listed_past _ c.loop-i.i _ _ c.loop-i-test.false) ∙ c.loop-i.invariant.1
+returns c = sym (listed_past _ c.loop-i.i _ _ c.loop-i-test.false) ∙ c.loop-i.invariant.1
