@@ -18,7 +18,7 @@ overflow_sub-result c = body_le _ _ _ _ c.part_of-atom.ensures c.body_of-body.en
 pub overflow_add-result : goal.overflow_add-result
 overflow_add-result c =
     let h : length c.args.lent.now < 2 ^ 63 = omega (arith, c.well_formed.0.0) in
-    let k : c.args.p.at < 2 ^ 64 = omega (arith, c.struct_known-1.given) in
+    let k : c.args.p.at < 2 ^ 64 = omega arith in
     record { fits = body_sum c.args.lent.now _ _ c.args.p c.part_of-atom.ensures c.body_of-body.ensures h k }
 
 pub returns : goal.returns

@@ -1,7 +1,7 @@
 -- `places::tables::is_table` meets its contract: past the arms the kind is none of the tables'.
 -- Assumes nothing.
-use mathlib.Core.Logic.{inl, inr}
-use borrow.Author.Tests.{ne_eqb}
+use native.Mathlib.Omega.{arith}
+use Rattle.std.proofs.lemmas.Grind.{common_steps}
 use Rattle.places.proofs.Finding.{not_left}
 use Rattle.places.proofs.tables.is_table.Goals as goal
 
@@ -13,14 +13,13 @@ returns-in-1937011555 c e = absurd (not_left e)
 
 pub returns-in_default : goal.returns-in_default
 returns-in_default c z =
-    let r = c.in_default.in_default-own.rest in
     record {
-      stsd = ne_eqb _ _ (λ e. r.0.1 (inr (inl e)));
-      stts = ne_eqb _ _ (λ e. r.0.1 (inr (inr (inr e))));
-      ctts = ne_eqb _ _ (λ e. r.0.1 (inl e));
-      stsc = ne_eqb _ _ (λ e. r.1 (inr (inr (inl e))));
-      stsz = ne_eqb _ _ (λ e. r.0.1 (inr (inr (inl e))));
-      stco = ne_eqb _ _ (λ e. r.1 (inr (inl e)));
-      co64 = ne_eqb _ _ (λ e. r.1 (inl e));
-      stss = ne_eqb _ _ (λ e. r.1 (inr (inr (inr e))));
+      stsd = grind (arith, common_steps);
+      stts = grind (arith, common_steps);
+      ctts = grind (arith, common_steps);
+      stsc = grind (arith, common_steps);
+      stsz = grind (arith, common_steps);
+      stco = grind (arith, common_steps);
+      co64 = grind (arith, common_steps);
+      stss = grind (arith, common_steps);
     }
