@@ -1,7 +1,10 @@
 -- `tree::is_ruled` meets its contract: past the arms the kind is none of those that a rule names.
 -- Assumes nothing.
-use mathlib.Core.Logic.{inl, inr}
-use borrow.Author.Tests.{ne_eqb}
+use native.Mathlib.Omega.{arith}
+use mathlib.Core.Path.{◌≡◌}
+use mathlib.Core.Bool.{false}
+use lib.Dec.{eqb}
+use Rattle.std.proofs.lemmas.Grind.{common_steps}
 use Rattle.atoms.specs.Kinds as kinds
 use Rattle.atoms.specs.Kinds.{container}
 use Rattle.presence.specs.Counts.{bump, with_kind}
@@ -21,28 +24,27 @@ returns-in-1937011827 c e = absurd (not_left e)
 pub returns-in_default : goal.returns-in_default
 unfolding with_kind bump form_of container
 returns-in_default c z =
-    let r = c.in_default.in_default-own.rest in
-    let dinf = ne_eqb _ kinds.dinf (λ e. r.0.0.1 (inl e)) in
-    let edts = ne_eqb _ kinds.edts (λ e. r.0.0.1 (inr (inl e))) in
-    let mdia = ne_eqb _ kinds.mdia (λ e. r.0.0.1 (inr (inr (inl e)))) in
-    let minf = ne_eqb _ kinds.minf (λ e. r.0.0.1 (inr (inr (inr (inl e))))) in
-    let moov = ne_eqb _ kinds.moov (λ e. r.0.0.1 (inr (inr (inr (inr (inl e)))))) in
-    let stbl = ne_eqb _ kinds.stbl (λ e. r.0.0.1 (inr (inr (inr (inr (inr (inl e))))))) in
-    let trak = ne_eqb _ kinds.trak (λ e. r.0.0.1 (inr (inr (inr (inr (inr (inr e))))))) in
-    let dref = ne_eqb _ kinds.dref (λ e. r.0.1 (inl e)) in
-    let elst = ne_eqb _ kinds.elst (λ e. r.0.1 (inr (inl e))) in
-    let hdlr = ne_eqb _ kinds.hdlr (λ e. r.0.1 (inr (inr (inl e)))) in
-    let mdhd = ne_eqb _ kinds.mdhd (λ e. r.0.1 (inr (inr (inr (inl e))))) in
-    let mvhd = ne_eqb _ kinds.mvhd (λ e. r.0.1 (inr (inr (inr (inr (inl e)))))) in
-    let stsd = ne_eqb _ kinds.stsd (λ e. r.0.1 (inr (inr (inr (inr (inr (inl e))))))) in
-    let tkhd = ne_eqb _ kinds.tkhd (λ e. r.0.1 (inr (inr (inr (inr (inr (inr e))))))) in
-    let co64 = ne_eqb _ kinds.co64 (λ e. r.1 (inl e)) in
-    let ctts = ne_eqb _ kinds.ctts (λ e. r.1 (inr (inl e))) in
-    let stco = ne_eqb _ kinds.stco (λ e. r.1 (inr (inr (inl e)))) in
-    let stsc = ne_eqb _ kinds.stsc (λ e. r.1 (inr (inr (inr (inl e))))) in
-    let stss = ne_eqb _ kinds.stss (λ e. r.1 (inr (inr (inr (inr (inl e)))))) in
-    let stsz = ne_eqb _ kinds.stsz (λ e. r.1 (inr (inr (inr (inr (inr (inl e))))))) in
-    let stts = ne_eqb _ kinds.stts (λ e. r.1 (inr (inr (inr (inr (inr (inr e))))))) in
+    let dinf : eqb c.args.kind kinds.dinf ≡ false = grind (arith, common_steps) in
+    let edts : eqb c.args.kind kinds.edts ≡ false = grind (arith, common_steps) in
+    let mdia : eqb c.args.kind kinds.mdia ≡ false = grind (arith, common_steps) in
+    let minf : eqb c.args.kind kinds.minf ≡ false = grind (arith, common_steps) in
+    let moov : eqb c.args.kind kinds.moov ≡ false = grind (arith, common_steps) in
+    let stbl : eqb c.args.kind kinds.stbl ≡ false = grind (arith, common_steps) in
+    let trak : eqb c.args.kind kinds.trak ≡ false = grind (arith, common_steps) in
+    let dref : eqb c.args.kind kinds.dref ≡ false = grind (arith, common_steps) in
+    let elst : eqb c.args.kind kinds.elst ≡ false = grind (arith, common_steps) in
+    let hdlr : eqb c.args.kind kinds.hdlr ≡ false = grind (arith, common_steps) in
+    let mdhd : eqb c.args.kind kinds.mdhd ≡ false = grind (arith, common_steps) in
+    let mvhd : eqb c.args.kind kinds.mvhd ≡ false = grind (arith, common_steps) in
+    let stsd : eqb c.args.kind kinds.stsd ≡ false = grind (arith, common_steps) in
+    let tkhd : eqb c.args.kind kinds.tkhd ≡ false = grind (arith, common_steps) in
+    let co64 : eqb c.args.kind kinds.co64 ≡ false = grind (arith, common_steps) in
+    let ctts : eqb c.args.kind kinds.ctts ≡ false = grind (arith, common_steps) in
+    let stco : eqb c.args.kind kinds.stco ≡ false = grind (arith, common_steps) in
+    let stsc : eqb c.args.kind kinds.stsc ≡ false = grind (arith, common_steps) in
+    let stss : eqb c.args.kind kinds.stss ≡ false = grind (arith, common_steps) in
+    let stsz : eqb c.args.kind kinds.stsz ≡ false = grind (arith, common_steps) in
+    let stts : eqb c.args.kind kinds.stts ≡ false = grind (arith, common_steps) in
     record {
       uncounted = λ n. simp (moov, mvhd, tkhd, edts, elst, mdia, mdhd, hdlr, minf, dinf, dref, stbl, stsd, stts, ctts, stsc, stsz, stco, co64, stss);
       unread = λ wide p. simp (mvhd, tkhd, mdhd, hdlr, elst, stts, ctts, stsc, stsz, stco, stss, co64, stsd, dref);
