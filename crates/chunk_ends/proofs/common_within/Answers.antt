@@ -29,7 +29,7 @@ returns-then-not-run_within c =
     sym (ends_past l.invariant.0 l.c.remaining (omega arith) c.run_within.ensures c.if-not-run_within.true)
 
 pub overflow_mul-count : goal.overflow_mul-count
-overflow_mul-count c = record { fits = wide_mul c.loop-c.invariant.1 (omega (arith, c.struct_known-in-loop-c-1.given)) }
+overflow_mul-count c = record { fits = wide_mul c.loop-c.invariant.1 (omega arith) }
 
 pub overflow_mul-count-in-loop-c : goal.overflow_mul-count-in-loop-c
 overflow_mul-count-in-loop-c c = record { fits = width_fits c.args.long c.loop-c.invariant.1 c.width_of-width.ensures }

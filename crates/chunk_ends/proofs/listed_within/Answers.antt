@@ -26,7 +26,7 @@ pub slice_bounds-sum_words-end : goal.slice_bounds-sum_words-end
 slice_bounds-sum_words-end c = sym (length-take-le c.smaller-n.result c.loop-c.z.now (omega (arith, c.smaller-n.ensures)))
 
 pub sum_words-bytes-requires : goal.sum_words-bytes-requires
-sum_words-bytes-requires c = omega (arith, length-take c.smaller-n.result c.loop-c.z.now, c.smaller-n.ensures, c.struct_known-in-loop-c-1.given)
+sum_words-bytes-requires c = omega (arith, length-take c.smaller-n.result c.loop-c.z.now, c.smaller-n.ensures)
 
 pub returns-then-passes : goal.returns-then-passes
 returns-then-passes c =
