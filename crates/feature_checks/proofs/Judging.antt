@@ -1,13 +1,13 @@
 -- The bounds of the six codes, and what a value below its bound says of the record.
 -- Assumes nothing.
 use Prim.Native.Nat.{ℕ, suc, ◌+◌, ◌-◌, ◌/◌, ◌%◌, ◌≤◌, ◌<◌}
-use mathlib.Core.Path.{◌≡◌, refl, sym, ap, ◌∙◌}
+use mathlib.Core.Path.{◌≡◌, refl, ◌∙◌}
 use mathlib.Core.Bool.{Bool, true, false, cond, ◌||◌}
 use mathlib.Core.List.{List}
 use native.Mathlib.Omega.{arith}
 use native.Mathlib.Decide.{ℕ_discrete}
 use native.Mathlib.Nat.{div-lt_iff_lt-mul}
-use borrow.Author.Tests.{eq-eqb, ne_eqb, lt-ltb}
+use borrow.Author.Tests.{lt-ltb}
 use lib.Dec.{eqb, ltb, lit<}
 use lib.ListN.{get_or, set, length-set, get_or-replicate}
 use lib.Seq.{get_or-set_same, get_or-set_other}
@@ -18,7 +18,7 @@ use Rattle.features.specs.Features.{tvsz, feature_of}
 use Rattle.track.specs.Track.{Track}
 use Rattle.feature_checks.specs.Records.{record_code, record_value, is_universal}
 use Rattle.feature_checks.specs.Features.{feature_codes, too_low, feature_fault}
-use Rattle.feature_checks.specs.Bounds.{index_in, bound_of, is_below, bound_at, no_bounds, AreBounds, HasBound, Judges}
+use Rattle.feature_checks.specs.Bounds.{index_in, bound_of, is_below, bound_at, no_bounds, AreBounds, HasBound}
 use Rattle.feature_checks.specs.declared.Bounds.{Bounds}
 use Rattle.feature_checks.proofs.Codes.{index_past, index_listed, index_at}
 

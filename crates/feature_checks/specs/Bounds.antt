@@ -1,6 +1,6 @@
 -- What a record's value must reach, kept for each of the six codes: promises of functions that other crates call. Which bounds are held after a
 -- record may differ from one correct program to another, so these need not be believed; callers go by `Judges.fault`.
-use Rattle.std.specs.Prelude.{ℕ, suc, ◌/◌, ◌%◌, ◌≤◌, ◌<◌, ◌≡◌, List, [], ◌∷◌, Bool, cond, ◌||◌, length, get_or, replicate, eqb, ltb}
+use Rattle.std.specs.Prelude.{ℕ, suc, ◌/◌, ◌%◌, ◌<◌, ◌≡◌, List, [], ◌∷◌, Bool, cond, ◌||◌, length, get_or, replicate, eqb, ltb}
 use Rattle.rates.specs.declared.Feature.{Feature}
 use Rattle.rates.specs.declared.Feature.TheVariants.{Value, NotComputed}
 use Rattle.features.specs.Features.{tvsz, feature_of}

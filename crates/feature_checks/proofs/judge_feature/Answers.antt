@@ -8,10 +8,10 @@ use Rattle.feature_checks.proofs.judge_feature.Goals as goal
 pub returns-then-i-ge6 : goal.returns-then-i-ge6
 returns-then-i-ge6 c =
     let u = c.u32_at-code.ensures in
-    record { fault = sym (other_record _ _ _ _ (rw u at c.code_index-i.ensures) c.if-i-ge6.true); bounds = c.requires.1 }
+    record { fault = sym (other_record _ _ _ _ (rw u at c.code_index-i.ensures) c.if-i-ge6.true); bounds = c.requires.are_bounds }
 
 pub returns-then-not-is_universal : goal.returns-then-not-is_universal
-returns-then-not-is_universal c = record { fault = sym (part_record _ _ _ (sym c.is_universal.ensures ∙ c.if-not-is_universal.true)); bounds = c.requires.1 }
+returns-then-not-is_universal c = record { fault = sym (part_record _ _ _ (sym c.is_universal.ensures ∙ c.if-not-is_universal.true)); bounds = c.requires.are_bounds }
 
 pub overflow_sub-of : goal.overflow_sub-of
 overflow_sub-of c = let h = some_bound _ _ _ _ c.with_bound-all.ensures.here in search rules
