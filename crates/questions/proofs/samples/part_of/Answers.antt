@@ -3,6 +3,7 @@
 use Prim.Native.Nat.{◌+◌, ◌-◌}
 use mathlib.Core.Path.{◌≡◌, refl, ◌∙◌}
 use native.Mathlib.Omega.{arith}
+use Rattle.std.proofs.lemmas.List.{length-drop, length-take-le}
 use Rattle.questions.proofs.samples.part_of.Goals as goal
 
 pub returns : goal.returns
@@ -10,4 +11,4 @@ returns c =
     let s = c.args.start in
     let z = c.args.size in
     let e : s + z - s ≡ z = omega arith in
-    record { bytes = rw e; count = c.result-1.given.2 ∙ e; block = refl; offset = refl }
+    record { bytes = rw e; count = rw e (length-take-le _ _ (omega (arith, length-drop s c.args.file.now))); block = refl; offset = refl }

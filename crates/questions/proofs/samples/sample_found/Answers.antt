@@ -37,4 +37,4 @@ pub returns : goal.returns
 returns c =
     let s = c.shifted in
     found_is _ _ _ _ _ _ _ _ _ _ c.located_offset-offset.ensures c.is_low.ensures c.if-not-is_low.false _ _
-    (kept s.result s.type_inv ∙ s.ensures ∙ ap (λ z. pos c.args.timing.start +ℤ z) (kept_narrow c.args.shift (omega (arith, c.well_formed)))) c.type_size.ensures
+    (kept s.result s.type_inv ∙ s.ensures ∙ ap (λ z. pos c.args.timing.start +ℤ z) (kept_narrow c.args.shift (omega (arith, c.well_formed)))) c.size_of.ensures
