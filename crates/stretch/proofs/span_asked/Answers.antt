@@ -26,4 +26,4 @@ span_of-requires c = tt
 
 pub returns : goal.returns
 unfolding span_of_ask
-returns c =     c.span_of.ensures ∙ rw (eq-eqb _ _ c.if-ask-ne0.false, c.part_of-2.ensures, c.u32_at-samples.ensures, c.part_of.ensures, c.part_of-body.ensures)
+returns c = c.span_of.ensures ∙ rw (eq-eqb _ _ c.if-ask-ne0.false, c.part_of-2.ensures, c.u32_at-samples.ensures, c.part_of.ensures, c.part_of-body.ensures)

@@ -13,8 +13,8 @@ span_asked-requires c = tt
 
 pub returns-in-Samples : goal.returns-in-Samples
 unfolding span_refusal
-returns-in-Samples c =     (asked_samples _ _ _ _ _ _ (sym c.in-Samples.is ∙ c.span_asked.ensures ∙ ask_span _ _ _ _ c.of-ask.ensures _ _)).0
+returns-in-Samples c = (asked_samples _ _ _ _ _ _ (sym c.in-Samples.is ∙ c.span_asked.ensures ∙ ask_span _ _ _ _ c.of-ask.ensures _ _)).0
 
 pub returns-in-Refused : goal.returns-in-Refused
 unfolding span_refusal
-returns-in-Refused c =     (asked_refused _ _ _ _ _ _ (sym c.in-Refused.is ∙ c.span_asked.ensures ∙ ask_span _ _ _ _ c.of-ask.ensures _ _)).0
+returns-in-Refused c = (asked_refused _ _ _ _ _ _ (sym c.in-Refused.is ∙ c.span_asked.ensures ∙ ask_span _ _ _ _ c.of-ask.ensures _ _)).0
