@@ -15,7 +15,7 @@ pub settle-requires : goal.settle-requires
 settle-requires c = tt
 
 pub returns-then-refusal-ne0 : goal.returns-then-refusal-ne0
-returns-then-refusal-ne0 c =     filed_refused _ _ _ _ c.judge-judged.ensures.refusal _ _ c.settle.ensures c.if-refusal-ne0.true c.add_refused.ensures
+returns-then-refusal-ne0 c = filed_refused _ _ _ _ c.judge-judged.ensures.refusal _ _ c.settle.ensures c.if-refusal-ne0.true c.add_refused.ensures
 
 pub add_accepted-requires : goal.add_accepted-requires
 add_accepted-requires c = tt

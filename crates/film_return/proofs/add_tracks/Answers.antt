@@ -33,7 +33,7 @@ pub add_track-next-requires : goal.add_track-next-requires
 add_track-next-requires c = tt
 
 pub overflow_add-i : goal.overflow_add-i
-overflow_add-i c =     record { fits = omega (arith, in_room _ _ _ c.requires.0 c.loop-i.i c.loop-i-test.true) }
+overflow_add-i c = record { fits = omega (arith, in_room _ _ _ c.requires.0 c.loop-i.i c.loop-i-test.true) }
 
 pub loop-i-smaller : goal.loop-i-smaller
 loop-i-smaller c = omega (arith, c.loop-i-test.true)
@@ -47,4 +47,4 @@ loop-i-preserved c =
     (omega (arith, h), fits_rest _ _ _ q c.loop-i.invariant.1, λ r s w. ahead_next r _ _ _ _ _ _ _ q (c.totals_of.ensures ∙ ap totals_of b) c.add_track-next.ensures (c.loop-i.invariant.2 r s w))
 
 pub returns : goal.returns
-returns c r s w =     ahead_none r _ _ c.loop-i.i _ (omega (arith, c.requires.0.count, c.loop-i-test.false)) (c.loop-i.invariant.2 r s w)
+returns c r s w = ahead_none r _ _ c.loop-i.i _ (omega (arith, c.requires.0.count, c.loop-i-test.false)) (c.loop-i.invariant.2 r s w)
