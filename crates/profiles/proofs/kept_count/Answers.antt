@@ -3,11 +3,11 @@
 use borrow.Author.Rules.{rules}
 use Prim.Native.Nat.{◌+◌, ◌≤◌}
 use mathlib.Core.Path.{ap}
-use mathlib.Core.Logic.{⊎_elim}
 use native.Mathlib.Omega.{arith}
 use lib.ListN.{length, length-drop}
 use Rattle.bigendian.proofs.Parts.{rest as part-rest}
 use Rattle.profiles.proofs.Kept.{kept-in, kept_none, kept_here, kept_next}
+use Rattle.profiles.proofs.kept_count.Goals.{then-u32_at-ne0, else-u32_at-ne0}
 use Rattle.profiles.proofs.kept_count.Goals as goal
 
 pub loop-t-init : goal.loop-t-init
@@ -31,12 +31,10 @@ loop-t-preserved c =
     let u = c.u32_at.ensures in
     let h = c.loop-t-test.true in
     rw (part-rest 16 s)
-    (⊎_elim
-    (λ w. let q = ap length (kept_here s _ h u w.0.taken) in
-    rw w.1 (omega (arith, l.invariant.0, length-drop 16 s), omega (arith, l.invariant.1, q)))
-    (λ w. let q = ap length (kept_next s _ h u w.0.left) in
-    rw w.1 (omega (arith, l.invariant.0, length-drop 16 s), omega (arith, l.invariant.1, q)))
-    c.if-u32_at-ne0.branch)
+    (elim c.if-u32_at-ne0.branch [
+      | then-u32_at-ne0 w ↦ let q = ap length (kept_here s _ h u w.if-u32_at-ne0.true) in rw w.n-is (omega (arith, l.invariant.0, length-drop 16 s), omega (arith, l.invariant.1, q))
+      | else-u32_at-ne0 w ↦ let q = ap length (kept_next s _ h u w.if-u32_at-ne0.false) in rw w.n-is (omega (arith, l.invariant.0, length-drop 16 s), omega (arith, l.invariant.1, q))
+    ])
 
 pub returns : goal.returns
 returns c = let l = c.loop-t in omega (arith, l.invariant.1, ap length (kept_none l.t.now c.loop-t-test.false))

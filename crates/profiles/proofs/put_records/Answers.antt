@@ -3,7 +3,6 @@
 use borrow.Author.Rules.{rules}
 use Prim.Native.Nat.{◌+◌, ◌≤◌}
 use mathlib.Core.Path.{refl, ap, ◌∙◌}
-use mathlib.Core.Logic.{⊎_elim}
 use mathlib.Core.List.{[], ◌∷◌}
 use native.Mathlib.Omega.{arith}
 use lib.ListN.{length, length-drop}
@@ -11,6 +10,7 @@ use lib.Seq.{length-sets}
 use Rattle.bigendian.proofs.Parts.{rest as part-rest}
 use Rattle.profiles.specs.Profiles.{record_numbers}
 use Rattle.profiles.proofs.Kept.{kept-in, kept_none, kept_here, kept_next, room_here, turn}
+use Rattle.profiles.proofs.put_records.Goals.{then-u32_at-ne0, else-u32_at-ne0}
 use Rattle.profiles.proofs.put_records.Goals as goal
 
 pub loop-t-init : goal.loop-t-init
@@ -40,15 +40,15 @@ loop-t-preserved c =
     let u = c.u32_at.ensures in
     let h = c.loop-t-test.true in
     rw (part-rest 16 s)
-    (⊎_elim
-    (λ w.
-    let q = kept_here s _ h u w.0.taken in
-    let k = ap length w.2.ensures ∙ length-sets l.room l.at (record_numbers (s ∷ [])) in
-    (rw (w.5, w.6) (omega (arith, (room_here s _ q l.at _ l.invariant.0).1, k)), rw w.5 (k ∙ l.invariant.1), rw (w.5, w.6) (turn s _ q l.room _ _ l.at w.2.ensures l.invariant.2)))
-    (λ w.
-    let q = kept_next s _ h u w.0.left in
-    (rw (w.1, w.2, ← q) l.invariant.0, rw w.1 l.invariant.1, rw (w.1, w.2, ← q) l.invariant.2))
-    c.if-u32_at-ne0.branch)
+    (elim c.if-u32_at-ne0.branch [
+      | then-u32_at-ne0 w ↦
+          let q = kept_here s _ h u w.if-u32_at-ne0.true in
+          let k = ap length w.put_record.ensures ∙ length-sets l.room l.at (record_numbers (s ∷ [])) in
+          (rw (w.room-is, w.at-is) (omega (arith, (room_here s _ q l.at _ l.invariant.0).1, k)), rw w.room-is (k ∙ l.invariant.1), rw (w.room-is, w.at-is) (turn s _ q l.room _ _ l.at w.put_record.ensures l.invariant.2))
+      | else-u32_at-ne0 w ↦
+          let q = kept_next s _ h u w.if-u32_at-ne0.false in
+          (rw (w.room-is, w.at-is, ← q) l.invariant.0, rw w.room-is l.invariant.1, rw (w.room-is, w.at-is, ← q) l.invariant.2)
+    ])
 
 pub shape_of-room : goal.shape_of-room
 shape_of-room c = c.loop-t.invariant.1
