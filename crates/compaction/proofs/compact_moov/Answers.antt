@@ -45,6 +45,6 @@ returns c =
     let y = c.body_of.ensures ∙ ap body_of q in
     let f = c.put_bytes-at.ensures in
     let g = c.put_body.ensures in
-    answers.written _ _ a.room.now _ c.refusal-number.ensures c.if-number-ne0.false (rw q at c.if-room-atom.false) c.put_bytes-at.result _ c.put_bytes-at.new.1.0 _
+    answers.written _ _ a.room.now _ c.refusal-number.ensures c.if-number-ne0.false (rw q at c.if-room-atom.false) c.put_bytes-at.result _ c.put_bytes-at.new.out _
     (f.0 ∙ ap (λ l. 0 + length l) x) (f.1 ∙ ap (λ l. sets a.room.now 0 l) x)
-    (g.0 ∙ ap (λ b. c.put_bytes-at.result + length (compact_body 5 moov b)) y) (g.1 ∙ ap (λ b. sets c.put_bytes-at.new.1.0 c.put_bytes-at.result (compact_body 5 moov b)) y)
+    (g.0 ∙ ap (λ b. c.put_bytes-at.result + length (compact_body 5 moov b)) y) (g.1 ∙ ap (λ b. sets c.put_bytes-at.new.out c.put_bytes-at.result (compact_body 5 moov b)) y)
