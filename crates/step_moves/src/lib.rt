@@ -75,7 +75,7 @@ pub fn step_in(
     m: Moving,
 ) -> Move
     requires { heads ≡ heads_of stsz.now offsets.now }
-    ensures { result ≡ stepped_on (record { stts = stts.entry.now; ctts = ctts.now; stsc = stsc.now; stsz = stsz.now; offsets = offsets.now; stss = stss.now }) samples m }
+    ensures { result ≡ stepped_on (record { stts = stts.now; ctts = ctts.now; stsc = stsc.now; stsz = stsz.now; offsets = offsets.now; stss = stss.now }) samples m }
 {
     if samples <= m.index {
         return Move::End;

@@ -1,17 +1,17 @@
 -- `step_moves::moved` meets its contract: the sample is what the places say, and the places are moved past it.
 -- Assumes nothing.
 use mathlib.Core.Path.{ap, ◌∙◌}
-use mathlib.Core.Logic.{⊎_elim}
 use native.Mathlib.Omega.{arith}
 use lib.IntN.{pos, ◌+ℤ◌}
 use Rattle.bigendian.proofs.Halves.{kept}
 use Rattle.positions.proofs.Standing.{may_known}
 use Rattle.questions.proofs.Shift.{narrowed, passed_narrow}
 use Rattle.step_moves.proofs.Answers.{moved_to, sync_none, sync_some}
+use Rattle.step_moves.proofs.moved.Goals.{then-stss-eq0, else-stss-eq0}
 use Rattle.step_moves.proofs.moved.Goals as goal
 
 pub overflow_cast-m : goal.overflow_cast-m
-overflow_cast-m c =     record { fits = omega (arith, (may_known c.args.m c.requires.1).2) }
+overflow_cast-m c = record { fits = omega (arith, (may_known c.args.m c.requires.1).2) }
 
 pub overflow_cast-shift_of : goal.overflow_cast-shift_of
 overflow_cast-shift_of c = narrowed c.shift_of.result c.shift_of.ensures.1
@@ -28,5 +28,8 @@ returns c =
     let x = c.args.stss.now in
     let comp = kept c.shifted.result c.shifted.type_inv ∙ c.shifted.ensures ∙ ap (λ z. pos m.decode +ℤ z) (passed_narrow c.shift_of.result c.shift_of.ensures.1 ∙ c.shift_of.ensures.0) in
     moved_to _ _ m c.requires.1 _ _ _ _ _ c.size_by-size.ensures c.sync_step-place.ensures comp
-    (⊎_elim (λ w. w.1 ∙ sync_none x c.sync_step-place.result.listed w.0.taken) (λ w. w.1 ∙ sync_some x c.sync_step-place.result.listed w.0.left) c.if-stss-eq0.branch)
+    (elim c.if-stss-eq0.branch [
+      | then-stss-eq0 w ↦ w.sample-is ∙ sync_none x c.sync_step-place.result.listed w.if-stss-eq0.true
+      | else-stss-eq0 w ↦ w.sample-is ∙ sync_some x c.sync_step-place.result.listed w.if-stss-eq0.false
+    ])
     c.pass_sample.ensures
