@@ -10,4 +10,4 @@ pub add_film-requires : goal.add_film-requires
 add_film-requires c = tt
 
 pub returns : goal.returns
-returns c =     film_handed _ _ _ c.if-totals-lt-NUMBERS.false _ c.return_in-before.ensures _ c.add_film.ensures _ _ c.put_filed.ensures
+returns c = film_handed _ _ _ c.if-totals-lt-NUMBERS.false _ c.return_in-before.ensures _ c.add_film.ensures _ _ c.put_filed.ensures

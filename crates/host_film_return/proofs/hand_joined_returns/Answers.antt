@@ -13,4 +13,4 @@ pub join_returns-requires : goal.join_returns-requires
 join_returns-requires c = tt
 
 pub returns : goal.returns
-returns c =     join_handed _ _ c.if-totals-lt-NUMBERS.false c.if-more-lt-NUMBERS.false _ _ c.return_in-before.ensures c.return_in.ensures _ c.join_returns.ensures _ _ c.put_filed.ensures
+returns c = join_handed _ _ c.if-totals-lt-NUMBERS.false c.if-more-lt-NUMBERS.false _ _ c.return_in-before.ensures c.return_in.ensures _ c.join_returns.ensures _ _ c.put_filed.ensures
