@@ -32,7 +32,7 @@ pub returns-in-To : goal.returns-in-To
 returns-in-To c =
     let stepped : let a = c.args in c.step_in-r.result ≡ stepped_on (bytes_in a.lent.now a.self.tables) a.self.samples a.self.moving = let a = c.args in
     stepped_parts _ a.self _ _ _ _ _ _ _ c.part_of.ensures c.part_of-2.ensures c.part_of-3.ensures c.part_of-z.ensures c.part_of-o.ensures c.part_of-4.ensures c.step_in-r.ensures in
-    steps_next _ c.args.self _ (stepped) _ _ c.in-To.is (omega (arith, c.known_told-1.given.1))
+    steps_next _ c.args.self _ (stepped) _ _ c.in-To.is (omega arith)
 
 pub returns-in-End : goal.returns-in-End
 returns-in-End c =
