@@ -25,4 +25,4 @@ pub sample_of-requires : goal.sample_of-requires
 sample_of-requires c = tt
 
 pub returns : goal.returns
-returns c =     by_sample _ c.args.self _ _ _ _ _ _ _ _ c.part_of.ensures c.part_of-2.ensures c.part_of-3.ensures c.part_of-4.ensures c.part_of-5.ensures c.part_of-6.ensures c.sample_of.ensures
+returns c = by_sample _ c.args.self _ _ _ _ _ _ _ _ c.part_of.ensures c.part_of-2.ensures c.part_of-3.ensures c.part_of-4.ensures c.part_of-5.ensures c.part_of-6.ensures c.sample_of.ensures
