@@ -1,16 +1,15 @@
 -- What a walk over a profile's records, or over the descriptions of an stsd, learns of their formats at a place.
 -- Assumes nothing.
-use Prim.Native.Nat.{ℕ, suc, ◌≤◌, ◌<◌}
-use mathlib.Core.Path.{◌≡◌, refl, sym, ap, ◌∙◌}
-use mathlib.Core.Bool.{Bool, true, false, cond, not, ◌&&◌, ◌||◌}
-use mathlib.Core.List.{List, [], ◌∷◌, map}
+use Prim.Native.Nat.{ℕ, ◌≤◌, ◌<◌}
+use mathlib.Core.Path.{◌≡◌, refl, sym, ◌∙◌}
+use mathlib.Core.Bool.{Bool, true, false, ◌&&◌, ◌||◌}
+use mathlib.Core.List.{List, [], ◌∷◌}
 use native.Mathlib.Omega.{arith}
 use native.Mathlib.Decide.{ℕ_discrete}
 use native.Mathlib.Nat.{pos_of_ne-zero}
-use borrow.Author.Tests.{eqb-true, eq-eqb, ne_eqb}
+use borrow.Author.Tests.{eq-eqb, ne_eqb}
 use lib.Dec.{eqb, lit≤}
 use lib.ListN.{length, take, drop}
-use Rattle.bigendian.specs.BigEndian.{u32_at}
 use Rattle.bigendian.proofs.Laws.{be_at_take}
 use Rattle.lists.proofs.Booleans.{and_left, and_right, and_false}
 use Rattle.atoms.specs.Kinds.{vide}

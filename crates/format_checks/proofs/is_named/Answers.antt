@@ -7,15 +7,10 @@ use Rattle.bigendian.proofs.Parts.{rest as part-rest}
 use Rattle.words.specs.Words.{listed}
 use Rattle.profiles.proofs.Kept.{kept-in}
 use Rattle.format_checks.proofs.Formats.{values_none, named_here, named_next}
-use borrow.Author.Rules.{rules}
 use Rattle.format_checks.proofs.is_named.Goals as goal
 
 pub loop-t-init : goal.loop-t-init
 loop-t-init c = rw (c.after-t.ensures, kept-in c.args.profile.now)
-
-record-names-requires : tie.Need-record-names-requires invariant-loop decreases-loop
-
-record-names-requires c κs = search rules
 
 pub returns-then-record_names : goal.returns-then-record_names
 returns-then-record_names c =

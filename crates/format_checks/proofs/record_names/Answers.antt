@@ -8,7 +8,3 @@ returns-then-not-names_format c = rw (sym c.names_format.ensures ∙ c.if-not-na
 
 pub returns : goal.returns
 returns c = rw (sym c.names_format.ensures ∙ c.if-not-names_format.false, c.u32_at.ensures)
-
-pub record-names-spec : {M : Type 1} → statement M
-
-record-names-spec = tie.close (tie.spec names-format-requires returns u32-at-requires returns-2)
