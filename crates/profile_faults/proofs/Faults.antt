@@ -1,9 +1,9 @@
 -- The first record at fault, record after record: what a walk learns at a place s of the profile.
 -- Assumes nothing.
-use Prim.Native.Nat.{ℕ, suc, ◌+◌, ◌≤◌, ◌<◌}
-use mathlib.Core.Path.{◌≡◌, refl, sym, ap, ◌∙◌}
-use mathlib.Core.Bool.{Bool, true, false, cond, ◌||◌}
-use mathlib.Core.List.{List, [], ◌∷◌}
+use Prim.Native.Nat.{ℕ, ◌+◌, ◌≤◌, ◌<◌}
+use mathlib.Core.Path.{◌≡◌, sym, ◌∙◌}
+use mathlib.Core.Bool.{Bool, true, false}
+use mathlib.Core.List.{List}
 use native.Mathlib.Omega.{arith}
 use native.Mathlib.Numerals.{add-one}
 use lib.Dec.{lit≤}
@@ -15,7 +15,7 @@ use Rattle.structure.specs.Track.{profile_of}
 use Rattle.places.specs.Places.{part_in}
 use Rattle.places.specs.declared.Part.{Part}
 use Rattle.track.specs.Track.{Track, track_of}
-use Rattle.profiles.specs.Profiles.{kept_in, kept_of}
+use Rattle.profiles.specs.Profiles.{kept_in}
 use Rattle.profiles.proofs.Kept.{kept-in, kept_none, kept_here, kept_next}
 use Rattle.feature_checks.specs.Records.{is_universal}
 use Rattle.feature_checks.specs.Features.{feature_fault}

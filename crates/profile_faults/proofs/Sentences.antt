@@ -1,13 +1,13 @@
 -- A profile is accepted exactly if it keeps the rules, and the fault of another is at the first record that breaks one.
 -- Assumes nothing.
 use Prim.Native.Nat.{ℕ, zero, suc, ◌+◌, ◌/◌, ◌%◌, ◌≤◌, ◌<◌}
-use mathlib.Core.Path.{◌≡◌, refl, sym, ap, ◌∙◌}
-use mathlib.Core.Bool.{Bool, true, false, cond, not, ◌&&◌, ◌||◌}
-use mathlib.Core.List.{List, [], ◌∷◌, map}
+use mathlib.Core.Path.{◌≡◌, refl, sym, ◌∙◌}
+use mathlib.Core.Bool.{Bool, true, false, not, ◌&&◌, ◌||◌}
+use mathlib.Core.List.{List, [], ◌∷◌}
 use native.Mathlib.Omega.{arith}
 use native.Mathlib.Decide.{ℕ_discrete}
-use borrow.Author.Tests.{not-true, not-false, eq-eqb, ne_eqb, ltb-false, le-ltb}
-use lib.Dec.{eqb, ltb}
+use borrow.Author.Tests.{not-false, eq-eqb, ne_eqb, ltb-false, le-ltb}
+use lib.Dec.{ltb}
 use lib.ListN.{length, get_or}
 use Rattle.words.specs.Words.{listed}
 use Rattle.lists.proofs.Booleans.{or_left, or_right, or_neither}
@@ -16,12 +16,11 @@ use Rattle.rates.specs.declared.Feature.{Feature}
 use Rattle.rates.specs.declared.Feature.TheVariants.{Value, NotComputed}
 use Rattle.features.specs.Features.{tvsz, feature_of}
 use Rattle.track.specs.Track.{Track}
-use Rattle.profiles.specs.Profiles.{kept_of}
 use Rattle.feature_checks.specs.Records.{record_code, record_value, is_universal}
 use Rattle.feature_checks.specs.Features.{feature_codes, too_low, feature_fault}
 use Rattle.format_checks.specs.Formats.{names_format, formats, format_values, lacks_one, is_missing, format_fault}
 use Rattle.profile_faults.specs.Faults.{at_fault, fault_from, profile_fault}
-use Rattle.profile_faults.specs.Sentences.{records, record_at, AtLeast, Obeys, Keeps, FirstAtFault, TrueExactly}
+use Rattle.profile_faults.specs.Sentences.{records, record_at, AtLeast, Obeys, FirstAtFault, TrueExactly}
 
 impossible : {A : Type 0} → ◌≡◌ {A = Bool} true false → A
 impossible e = let n : ◌≡◌ {A = ℕ} 0 1 = cc in absurd (omega arith)
