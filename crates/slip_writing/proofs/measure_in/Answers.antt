@@ -24,4 +24,4 @@ measure_pairs-requires c =
     (table_fits _ _ _ (c.part_of-stsc.ensures ∙ c.requires.0.stsc) c.requires.1, m.0, m.1)
 
 pub returns : goal.returns
-returns c =     c.measure_pairs.ensures ∙ ap measured_of (between_is _ _ _ _ c.args.s _ (c.part_of-stsc.ensures ∙ c.requires.0.stsc) (c.part_of-stsz.ensures ∙ c.requires.0.stsz) (c.part_of-offsets.ensures ∙ c.requires.0.offsets) c.u32_at.ensures)
+returns c = c.measure_pairs.ensures ∙ ap measured_of (between_is _ _ _ _ c.args.s _ (c.part_of-stsc.ensures ∙ c.requires.0.stsc) (c.part_of-stsz.ensures ∙ c.requires.0.stsz) (c.part_of-offsets.ensures ∙ c.requires.0.offsets) c.u32_at.ensures)

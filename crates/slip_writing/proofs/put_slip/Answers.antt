@@ -4,13 +4,13 @@ use Rattle.slip_writing.proofs.Slipping.{length_fits, too_long, pairs_after, all
 use Rattle.slip_writing.proofs.put_slip.Goals as goal
 
 pub overflow_add-length : goal.overflow_add-length
-overflow_add-length c =     record { fits = length_fits _ c.args.s c.args.head c.requires.1 _ _ (c.head_len.ensures c.measure_in-m.result.wide) c.measure_in-m.ensures }
+overflow_add-length c = record { fits = length_fits _ c.args.s c.args.head c.requires.1 _ _ (c.head_len.ensures c.measure_in-m.result.wide) c.measure_in-m.ensures }
 
 pub returns-then-out-length : goal.returns-then-out-length
-returns-then-out-length c =     too_long c.args.head _ _ _ _ c.requires.3 (c.head_len.ensures c.measure_in-m.result.wide) c.measure_in-m.ensures c.if-out-length.true
+returns-then-out-length c = too_long c.args.head _ _ _ _ c.requires.3 (c.head_len.ensures c.measure_in-m.result.wide) c.measure_in-m.ensures c.if-out-length.true
 
 pub write_in-requires : goal.write_in-requires
-write_in-requires c =     (c.requires.0, c.requires.1, c.requires.2, pairs_after c.args.head _ _ _ _ c.requires.3 (c.head_len.ensures c.measure_in-m.result.wide) c.measure_in-m.ensures c.if-out-length.false _ _ c.put_head-at.ensures.0 c.put_head-at.ensures.1)
+write_in-requires c = (c.requires.0, c.requires.1, c.requires.2, pairs_after c.args.head _ _ _ _ c.requires.3 (c.head_len.ensures c.measure_in-m.result.wide) c.measure_in-m.ensures c.if-out-length.false _ _ c.put_head-at.ensures.0 c.put_head-at.ensures.1)
 
 pub returns : goal.returns
-returns c =     all_put c.args.head _ _ _ _ c.requires.3 (c.head_len.ensures c.measure_in-m.result.wide) c.measure_in-m.ensures c.if-out-length.false _ _ c.put_head-at.ensures.0 c.put_head-at.ensures.1 _ _ c.write_in.ensures
+returns c = all_put c.args.head _ _ _ _ c.requires.3 (c.head_len.ensures c.measure_in-m.result.wide) c.measure_in-m.ensures c.if-out-length.false _ _ c.put_head-at.ensures.0 c.put_head-at.ensures.1 _ _ c.write_in.ensures
