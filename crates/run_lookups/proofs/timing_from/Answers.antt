@@ -22,6 +22,6 @@ returns c =
     let m = c.number_at.ensures in
     let f = rw c.after.ensures at c.timing_of-found.ensures in
     record {
-      answer = timing_late a.stts.now a.points.now a.count a.index u.result _ u.ensures.4 n h _ m _ f _ c.wrapping_add_u64.ensures;
-      right = λ cs ts b. timing_past a.stts.now u.result _ _ (n ∙ cs u.result i) h _ (m ∙ ts u.result i) b _ f _ c.wrapping_add_u64.ensures;
+      answer = timing_late a.stts.now a.points.now a.count a.index u.result _ u.ensures.4 n h _ m _ f _ c.wrapping_add_u64.ensures.value;
+      right = λ cs ts b. timing_past a.stts.now u.result _ _ (n ∙ cs u.result i) h _ (m ∙ ts u.result i) b _ f _ c.wrapping_add_u64.ensures.value;
     }
