@@ -25,6 +25,6 @@ returns c =
     let h = c.if-index-passed.false in
     let f = rw c.after.ensures at c.locate-found.ensures in
     record {
-      answer = located_late a.stsc.now a.points.now a.count a.chunks a.index u.result _ u.ensures.4 n h _ m _ f _ c.wrapping_add_u64.ensures;
-      right = λ cs ts b. located_past a.stsc.now _ u.result _ _ _ (m ∙ cs u.result i) (n ∙ ts u.result i) h b _ f _ c.wrapping_add_u64.ensures;
+      answer = located_late a.stsc.now a.points.now a.count a.chunks a.index u.result _ u.ensures.4 n h _ m _ f _ c.wrapping_add_u64.ensures.value;
+      right = λ cs ts b. located_past a.stsc.now _ u.result _ _ _ (m ∙ cs u.result i) (n ∙ ts u.result i) h b _ f _ c.wrapping_add_u64.ensures.value;
     }
