@@ -87,7 +87,7 @@ from_lists : (s : List ℕ) (w : Source) → ask_refusal s w 1 ≡ 0 → ask_ref
     → track_of (track_asked s 1) ≡ plain → runs_of (table_of stts (track_asked s 1)) ≡ record { count = 3; value = 24 } ∷ record { count = 1; value = 48 } ∷ [] → AllHold s w cases
 unfolding offset_of pair_of no_room filled_room room_after or_else groups_in groups writes any_wide slipForm slip_bytes at_refusal at_number at_entry entry_of sample_of sample_refusal first_in past_in pairs_in bytes_in stretch_pairs span_refusal stretch_refusal slip_head slip_of_stretch slip_refusal
 from_lists s w asked strict four total scale track runs =
-    rw (asked, strict, four, total, scale, track, runs)
+    simp (asked, strict, four, total, scale, track, runs)
     (refl, (refl, (refl, (refl, (refl, (refl, (refl, (refl, (refl, (refl, (refl, ((refl, refl), ((refl, refl), ((refl, refl), ((refl, refl), tt)))))))))))))))
 
 -- "proved as a single theorem over the list of them"
