@@ -6,7 +6,7 @@ use Rattle.steps_into.proofs.Chained.{Putting, at}
 use Rattle.steps_into.proofs.steps_into.Given as goal
 
 abbrev pub invariant-loop-room : goal.invariant-loop-room
-invariant-loop-room l = Putting l.lent (record { l.tables = l.tables; l.samples = l.samples; moving = l.initial.m }) l.initial.room (record { l.tables = l.tables; l.samples = l.samples; moving = l.m }) l.room l.at
+invariant-loop-room l = Putting l.lent (record { tables = l.tables; samples = l.samples; moving = l.initial.m }) l.initial.room (record { tables = l.tables; samples = l.samples; moving = l.m }) l.room l.at
 
 abbrev pub decreases-loop-room : goal.decreases-loop-room
 decreases-loop-room l = length l.initial.room - l.at
