@@ -5,6 +5,9 @@
 
 use bigendian::{after, u32_at, u64_at};
 use compaction::{Compacted, compact_moov};
+use program_input::{Argument, MOST_FILM, arguments, name_given, open_named, read_up_to};
+use std::io;
+use std::rt::Files;
 use structure::source::Source;
 
 // The longest room, and what every byte of it holds before a film is compacted.
@@ -12,42 +15,44 @@ const BYTES: usize = 4096;
 
 const BYTE: u8 = 0xEE;
 
-fn text(s: &[u8]) {
-    io::write_all(libc::STDOUT_FILENO, s);
+fn text(rt: &impl Print, s: &[u8]) -> io::Result<()> {
+    rt.write_all(s)
 }
 
 // Words, and a number after them.
-fn field(words: &[u8], n: u64) {
-    text(words);
-    io::print_decimal(libc::STDOUT_FILENO, n);
+fn field(rt: &impl Print, words: &[u8], n: u64) -> io::Result<()> {
+    text(rt, words)?;
+    print!(rt; "{n}")
 }
 
-fn hex(byte: u8) {
-    io::print_hex(libc::STDOUT_FILENO, byte as u64, 2);
+fn hex(rt: &impl Print, byte: u8) -> io::Result<()> {
+    print!(rt; "{byte:02x}")
 }
 
-fn bytes(s: &[u8]) {
+fn bytes(rt: &impl Print, s: &[u8]) -> io::Result<()> {
     let mut i = 0;
     while i < s.len() {
-        hex(s[i]);
+        hex(rt, s[i])?;
         i += 1;
     }
+    Ok(())
 }
 
-fn ask_in(input: &[u8], source: Source, room: &mut [u8]) {
+fn ask_in(rt: &impl Print, input: &[u8], source: Source, room: &mut [u8]) -> io::Result<()> {
     match compact_moov(input, source, room) {
-        Compacted::Written(n) => field(b"length ", n as u64),
-        Compacted::Refused(number) => field(b"refused ", number as u64),
+        Compacted::Written(n) => field(rt, b"length ", n as u64)?,
+        Compacted::Refused(number) => field(rt, b"refused ", number as u64)?,
     }
-    text(b", room ");
-    bytes(room);
+    text(rt, b", room ")?;
+    bytes(rt, room)
 }
 
-fn ask_with(input: &[u8], source: Source, length: usize) {
+fn ask_with(rt: &impl Print, input: &[u8], source: Source, length: usize) -> io::Result<()> {
     let mut room = [BYTE; BYTES];
     if length <= BYTES {
-        ask_in(input, source, &mut room[..length]);
+        ask_in(rt, input, source, &mut room[..length])?;
     }
+    Ok(())
 }
 
 fn source_of(length: u64) -> Source {
@@ -57,49 +62,42 @@ fn source_of(length: u64) -> Source {
     Source::of_moov(length)
 }
 
-fn stored(film: &[u8]) {
+fn stored(rt: &impl Print, film: &[u8]) -> io::Result<()> {
     ask_with(
+        rt,
         after(film, 12),
         source_of(u64_at(film, 0)),
         u32_at(film, 8) as usize,
-    );
-    text(b"\n");
+    )?;
+    text(rt, b"\n")
 }
 
 // A film of up to 65,536 bytes with its lengths; of a longer one the rest is not read.
-fn read(fd: i32) {
-    let mut film = io::large_buffer();
-    let n = io::read_full(fd, &mut film);
-    stored(&film[..n]);
+fn read(rt: &(impl Print + AllocGlobal), reader: &mut impl io::Read) -> io::Result<()> {
+    let film = read_up_to(rt.alloc(), reader, MOST_FILM)?;
+    stored(rt, &film)
 }
 
-fn open(name: &[u8]) {
-    text(name);
-    text(b": ");
-    let fd = os::open_read(name);
-    if fd < 0 {
-        os::fail(name);
-        return;
-    }
-    read(fd);
-    libc::close(fd);
+fn open(rt: &(impl Files + Print + Eprint + AllocGlobal), name: &[u8]) -> io::Result<()> {
+    text(rt, name)?;
+    text(rt, b": ")?;
+    let Some(mut file) = open_named(rt, name)? else {
+        return Ok(());
+    };
+    read(rt, &mut file)
 }
 
-fn film(i: usize) {
-    let mut name = io::buffer();
-    let length = os::arg(i, &mut name);
-    if os::errno() != 0 {
-        os::fail(b"name");
-        return;
-    }
-    open(&name[..length]);
+fn film(rt: &(impl Files + Print + Eprint + AllocGlobal), argument: &Argument) -> io::Result<()> {
+    let Some(name) = name_given(rt, argument)? else {
+        return Ok(());
+    };
+    open(rt, name)
 }
 
-fn main() {
-    let count = os::arg_count();
-    let mut i = 1;
-    while i < count {
-        film(i);
-        i += 1;
+fn main(rt: HostRuntime) -> io::Result<()> {
+    let names = arguments(&rt)?;
+    for name in &names {
+        film(&rt, name)?;
     }
+    Ok(())
 }

@@ -10,34 +10,41 @@ ghost use Rattle.std.specs.Prelude.{◌≡◌, ◌≤◌, length};
 ghost use Rattle.film_totals.specs.Names.{name_length};
 
 use film_return::add_film;
+use program_input::MOST_FILM;
 use reading::{read_from, read_named};
 use return_totals::FilmReturn;
+use std::io;
+use std::rt::Files;
 use structure::source::Source;
 
 // The return with the film in it, if it is counted.
-fn with_film(r: FilmReturn, film: &[u8], name: &[u8]) -> FilmReturn {
+fn with_film(rt: &impl Print, r: FilmReturn, film: &[u8], name: &[u8]) -> io::Result<FilmReturn> {
     let filed = add_film(r, film, Source::whole());
     if filed.refusal != 0 {
-        show::skipped(name);
+        show::skipped(rt, name)?;
     }
     let totals = filed.totals;
-    totals
+    Ok(totals)
 }
 
 // The return with the film of that name in it, if it is counted.
-fn with_named(r: FilmReturn, name: &[u8]) -> FilmReturn {
-    let mut room = io::large_buffer();
-    let read = read_named(name, &mut room);
-    if read.failed {
-        show::skipped(name);
-        return r;
+fn with_named(
+    rt: &(impl Files + Print + AllocGlobal),
+    r: FilmReturn,
+    name: &[u8],
+) -> io::Result<FilmReturn> {
+    let mut room = vec![in rt.alloc(); 0u8; MOST_FILM]?;
+    let read = read_named(rt, name, room.as_mut_slice());
+    if read.failure.is_some() {
+        show::skipped(rt, name)?;
+        return Ok(r);
     }
     if read.longer {
-        show::skipped(name);
-        return r;
+        show::skipped(rt, name)?;
+        return Ok(r);
     }
     let n = read.count;
-    with_film(r, &room[..n], name)
+    with_film(rt, r, &room[..n], name)
 }
 
 // How many bytes stand before the first line feed; all where there is none.
@@ -54,12 +61,12 @@ fn name_length(names: &[u8]) -> usize
     i
 }
 
-fn print_return(names: &[u8]) {
+fn print_return(rt: &(impl Files + Print + AllocGlobal), names: &[u8]) -> io::Result<()> {
     let mut r = FilmReturn::empty();
     let mut rest = names;
     while 0 < rest.len() {
         let n = name_length(rest);
-        let next = with_named(r, &rest[..n]);
+        let next = with_named(rt, r, &rest[..n])?;
         r = next;
         if n == rest.len() {
             rest = &rest[n..];
@@ -67,20 +74,18 @@ fn print_return(names: &[u8]) {
             rest = &rest[n + 1..];
         }
     }
-    show::totals(r);
+    show::totals(rt, r)
 }
 
-fn main() {
-    let mut names = io::large_buffer();
-    let read = read_from(libc::STDIN_FILENO, &mut names);
-    if read.failed {
-        os::fail(b"standard input");
-        return;
+fn main(rt: HostRuntime) -> io::Result<()> {
+    let mut names = vec![in rt.alloc(); 0u8; MOST_FILM]?;
+    let read = read_from(&mut rt.reader(), names.as_mut_slice());
+    if let Some(kind) = read.failure {
+        return eprintln!(rt; "standard input: {kind}");
     }
     if read.longer {
-        show::too_long();
-        return;
+        return show::too_long(&rt);
     }
     let n = read.count;
-    print_return(&names[..n]);
+    print_return(&rt, &names[..n])
 }

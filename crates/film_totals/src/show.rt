@@ -1,38 +1,39 @@
 // What the program prints, line by line.
 use return_totals::{FilmReturn, MOST_SCALES};
+use std::io;
 
-fn text(s: &[u8]) {
-    io::write_all(libc::STDOUT_FILENO, s);
+fn text(rt: &impl Print, s: &[u8]) -> io::Result<()> {
+    rt.write_all(s)
 }
 
-fn decimal(n: u64) {
-    io::print_decimal(libc::STDOUT_FILENO, n);
+fn decimal(rt: &impl Print, n: u64) -> io::Result<()> {
+    print!(rt; "{n}")
 }
 
 // A total, with a word before it.
-fn line(word: &[u8], total: u64) {
-    text(word);
-    text(b" ");
-    decimal(total);
-    text(b"\n");
+fn line(rt: &impl Print, word: &[u8], total: u64) -> io::Result<()> {
+    text(rt, word)?;
+    text(rt, b" ")?;
+    decimal(rt, total)?;
+    text(rt, b"\n")
 }
 
 // The same with a number of the word's own.
-fn numbered(word: &[u8], number: u32, total: u64) {
-    text(word);
-    text(b" ");
-    decimal(number as u64);
-    line(b"", total);
+fn numbered(rt: &impl Print, word: &[u8], number: u32, total: u64) -> io::Result<()> {
+    text(rt, word)?;
+    text(rt, b" ")?;
+    decimal(rt, number as u64)?;
+    line(rt, b"", total)
 }
 
-pub fn too_long() {
-    text(b"too long\n");
+pub fn too_long(rt: &impl Print) -> io::Result<()> {
+    text(rt, b"too long\n")
 }
 
-pub fn skipped(name: &[u8]) {
-    text(b"skipped ");
-    text(name);
-    text(b"\n");
+pub fn skipped(rt: &impl Print, name: &[u8]) -> io::Result<()> {
+    text(rt, b"skipped ")?;
+    text(rt, name)?;
+    text(rt, b"\n")
 }
 
 // The number that a place among the fourteen stands for.
@@ -40,31 +41,33 @@ fn number_at(slot: u32) -> u32 {
     if slot < 13 { slot + 1 } else { 19 }
 }
 
-fn refused(r: FilmReturn) {
+fn refused(rt: &impl Print, r: FilmReturn) -> io::Result<()> {
     let mut i: usize = 0;
     while i < 14 {
-        numbered(b"refused", number_at(i as u32), r.refused[i]);
+        numbered(rt, b"refused", number_at(i as u32), r.refused[i])?;
         i += 1;
     }
+    Ok(())
 }
 
-fn scales(r: FilmReturn) {
+fn scales(rt: &impl Print, r: FilmReturn) -> io::Result<()> {
     let count = r.count;
     let mut i: usize = 0;
     while i < count {
         if MOST_SCALES <= i {
-            return;
+            return Ok(());
         }
-        numbered(b"scale", r.scales[i], r.units[i]);
+        numbered(rt, b"scale", r.scales[i], r.units[i])?;
         i += 1;
     }
+    Ok(())
 }
 
-pub fn totals(r: FilmReturn) {
-    line(b"accepted", r.accepted);
-    refused(r);
-    line(b"tracks", r.tracks);
-    line(b"samples", r.samples);
-    line(b"bytes", r.bytes);
-    scales(r);
+pub fn totals(rt: &impl Print, r: FilmReturn) -> io::Result<()> {
+    line(rt, b"accepted", r.accepted)?;
+    refused(rt, r)?;
+    line(rt, b"tracks", r.tracks)?;
+    line(rt, b"samples", r.samples)?;
+    line(rt, b"bytes", r.bytes)?;
+    scales(rt, r)
 }

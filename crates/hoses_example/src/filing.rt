@@ -6,6 +6,7 @@ use edits::MediaTime;
 use questions::samples::{SampleAnswer, sample_by_number};
 use slip::{SlipRead, read_slip};
 use slip_writing::{SlipAnswer, write_slip};
+use std::io;
 use structure::source::Source;
 
 // More bytes than a slip of a film of 65,536 bytes can have: its chunks are fewer than 16,384, and a pair takes six bytes at most.
@@ -77,57 +78,64 @@ fn second_start(film: &[u8], id: u32) -> u32 {
     }
 }
 
-fn verdict(units: u64, total: u32) {
-    show::field(b", the movie has ", total);
+fn verdict(rt: &impl Print, units: u64, total: u32) -> io::Result<()> {
+    show::field(rt, b", the movie has ", total)?;
     if units == total as u64 {
-        show::text(b": adds up\n");
+        show::text(rt, b": adds up\n")
     } else {
-        show::text(b": does not add up\n");
+        show::text(rt, b": does not add up\n")
     }
 }
 
-fn in_one_slip(film: &[u8], id: u32, total: u32) {
+fn in_one_slip(rt: &impl Print, film: &[u8], id: u32, total: u32) -> io::Result<()> {
     match filed(film, id, 0, total) {
         FilmTime::Units(units) => {
-            show::field(b"one slip files ", units);
-            show::text(b" units of film time");
-            verdict(units as u64, total);
+            show::field(rt, b"one slip files ", units)?;
+            show::text(rt, b" units of film time")?;
+            verdict(rt, units as u64, total)
         }
-        FilmTime::Refused(number) => show::refused(number),
+        FilmTime::Refused(number) => show::refused(rt, number),
     }
 }
 
 // The second of two slips, after one that files so many units.
-fn second_slip(film: &[u8], id: u32, cut: u32, total: u32, first: u32) {
+fn second_slip(
+    rt: &impl Print,
+    film: &[u8],
+    id: u32,
+    cut: u32,
+    total: u32,
+    first: u32,
+) -> io::Result<()> {
     match filed(film, id, cut, total) {
         FilmTime::Units(second) => {
-            show::field(b"one slip files ", first);
-            show::field(b" units of film time and one ", second);
-            verdict(first as u64 + second as u64, total);
+            show::field(rt, b"one slip files ", first)?;
+            show::field(rt, b" units of film time and one ", second)?;
+            verdict(rt, first as u64 + second as u64, total)
         }
-        FilmTime::Refused(number) => show::refused(number),
+        FilmTime::Refused(number) => show::refused(rt, number),
     }
 }
 
-fn in_two_slips(film: &[u8], id: u32, cut: u32, total: u32) {
+fn in_two_slips(rt: &impl Print, film: &[u8], id: u32, cut: u32, total: u32) -> io::Result<()> {
     match filed(film, id, 0, cut) {
-        FilmTime::Units(first) => second_slip(film, id, cut, total, first),
-        FilmTime::Refused(number) => show::refused(number),
+        FilmTime::Units(first) => second_slip(rt, film, id, cut, total, first),
+        FilmTime::Refused(number) => show::refused(rt, number),
     }
 }
 
 // Files the whole of a track in two slips, which meet where its second sample starts; in one where no film time lies before that or after it.
-pub fn account(film: &[u8], id: u32, total: u32) {
-    show::field(b"track ", id);
-    show::text(b": ");
+pub fn account(rt: &impl Print, film: &[u8], id: u32, total: u32) -> io::Result<()> {
+    show::field(rt, b"track ", id)?;
+    show::text(rt, b": ")?;
     if total == 0 {
-        show::text(b"no film time\n");
-        return;
+        show::text(rt, b"no film time\n")?;
+        return Ok(());
     }
     let cut = second_start(film, id);
     if 0 < cut && cut < total {
-        in_two_slips(film, id, cut, total);
+        in_two_slips(rt, film, id, cut, total)
     } else {
-        in_one_slip(film, id, total);
+        in_one_slip(rt, film, id, total)
     }
 }

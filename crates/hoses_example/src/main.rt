@@ -6,36 +6,37 @@ mod answers;
 mod filing;
 mod show;
 
+use program_input::{
+    Argument, MOST_FILM, arguments, name_given, open_named, read_full, read_up_to,
+};
+use std::io;
+use std::rt::Files;
+
 // The most bytes that a film may have.
-const MOST_BYTES: usize = 65536;
+const MOST_BYTES: usize = MOST_FILM;
 
 // Whether the input has a byte more.
-fn has_more(fd: i32) -> bool {
+fn has_more(reader: &mut impl io::Read) -> bool {
     let mut byte = [0u8; 1];
-    io::read_full(fd, &mut byte) > 0
+    read_full(reader, &mut byte) > 0
 }
 
 // The film is read to the input's end, as the listing does: one byte more is asked for only after a full buffer.
-fn answer_input(fd: i32) {
-    let mut film = io::large_buffer();
-    let n = io::read_full(fd, &mut film);
-    if n == MOST_BYTES {
-        if has_more(fd) {
-            show::text(b"too long\n");
-            return;
+fn answer_input(rt: &(impl Print + AllocGlobal), reader: &mut impl io::Read) -> io::Result<()> {
+    let film = read_up_to(rt.alloc(), reader, MOST_BYTES)?;
+    if film.len() == MOST_BYTES {
+        if has_more(reader) {
+            return show::text(rt, b"too long\n");
         }
     }
-    answers::answer(&film[..n]);
+    answers::answer(rt, &film)
 }
 
-fn answer_file(name: &[u8]) {
-    let fd = os::open_read(name);
-    if fd < 0 {
-        os::fail(name);
-        return;
+fn answer_file(rt: &(impl Files + Print + Eprint + AllocGlobal), name: &[u8]) -> io::Result<()> {
+    match open_named(rt, name)? {
+        Some(mut file) => answer_input(rt, &mut file),
+        None => Ok(()),
     }
-    answer_input(fd);
-    libc::close(fd);
 }
 
 fn is_dash(name: &[u8]) -> bool {
@@ -45,32 +46,34 @@ fn is_dash(name: &[u8]) -> bool {
     name[0] == b'-'
 }
 
-fn answer_named(name: &[u8]) {
+fn answer_named(
+    rt: &(impl Files + Input + Print + Eprint + AllocGlobal),
+    name: &[u8],
+) -> io::Result<()> {
     if is_dash(name) {
-        answer_input(libc::STDIN_FILENO);
+        answer_input(rt, &mut rt.reader())
     } else {
-        answer_file(name);
+        answer_file(rt, name)
     }
 }
 
-fn argument(i: usize) {
-    let mut name = io::buffer();
-    let length = os::arg(i, &mut name);
-    if os::errno() != 0 {
-        os::fail(b"name");
-        return;
+fn argument(
+    rt: &(impl Files + Input + Print + Eprint + AllocGlobal),
+    argument: &Argument,
+) -> io::Result<()> {
+    match name_given(rt, argument)? {
+        Some(name) => answer_named(rt, name),
+        None => Ok(()),
     }
-    answer_named(&name[..length]);
 }
 
-fn main() {
-    let count = os::arg_count();
-    if count < 2 {
-        answer_input(libc::STDIN_FILENO);
+fn main(rt: HostRuntime) -> io::Result<()> {
+    let names = arguments(&rt)?;
+    if names.is_empty() {
+        answer_input(&rt, &mut rt.reader())?;
     }
-    let mut i = 1;
-    while i < count {
-        argument(i);
-        i += 1;
+    for name in &names {
+        argument(&rt, name)?;
     }
+    Ok(())
 }

@@ -4,7 +4,7 @@
 
 mod show;
 
-use program_input::{Argument, MOST_FILM, arguments, named, open, read_full, read_up_to};
+use program_input::{Argument, MOST_FILM, arguments, name_given, open_named, read_full, read_up_to};
 use std::io;
 use std::rt::Files;
 use structure::source::Source;
@@ -69,7 +69,7 @@ fn list(rt: &(impl Print + AllocGlobal), reader: &mut impl io::Read) -> io::Resu
 }
 
 fn list_file(rt: &(impl Files + Print + Eprint + AllocGlobal), name: &[u8]) -> io::Result<()> {
-    match open(rt, name)? {
+    match open_named(rt, name)? {
         Some(mut file) => list(rt, &mut file),
         None => Ok(()),
     }
@@ -97,7 +97,7 @@ fn argument(
     rt: &(impl Files + Input + Print + Eprint + AllocGlobal),
     argument: &Argument,
 ) -> io::Result<()> {
-    match named(rt, argument)? {
+    match name_given(rt, argument)? {
         Some(name) => list_named(rt, name),
         None => Ok(()),
     }

@@ -7,138 +7,134 @@ mod show;
 
 use bigendian::{after, u64_at};
 use host_tracks::hand_track_list;
+use program_input::{Argument, MOST_FILM, arguments, name_given, open_named, read_up_to};
+use std::io;
+use std::rt::Files;
 use structure::source::Source;
 use track_list::LINE;
 
 // An ID that no film has.
 const STRANGER: u32 = 999;
 
-fn samples(moov: &[u8], length: u64, id: u32) {
-    ask::sample(moov, length, id, 0);
-    ask::sample(moov, length, id, 1);
-    ask::sample(moov, length, id, 2);
-    ask::sample(moov, length, id, 3);
-    ask::sample(moov, length, id, 4);
-    ask::sample(moov, length, id, 5);
+fn samples(rt: &impl Print, moov: &[u8], length: u64, id: u32) -> io::Result<()> {
+    ask::sample(rt, moov, length, id, 0)?;
+    ask::sample(rt, moov, length, id, 1)?;
+    ask::sample(rt, moov, length, id, 2)?;
+    ask::sample(rt, moov, length, id, 3)?;
+    ask::sample(rt, moov, length, id, 4)?;
+    ask::sample(rt, moov, length, id, 5)
 }
 
 // A media time, and the same number as a movie time.
-fn time(moov: &[u8], length: u64, id: u32, t: u32) {
-    ask::at(moov, length, id, t);
-    ask::map(moov, length, id, t);
+fn time(rt: &impl Print, moov: &[u8], length: u64, id: u32, t: u32) -> io::Result<()> {
+    ask::at(rt, moov, length, id, t)?;
+    ask::map(rt, moov, length, id, t)
 }
 
-fn times(moov: &[u8], length: u64, id: u32) {
-    time(moov, length, id, 0);
-    time(moov, length, id, 24);
-    time(moov, length, id, 72);
-    time(moov, length, id, 119);
-    time(moov, length, id, 120);
+fn times(rt: &impl Print, moov: &[u8], length: u64, id: u32) -> io::Result<()> {
+    time(rt, moov, length, id, 0)?;
+    time(rt, moov, length, id, 24)?;
+    time(rt, moov, length, id, 72)?;
+    time(rt, moov, length, id, 119)?;
+    time(rt, moov, length, id, 120)
 }
 
-fn between(moov: &[u8], length: u64, id: u32, a: u32, b: u32) {
-    ask::stretch(moov, length, id, a, b);
-    ask::slip(moov, length, id, a, b);
+fn between(rt: &impl Print, moov: &[u8], length: u64, id: u32, a: u32, b: u32) -> io::Result<()> {
+    ask::stretch(rt, moov, length, id, a, b)?;
+    ask::slip(rt, moov, length, id, a, b)
 }
 
-fn stretches(moov: &[u8], length: u64, id: u32) {
-    between(moov, length, id, 24, 73);
-    between(moov, length, id, 0, 120);
-    between(moov, length, id, 24, 24);
-    ask::rooms(moov, length, id);
+fn stretches(rt: &impl Print, moov: &[u8], length: u64, id: u32) -> io::Result<()> {
+    between(rt, moov, length, id, 24, 73)?;
+    between(rt, moov, length, id, 0, 120)?;
+    between(rt, moov, length, id, 24, 24)?;
+    ask::rooms(rt, moov, length, id)
 }
 
-fn features(moov: &[u8], length: u64, id: u32) {
-    ask::feature(moov, length, id, features::AVVB);
-    ask::feature(moov, length, id, features::TVSZ);
-    ask::feature(moov, length, id, features::VFPS);
-    ask::feature(moov, length, id, features::MVBR);
+fn features(rt: &impl Print, moov: &[u8], length: u64, id: u32) -> io::Result<()> {
+    ask::feature(rt, moov, length, id, features::AVVB)?;
+    ask::feature(rt, moov, length, id, features::TVSZ)?;
+    ask::feature(rt, moov, length, id, features::VFPS)?;
+    ask::feature(rt, moov, length, id, features::MVBR)
 }
 
-fn track(moov: &[u8], length: u64, id: u32) {
-    samples(moov, length, id);
-    times(moov, length, id);
-    stretches(moov, length, id);
-    features(moov, length, id);
-    ask::profile(moov, length, id);
+fn track(rt: &impl Print, moov: &[u8], length: u64, id: u32) -> io::Result<()> {
+    samples(rt, moov, length, id)?;
+    times(rt, moov, length, id)?;
+    stretches(rt, moov, length, id)?;
+    features(rt, moov, length, id)?;
+    ask::profile(rt, moov, length, id)
 }
 
 // Each question once, of an ID that may be no track's.
-fn each(moov: &[u8], length: u64, id: u32) {
-    ask::sample(moov, length, id, 1);
-    time(moov, length, id, 0);
-    between(moov, length, id, 0, 1);
-    ask::feature(moov, length, id, features::AVVB);
-    ask::profile(moov, length, id);
+fn each(rt: &impl Print, moov: &[u8], length: u64, id: u32) -> io::Result<()> {
+    ask::sample(rt, moov, length, id, 1)?;
+    time(rt, moov, length, id, 0)?;
+    between(rt, moov, length, id, 0, 1)?;
+    ask::feature(rt, moov, length, id, features::AVVB)?;
+    ask::profile(rt, moov, length, id)
 }
 
 // Every question of the first tracks of a list, as many as are counted.
-fn tracks(moov: &[u8], length: u64, list: &[u32], count: u64) {
+fn tracks(rt: &impl Print, moov: &[u8], length: u64, list: &[u32], count: u64) -> io::Result<()> {
     let mut t = list;
     let mut left = count;
     while LINE <= t.len() {
         if left == 0 {
-            return;
+            return Ok(());
         }
-        track(moov, length, t[0]);
+        track(rt, moov, length, t[0])?;
         t = &t[LINE..];
         left -= 1;
     }
+    Ok(())
 }
 
 // The list, with room for three tracks, and the questions.
-fn film(moov: &[u8], length: u64) {
+fn film(rt: &impl Print, moov: &[u8], length: u64) -> io::Result<()> {
     let mut places = [ask::PLACE; 1];
     let mut room = [ask::GUARD; 24];
     let r = hand_track_list(moov, Source::of_moov(length), &mut room, &mut places);
-    show::asked(b"  tracks", 0, 24, r);
-    show::numbers(&places);
-    show::words(&room);
-    show::text(b"\n");
-    tracks(moov, length, &room, places[0]);
-    each(moov, length, 0);
-    each(moov, length, 1);
-    each(moov, length, STRANGER);
+    show::asked(rt, b"  tracks", 0, 24, r)?;
+    show::numbers(rt, &places)?;
+    show::words(rt, &room)?;
+    show::text(rt, b"\n")?;
+    tracks(rt, moov, length, &room, places[0])?;
+    each(rt, moov, length, 0)?;
+    each(rt, moov, length, 1)?;
+    each(rt, moov, length, STRANGER)
 }
 
-fn stored(file: &[u8]) {
-    film(after(file, 8), u64_at(file, 0));
+fn stored(rt: &impl Print, file: &[u8]) -> io::Result<()> {
+    film(rt, after(file, 8), u64_at(file, 0))
 }
 
 // A film of up to 65,536 bytes; of a longer one the rest is not read.
-fn read(fd: i32) {
-    let mut file = io::large_buffer();
-    let n = io::read_full(fd, &mut file);
-    stored(&file[..n]);
+fn read(rt: &(impl Print + AllocGlobal), reader: &mut impl io::Read) -> io::Result<()> {
+    let file = read_up_to(rt.alloc(), reader, MOST_FILM)?;
+    stored(rt, &file)
 }
 
-fn open(name: &[u8]) {
-    show::text(name);
-    show::text(b"\n");
-    let fd = os::open_read(name);
-    if fd < 0 {
-        os::fail(name);
-        return;
-    }
-    read(fd);
-    libc::close(fd);
+fn open(rt: &(impl Files + Print + Eprint + AllocGlobal), name: &[u8]) -> io::Result<()> {
+    show::text(rt, name)?;
+    show::text(rt, b"\n")?;
+    let Some(mut file) = open_named(rt, name)? else {
+        return Ok(());
+    };
+    read(rt, &mut file)
 }
 
-fn named(i: usize) {
-    let mut name = io::buffer();
-    let length = os::arg(i, &mut name);
-    if os::errno() != 0 {
-        os::fail(b"name");
-        return;
-    }
-    open(&name[..length]);
+fn named(rt: &(impl Files + Print + Eprint + AllocGlobal), argument: &Argument) -> io::Result<()> {
+    let Some(name) = name_given(rt, argument)? else {
+        return Ok(());
+    };
+    open(rt, name)
 }
 
-fn main() {
-    let count = os::arg_count();
-    let mut i = 1;
-    while i < count {
-        named(i);
-        i += 1;
+fn main(rt: HostRuntime) -> io::Result<()> {
+    let names = arguments(&rt)?;
+    for name in &names {
+        named(&rt, name)?;
     }
+    Ok(())
 }

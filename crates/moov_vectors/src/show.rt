@@ -1,82 +1,87 @@
 // What the lines are made of.
 use signs::absolute;
+use std::io;
 
-pub fn text(s: &[u8]) {
-    io::write_all(libc::STDOUT_FILENO, s);
+pub fn text(rt: &impl Print, s: &[u8]) -> io::Result<()> {
+    rt.write_all(s)
 }
 
-fn number(n: u64) {
-    io::print_decimal(libc::STDOUT_FILENO, n);
+fn number(rt: &impl Print, n: u64) -> io::Result<()> {
+    print!(rt; "{n}")
 }
 
 // A blank, and a number after it.
-pub fn next(n: u64) {
-    text(b" ");
-    number(n);
+pub fn next(rt: &impl Print, n: u64) -> io::Result<()> {
+    text(rt, b" ")?;
+    number(rt, n)
 }
 
 // The question, the track asked, and the result: 0 or the refusal.
-pub fn asked(words: &[u8], id: u32, n: u32, res: u32) {
-    text(words);
-    next(id as u64);
-    next(n as u64);
-    text(b":");
-    next(res as u64);
+pub fn asked(rt: &impl Print, words: &[u8], id: u32, n: u32, res: u32) -> io::Result<()> {
+    text(rt, words)?;
+    next(rt, id as u64)?;
+    next(rt, n as u64)?;
+    text(rt, b":")?;
+    next(rt, res as u64)
 }
 
 // The same of a question with two media times.
-pub fn between(words: &[u8], id: u32, a: u32, b: u32, res: u32) {
-    text(words);
-    next(id as u64);
-    asked(b"", a, b, res);
+pub fn between(rt: &impl Print, words: &[u8], id: u32, a: u32, b: u32, res: u32) -> io::Result<()> {
+    text(rt, words)?;
+    next(rt, id as u64)?;
+    asked(rt, b"", a, b, res)
 }
 
 // What is below 0 is counted from -1 on, so that the least number has its place too.
-fn signed(n: i64) {
-    text(b" ");
+fn signed(rt: &impl Print, n: i64) -> io::Result<()> {
+    text(rt, b" ")?;
     if n < 0 {
-        text(b"-");
+        text(rt, b"-")?;
     }
-    number(absolute(n));
+    number(rt, absolute(n))
 }
 
-pub fn signed_numbers(s: &[i64]) {
+pub fn signed_numbers(rt: &impl Print, s: &[i64]) -> io::Result<()> {
     let mut i = 0;
     while i < s.len() {
-        signed(s[i]);
+        signed(rt, s[i])?;
         i += 1;
     }
+    Ok(())
 }
 
-pub fn numbers(s: &[u64]) {
+pub fn numbers(rt: &impl Print, s: &[u64]) -> io::Result<()> {
     let mut i = 0;
     while i < s.len() {
-        next(s[i]);
+        next(rt, s[i])?;
         i += 1;
     }
+    Ok(())
 }
 
-fn word(n: u32) {
-    next(n as u64);
+fn word(rt: &impl Print, n: u32) -> io::Result<()> {
+    next(rt, n as u64)
 }
 
-pub fn words(s: &[u32]) {
+pub fn words(rt: &impl Print, s: &[u32]) -> io::Result<()> {
     let mut i = 0;
     while i < s.len() {
-        word(s[i]);
+        word(rt, s[i])?;
         i += 1;
     }
+    Ok(())
 }
 
 // Two hex digits.
-fn hex(byte: u8) {
-    io::print_hex(libc::STDOUT_FILENO, byte as u64, 2);
+fn hex(rt: &impl Print, byte: u8) -> io::Result<()> {
+    print!(rt; "{byte:02x}")
 }
 
-pub fn bytes(s: &[u8]) {
+pub fn bytes(rt: &impl Print, s: &[u8]) -> io::Result<()> {
     let mut i = 0;
     while i < s.len() {
-        hex(s[i]);
+        hex(rt, s[i])?;
         i += 1;
     }
+    Ok(())
 }

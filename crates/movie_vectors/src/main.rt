@@ -5,51 +5,50 @@
 mod rooms;
 mod show;
 
+use program_input::{Argument, MOST_FILM, arguments, name_given, open_named, read_up_to};
+use std::io;
+use std::rt::Files;
 use structure::source::Source;
 
-fn lines(name: &[u8], film: &[u8]) {
+fn lines(rt: &impl Print, name: &[u8], film: &[u8]) -> io::Result<()> {
     let number = movie::refusal(film, Source::whole());
     let strict = movie::refusal(film, Source::whole().strictly());
-    show::text(name);
-    show::field(b": ", number);
-    show::field(b", strictly ", strict);
+    show::text(rt, name)?;
+    show::field(rt, b": ", number)?;
+    show::field(rt, b", strictly ", strict)?;
     if number != 0 {
-        rooms::of_refused(film);
-        show::text(b"\n");
+        rooms::of_refused(rt, film)?;
+        show::text(rt, b"\n")
     } else {
-        show::text(b"\n");
-        rooms::of_accepted(film);
+        show::text(rt, b"\n")?;
+        rooms::of_accepted(rt, film)
     }
 }
 
 // A film of up to 65,536 bytes; of a longer one the rest is not read.
-fn read(fd: i32, name: &[u8]) {
-    let mut film = io::large_buffer();
-    let n = io::read_full(fd, &mut film);
-    lines(name, &film[..n]);
+fn read(
+    rt: &(impl Print + AllocGlobal),
+    reader: &mut impl io::Read,
+    name: &[u8],
+) -> io::Result<()> {
+    let film = read_up_to(rt.alloc(), reader, MOST_FILM)?;
+    lines(rt, name, &film)
 }
 
-fn film(i: usize) {
-    let mut name = io::buffer();
-    let length = os::arg(i, &mut name);
-    if os::errno() != 0 {
-        os::fail(b"name");
-        return;
-    }
-    let fd = os::open_read(&name[..length]);
-    if fd < 0 {
-        os::fail(&name[..length]);
-        return;
-    }
-    read(fd, &name[..length]);
-    libc::close(fd);
+fn film(rt: &(impl Files + Print + Eprint + AllocGlobal), argument: &Argument) -> io::Result<()> {
+    let Some(name) = name_given(rt, argument)? else {
+        return Ok(());
+    };
+    let Some(mut file) = open_named(rt, name)? else {
+        return Ok(());
+    };
+    read(rt, &mut file, name)
 }
 
-fn main() {
-    let count = os::arg_count();
-    let mut i = 1;
-    while i < count {
-        film(i);
-        i += 1;
+fn main(rt: HostRuntime) -> io::Result<()> {
+    let names = arguments(&rt)?;
+    for name in &names {
+        film(&rt, name)?;
     }
+    Ok(())
 }

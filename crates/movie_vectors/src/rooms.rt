@@ -2,6 +2,7 @@
 ghost use Rattle.std.specs.Prelude.{◌≤◌};
 
 use super::show;
+use std::io;
 use structure::source::Source;
 use track_list::{TrackList, track_list};
 
@@ -25,37 +26,38 @@ fn is_untouched(room: &[u32]) -> bool {
     true
 }
 
-fn refused(number: u32, room: &[u32]) {
-    show::field(b"refused ", number);
+fn refused(rt: &impl Print, number: u32, room: &[u32]) -> io::Result<()> {
+    show::field(rt, b"refused ", number)?;
     if is_untouched(room) {
-        show::text(b", untouched");
+        show::text(rt, b", untouched")
     } else {
-        show::text(b", touched");
+        show::text(rt, b", touched")
     }
 }
 
 // The count of tracks, and every place of the room.
-fn listed(count: usize, room: &[u32]) {
-    show::count(b"tracks ", count);
-    show::text(b", places");
-    show::numbers(room);
+fn listed(rt: &impl Print, count: usize, room: &[u32]) -> io::Result<()> {
+    show::count(rt, b"tracks ", count)?;
+    show::text(rt, b", places")?;
+    show::numbers(rt, room)
 }
 
-fn ask(film: &[u8], room: &mut [u32]) {
-    show::count(b"room ", room.len());
-    show::text(b": ");
+fn ask(rt: &impl Print, film: &[u8], room: &mut [u32]) -> io::Result<()> {
+    show::count(rt, b"room ", room.len())?;
+    show::text(rt, b": ")?;
     match track_list(film, Source::whole(), room) {
-        TrackList::Tracks(count) => listed(count, room),
-        TrackList::Refused(number) => refused(number, room),
+        TrackList::Tracks(count) => listed(rt, count, room),
+        TrackList::Refused(number) => refused(rt, number, room),
     }
 }
 
 // Asks for a film's list with a room of so many places, up to those of the longest.
-pub fn ask_with(film: &[u8], length: usize) {
+pub fn ask_with(rt: &impl Print, film: &[u8], length: usize) -> io::Result<()> {
     let mut room = [GUARD; PLACES];
     if length <= PLACES {
-        ask(film, &mut room[..length]);
+        ask(rt, film, &mut room[..length])?;
     }
+    Ok(())
 }
 
 // How many places a film's list takes; 0 where it is refused.
@@ -79,27 +81,28 @@ fn places(count: usize) -> usize
     track_list::LINE * count
 }
 
-fn line(film: &[u8], length: usize) {
-    show::text(b"  ");
-    ask_with(film, length);
-    show::text(b"\n");
+fn line(rt: &impl Print, film: &[u8], length: usize) -> io::Result<()> {
+    show::text(rt, b"  ")?;
+    ask_with(rt, film, length)?;
+    show::text(rt, b"\n")
 }
 
 // Rooms of an accepted film: as long as the list, three longer, one shorter, and empty.
-pub fn of_accepted(film: &[u8]) {
+pub fn of_accepted(rt: &impl Print, film: &[u8]) -> io::Result<()> {
     let length = places_of(film);
-    line(film, length);
-    line(film, length + 3);
+    line(rt, film, length)?;
+    line(rt, film, length + 3)?;
     if length > 0 {
-        line(film, length - 1);
-        line(film, 0);
+        line(rt, film, length - 1)?;
+        line(rt, film, 0)?;
     }
+    Ok(())
 }
 
 // Rooms of a refused film: the longest, and an empty one, since the film's number comes before 16.
-pub fn of_refused(film: &[u8]) {
-    show::text(b"; ");
-    ask_with(film, PLACES);
-    show::text(b"; ");
-    ask_with(film, 0);
+pub fn of_refused(rt: &impl Print, film: &[u8]) -> io::Result<()> {
+    show::text(rt, b"; ")?;
+    ask_with(rt, film, PLACES)?;
+    show::text(rt, b"; ")?;
+    ask_with(rt, film, 0)
 }

@@ -1,29 +1,32 @@
 // What the lines are made of.
-pub fn text(s: &[u8]) {
-    io::write_all(libc::STDOUT_FILENO, s);
+use std::io;
+
+pub fn text(rt: &impl Print, s: &[u8]) -> io::Result<()> {
+    rt.write_all(s)
 }
 
-pub fn number(n: u64) {
-    io::print_decimal(libc::STDOUT_FILENO, n);
+pub fn number(rt: &impl Print, n: u64) -> io::Result<()> {
+    print!(rt; "{n}")
 }
 
 // Words, and a number after them.
-pub fn field(words: &[u8], n: u32) {
-    text(words);
-    number(n as u64);
+pub fn field(rt: &impl Print, words: &[u8], n: u32) -> io::Result<()> {
+    text(rt, words)?;
+    number(rt, n as u64)
 }
 
 // Words, and a length or a count after them.
-pub fn count(words: &[u8], n: usize) {
-    text(words);
-    number(n as u64);
+pub fn count(rt: &impl Print, words: &[u8], n: usize) -> io::Result<()> {
+    text(rt, words)?;
+    number(rt, n as u64)
 }
 
 // Each number with a blank before it.
-pub fn numbers(s: &[u32]) {
+pub fn numbers(rt: &impl Print, s: &[u32]) -> io::Result<()> {
     let mut i = 0;
     while i < s.len() {
-        field(b" ", s[i]);
+        field(rt, b" ", s[i])?;
         i += 1;
     }
+    Ok(())
 }

@@ -3,70 +3,69 @@
 #![tactic(auto)]
 
 use profile_checks::{ProfileCheckAnswer, check_profile};
+use program_input::{Argument, MOST_FILM, arguments, name_given, open_named, read_up_to};
+use std::io;
+use std::rt::Files;
 use structure::source::Source;
 
-fn text(s: &[u8]) {
-    io::write_all(libc::STDOUT_FILENO, s);
+fn text(rt: &impl Print, s: &[u8]) -> io::Result<()> {
+    rt.write_all(s)
 }
 
 // Words, and a number after them.
-fn field(words: &[u8], n: u64) {
-    text(words);
-    io::print_decimal(libc::STDOUT_FILENO, n);
+fn field(rt: &impl Print, words: &[u8], n: u64) -> io::Result<()> {
+    text(rt, words)?;
+    print!(rt; "{n}")
 }
 
-fn line(film: &[u8], id: u32) {
-    field(b"  ", id as u64);
+fn line(rt: &impl Print, film: &[u8], id: u32) -> io::Result<()> {
+    field(rt, b"  ", id as u64)?;
     match check_profile(film, Source::whole(), id) {
-        ProfileCheckAnswer::Yes => text(b": yes"),
-        ProfileCheckAnswer::Fault(place) => field(b": record ", place as u64),
-        ProfileCheckAnswer::Refused(number) => field(b": refused ", number as u64),
+        ProfileCheckAnswer::Yes => text(rt, b": yes")?,
+        ProfileCheckAnswer::Fault(place) => field(rt, b": record ", place as u64)?,
+        ProfileCheckAnswer::Refused(number) => field(rt, b": refused ", number as u64)?,
     }
-    text(b"\n");
+    text(rt, b"\n")
 }
 
-fn lines(film: &[u8]) {
+fn lines(rt: &impl Print, film: &[u8]) -> io::Result<()> {
     for id in 0..10 {
-        line(film, id);
+        line(rt, film, id)?;
     }
+    Ok(())
 }
 
 // A film of up to 65,536 bytes; of a longer one the rest is not read.
-fn read_film(fd: i32) {
-    let mut film = io::large_buffer();
-    let n = io::read_full(fd, &mut film);
-    lines(&film[..n]);
+fn read_film(rt: &(impl Print + AllocGlobal), reader: &mut impl io::Read) -> io::Result<()> {
+    let film = read_up_to(rt.alloc(), reader, MOST_FILM)?;
+    lines(rt, &film)
 }
 
-fn ask(name: &[u8]) {
-    text(name);
-    text(b"\n");
-    let fd = os::open_read(name);
-    if fd < 0 {
-        os::fail(name);
-        return;
-    }
-    read_film(fd);
-    libc::close(fd);
+fn ask(rt: &(impl Files + Print + Eprint + AllocGlobal), name: &[u8]) -> io::Result<()> {
+    text(rt, name)?;
+    text(rt, b"\n")?;
+    let Some(mut file) = open_named(rt, name)? else {
+        return Ok(());
+    };
+    read_film(rt, &mut file)
 }
 
 // The film that an argument names.
-fn argument(i: usize) {
-    let mut name = io::buffer();
-    let length = os::arg(i, &mut name);
-    if os::errno() != 0 {
-        os::fail(b"name");
-        return;
-    }
-    ask(&name[..length]);
+fn argument(
+    rt: &(impl Files + Print + Eprint + AllocGlobal),
+    argument: &Argument,
+) -> io::Result<()> {
+    let Some(name) = name_given(rt, argument)? else {
+        return Ok(());
+    };
+    ask(rt, name)
 }
 
 // The arguments after the program's own name.
-fn main() {
-    let count = os::arg_count();
-    let mut i = 1;
-    while i < count {
-        argument(i);
-        i += 1;
+fn main(rt: HostRuntime) -> io::Result<()> {
+    let names = arguments(&rt)?;
+    for name in &names {
+        argument(&rt, name)?;
     }
+    Ok(())
 }

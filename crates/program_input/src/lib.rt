@@ -64,7 +64,7 @@ pub fn arguments<R: Env + AllocGlobal>(rt: &R) -> Result<Vec<Argument>, AllocErr
 }
 
 // The name that an argument gives. Where it is too long, a line on standard error says so.
-pub fn named<'a>(rt: &impl Eprint, argument: &'a Argument) -> io::Result<Option<&'a [u8]>>
+pub fn name_given<'a>(rt: &impl Eprint, argument: &'a Argument) -> io::Result<Option<&'a [u8]>>
     ensures name { IfOk result (λ name. IfSome name (λ bytes. bytes.now ≡ name_of argument.now)) }
     ensures none { IfOk result (λ name. IsNone name ↔ (argument.now ≡ Argument.TooLong)) }
 {
@@ -78,7 +78,7 @@ pub fn named<'a>(rt: &impl Eprint, argument: &'a Argument) -> io::Result<Option<
 }
 
 // A file opened for reading, by the bytes of its name. One that is not text names no file.
-fn open_read<R: Files>(rt: &R, name: &[u8]) -> io::Result<R::File>
+pub fn open_read<R: Files>(rt: &R, name: &[u8]) -> io::Result<R::File>
     ensures { (IsUtf8 name.now → ⊥) → IsErr result }
 {
     match str::from_utf8(name) {
@@ -88,7 +88,10 @@ fn open_read<R: Files>(rt: &R, name: &[u8]) -> io::Result<R::File>
 }
 
 // The file of a name, opened for reading. Where it cannot be opened, a line on standard error says so.
-pub fn open<R: Files + Eprint + AllocGlobal>(rt: &R, name: &[u8]) -> io::Result<Option<R::File>>
+pub fn open_named<R: Files + Eprint + AllocGlobal>(
+    rt: &R,
+    name: &[u8],
+) -> io::Result<Option<R::File>>
     ensures { (IsUtf8 name.now → ⊥) → IfOk result (λ file. IsNone file) }
 {
     match open_read(rt, name) {

@@ -4,29 +4,32 @@
 #![tactic(auto)]
 
 use bigendian::{after, u64_at};
+use program_input::{Argument, MOST_FILM, arguments, name_given, open_named, read_up_to};
 use quay::{QuayAnswer, check_quay};
+use std::io;
+use std::rt::Files;
 use structure::source::Source;
 
-fn text(s: &[u8]) {
-    io::write_all(libc::STDOUT_FILENO, s);
+fn text(rt: &impl Print, s: &[u8]) -> io::Result<()> {
+    rt.write_all(s)
 }
 
 // Words, and a number after them.
-fn field(words: &[u8], n: u32) {
-    text(words);
-    io::print_decimal(libc::STDOUT_FILENO, n as u64);
+fn field(rt: &impl Print, words: &[u8], n: u32) -> io::Result<()> {
+    text(rt, words)?;
+    print!(rt; "{n}")
 }
 
-fn broken(rule: u32, id: u32) {
-    field(b"breaks ", rule);
-    field(b", track ", id);
+fn broken(rt: &impl Print, rule: u32, id: u32) -> io::Result<()> {
+    field(rt, b"breaks ", rule)?;
+    field(rt, b", track ", id)
 }
 
-fn line(lent: &[u8], source: Source) {
+fn line(rt: &impl Print, lent: &[u8], source: Source) -> io::Result<()> {
     match check_quay(lent, source) {
-        QuayAnswer::Yes => text(b"yes"),
-        QuayAnswer::Breaks(rule, id) => broken(rule, id),
-        QuayAnswer::Refused(number) => field(b"refused ", number),
+        QuayAnswer::Yes => text(rt, b"yes"),
+        QuayAnswer::Breaks(rule, id) => broken(rt, rule, id),
+        QuayAnswer::Refused(number) => field(rt, b"refused ", number),
     }
 }
 
@@ -37,45 +40,37 @@ fn source_of(length: u64) -> Source {
     Source::of_moov(length)
 }
 
-fn stored(film: &[u8]) {
-    line(after(film, 8), source_of(u64_at(film, 0)));
-    text(b"\n");
+fn stored(rt: &impl Print, film: &[u8]) -> io::Result<()> {
+    line(rt, after(film, 8), source_of(u64_at(film, 0)))?;
+    text(rt, b"\n")
 }
 
 // A film of up to 65,536 bytes with its length; of a longer one the rest is not read.
-fn read(fd: i32) {
-    let mut film = io::large_buffer();
-    let n = io::read_full(fd, &mut film);
-    stored(&film[..n]);
+fn read(rt: &(impl Print + AllocGlobal), reader: &mut impl io::Read) -> io::Result<()> {
+    let film = read_up_to(rt.alloc(), reader, MOST_FILM)?;
+    stored(rt, &film)
 }
 
-fn open(name: &[u8]) {
-    text(name);
-    text(b": ");
-    let fd = os::open_read(name);
-    if fd < 0 {
-        os::fail(name);
-        return;
-    }
-    read(fd);
-    libc::close(fd);
+fn open(rt: &(impl Files + Print + Eprint + AllocGlobal), name: &[u8]) -> io::Result<()> {
+    text(rt, name)?;
+    text(rt, b": ")?;
+    let Some(mut file) = open_named(rt, name)? else {
+        return Ok(());
+    };
+    read(rt, &mut file)
 }
 
-fn film(i: usize) {
-    let mut name = io::buffer();
-    let length = os::arg(i, &mut name);
-    if os::errno() != 0 {
-        os::fail(b"name");
-        return;
-    }
-    open(&name[..length]);
+fn film(rt: &(impl Files + Print + Eprint + AllocGlobal), argument: &Argument) -> io::Result<()> {
+    let Some(name) = name_given(rt, argument)? else {
+        return Ok(());
+    };
+    open(rt, name)
 }
 
-fn main() {
-    let count = os::arg_count();
-    let mut i = 1;
-    while i < count {
-        film(i);
-        i += 1;
+fn main(rt: HostRuntime) -> io::Result<()> {
+    let names = arguments(&rt)?;
+    for name in &names {
+        film(&rt, name)?;
     }
+    Ok(())
 }

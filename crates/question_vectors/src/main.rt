@@ -7,6 +7,9 @@ mod rooms;
 mod show;
 
 use bigendian::u32_at;
+use program_input::{Argument, MOST_FILM, arguments, name_given, open_named, read_up_to};
+use std::io;
+use std::rt::Files;
 
 // The kinds of questions.
 const SAMPLE: u32 = 1;
@@ -24,99 +27,102 @@ const PEAK: u32 = 6;
 // The bytes of a question: its kind, a track ID and the number asked, 32 bits each.
 const QUESTION: usize = 12;
 
-fn line(film: &[u8], kind: u32, id: u32, n: u32) {
-    show::text(b"  ");
+fn line(rt: &impl Print, film: &[u8], kind: u32, id: u32, n: u32) -> io::Result<()> {
+    show::text(rt, b"  ")?;
     match kind {
-        SAMPLE => answers::sample(film, id, n),
-        AT => answers::at(film, id, n),
-        MAP => answers::map(film, id, n),
-        FEATURE => answers::feature(film, id, n),
-        PROFILE => rooms::profile(film, id, n),
-        PEAK => answers::peak(film, id, n),
-        _ => show::text(b"no question"),
+        SAMPLE => answers::sample(rt, film, id, n)?,
+        AT => answers::at(rt, film, id, n)?,
+        MAP => answers::map(rt, film, id, n)?,
+        FEATURE => answers::feature(rt, film, id, n)?,
+        PROFILE => rooms::profile(rt, film, id, n)?,
+        PEAK => answers::peak(rt, film, id, n)?,
+        _ => show::text(rt, b"no question")?,
     }
-    show::text(b"\n");
+    show::text(rt, b"\n")
 }
 
-fn lines(film: &[u8], questions: &[u8]) {
+fn lines(rt: &impl Print, film: &[u8], questions: &[u8]) -> io::Result<()> {
     let mut t = questions;
     while QUESTION <= t.len() {
-        line(film, u32_at(t, 0), u32_at(t, 4), u32_at(t, 8));
+        line(rt, film, u32_at(t, 0), u32_at(t, 4), u32_at(t, 8))?;
         t = &t[QUESTION..];
     }
+    Ok(())
 }
 
-fn open(name: &[u8]) -> i32 {
-    let fd = os::open_read(name);
-    if fd < 0 {
-        os::fail(name);
+// The file that an argument names, open for reading; none where it cannot be opened.
+fn open_argument<R: Files + Eprint + AllocGlobal>(
+    rt: &R,
+    argument: &Argument,
+) -> io::Result<Option<R::File>> {
+    match name_given(rt, argument)? {
+        Some(name) => open_named(rt, name),
+        None => Ok(None),
     }
-    fd
-}
-
-// The file that an argument names, open for reading; below 0 where it cannot be opened.
-fn open_argument(i: usize) -> i32 {
-    let mut name = io::buffer();
-    let length = os::arg(i, &mut name);
-    if os::errno() != 0 {
-        os::fail(b"name");
-        return -1;
-    }
-    open(&name[..length])
 }
 
 // Up to 65,536 bytes of questions; of more the rest is not read.
-fn read_questions(film: &[u8], fd: i32) {
-    let mut questions = io::large_buffer();
-    let n = io::read_full(fd, &mut questions);
-    lines(film, &questions[..n]);
+fn read_questions(
+    rt: &(impl Print + AllocGlobal),
+    film: &[u8],
+    reader: &mut impl io::Read,
+) -> io::Result<()> {
+    let questions = read_up_to(rt.alloc(), reader, MOST_FILM)?;
+    lines(rt, film, &questions)
 }
 
 // Asks a film the questions in the file that an argument names.
-fn ask(film: &[u8], questions: usize) {
-    let fd = open_argument(questions);
-    if fd < 0 {
-        return;
-    }
-    read_questions(film, fd);
-    libc::close(fd);
+fn ask(
+    rt: &(impl Files + Print + Eprint + AllocGlobal),
+    film: &[u8],
+    questions: &Argument,
+) -> io::Result<()> {
+    let Some(mut file) = open_argument(rt, questions)? else {
+        return Ok(());
+    };
+    read_questions(rt, film, &mut file)
 }
 
 // A film of up to 65,536 bytes; of a longer one the rest is not read.
-fn read_film(fd: i32, questions: usize) {
-    let mut film = io::large_buffer();
-    let n = io::read_full(fd, &mut film);
-    ask(&film[..n], questions);
+fn read_film(
+    rt: &(impl Files + Print + Eprint + AllocGlobal),
+    reader: &mut impl io::Read,
+    questions: &Argument,
+) -> io::Result<()> {
+    let film = read_up_to(rt.alloc(), reader, MOST_FILM)?;
+    ask(rt, &film, questions)
 }
 
 // A line with an argument.
-fn heading(i: usize) {
-    let mut name = io::buffer();
-    let length = os::arg(i, &mut name);
-    show::text(&name[..length]);
-    show::text(b"\n");
+fn heading(rt: &impl Print, argument: &Argument) -> io::Result<()> {
+    show::text(rt, argument.name())?;
+    show::text(rt, b"\n")
 }
 
 // A film and the questions that it is asked, each by the argument that names it.
-fn pair(film: usize, questions: usize) {
-    heading(film);
-    let fd = open_argument(film);
-    if fd < 0 {
-        return;
-    }
-    read_film(fd, questions);
-    libc::close(fd);
+fn pair(
+    rt: &(impl Files + Print + Eprint + AllocGlobal),
+    film: &Argument,
+    questions: &Argument,
+) -> io::Result<()> {
+    heading(rt, film)?;
+    let Some(mut file) = open_argument(rt, film)? else {
+        return Ok(());
+    };
+    read_film(rt, &mut file, questions)
 }
 
 // The arguments after the program's own name, two by two.
-fn main() {
-    let count = os::arg_count();
-    let mut i = 1;
+fn main(rt: HostRuntime) -> io::Result<()> {
+    let names = arguments(&rt)?;
+    let count = names.len();
+    let mut i = 0;
     while i < count {
         if count - i == 1 {
-            return;
+            return Ok(());
         }
-        pair(i, i + 1);
+        pair(&rt, &names[i], &names[i + 1])?;
         i += 2;
     }
+    Ok(())
 }

@@ -5,8 +5,11 @@
 mod show;
 
 use film_return::add_film;
+use program_input::{MOST_FILM, arguments, open_named, read_up_to};
 use return_numbers::{NUMBERS, return_in};
 use return_totals::{FilmReturn, join_returns};
+use std::io;
+use std::rt::Files;
 use structure::source::Source;
 
 // How many states there are.
@@ -67,24 +70,21 @@ fn state(k: usize) -> FilmReturn {
     }
 }
 
-fn file_film(film: &[u8]) {
+fn file_film(rt: &impl Print, film: &[u8]) -> io::Result<()> {
     let mut k: usize = 0;
     while k < STATES {
-        show::filed(k, add_film(state(k), film, Source::whole()));
+        show::filed(rt, k, add_film(state(k), film, Source::whole()))?;
         k += 1;
     }
+    Ok(())
 }
 
-fn file_named(name: &[u8]) {
-    let fd = os::open_read(name);
-    if fd < 0 {
-        os::fail(name);
-        return;
-    }
-    let mut film = io::large_buffer();
-    let n = io::read_full(fd, &mut film);
-    libc::close(fd);
-    file_film(&film[..n]);
+fn file_named(rt: &(impl Files + Print + Eprint + AllocGlobal), name: &[u8]) -> io::Result<()> {
+    let Some(mut file) = open_named(rt, name)? else {
+        return Ok(());
+    };
+    let film = read_up_to(rt.alloc(), &mut file, MOST_FILM)?;
+    file_film(rt, &film)
 }
 
 // How many pairs of returns are joined.
@@ -134,22 +134,19 @@ fn right(k: usize) -> FilmReturn {
     }
 }
 
-fn join_pairs() {
+fn join_pairs(rt: &impl Print) -> io::Result<()> {
     let mut k: usize = 0;
     while k < PAIRS {
-        show::filed(k, join_returns(left(k), right(k)));
+        show::filed(rt, k, join_returns(left(k), right(k)))?;
         k += 1;
     }
+    Ok(())
 }
 
-fn main() {
-    let count = os::arg_count();
-    let mut i = 1;
-    while i < count {
-        let mut name = io::buffer();
-        let length = os::arg(i, &mut name);
-        file_named(&name[..length]);
-        i += 1;
+fn main(rt: HostRuntime) -> io::Result<()> {
+    let names = arguments(&rt)?;
+    for name in &names {
+        file_named(&rt, name.name())?;
     }
-    join_pairs();
+    join_pairs(&rt)
 }

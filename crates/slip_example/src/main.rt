@@ -2,19 +2,20 @@
 #![tactic(auto)]
 
 use slip::{Head, SlipRead};
+use std::io;
 
-fn text(s: &[u8]) {
-    io::write_all(libc::STDOUT_FILENO, s);
+fn text(rt: &impl Print, s: &[u8]) -> io::Result<()> {
+    rt.write_all(s)
 }
 
-fn say(words: &[u8], n: u64) {
-    text(words);
-    io::print_decimal(libc::STDOUT_FILENO, n);
+fn say(rt: &impl Print, words: &[u8], n: u64) -> io::Result<()> {
+    text(rt, words)?;
+    print!(rt; "{n}")
 }
 
-fn hex(b: u8) {
-    text(b" ");
-    io::print_hex(libc::STDOUT_FILENO, b as u64, 2);
+fn hex(rt: &impl Print, b: u8) -> io::Result<()> {
+    text(rt, b" ")?;
+    print!(rt; "{b:02x}")
 }
 
 // Track 1, 600 units a second, media time 24 up to 73: 50 bytes of film from byte 1100 on, and 70 from byte 900 on.
@@ -33,55 +34,55 @@ fn write(out: &mut [u8]) -> usize {
     leb128::put_number(out, length_2, 70)
 }
 
-fn print_bytes(bytes: &[u8]) {
-    text(b"slip");
+fn print_bytes(rt: &impl Print, bytes: &[u8]) -> io::Result<()> {
+    text(rt, b"slip")?;
     let mut i = 0;
     while i < bytes.len() {
-        hex(bytes[i]);
+        hex(rt, bytes[i])?;
         i += 1;
     }
-    text(b"\n");
+    text(rt, b"\n")
 }
 
-fn print_head(head: Head) {
-    say(b"track ", head.id);
-    say(b", ", head.scale);
-    say(b" units a second, media time ", head.a);
-    say(b" up to ", head.b);
-    text(b"\n");
+fn print_head(rt: &impl Print, head: Head) -> io::Result<()> {
+    say(rt, b"track ", head.id)?;
+    say(rt, b", ", head.scale)?;
+    say(rt, b" units a second, media time ", head.a)?;
+    say(rt, b" up to ", head.b)?;
+    text(rt, b"\n")
 }
 
-fn print_pair(offset: u32, length: u32) {
-    say(b"", length as u64);
-    say(b" bytes of film from byte ", offset as u64);
-    text(b" of the file\n");
+fn print_pair(rt: &impl Print, offset: u32, length: u32) -> io::Result<()> {
+    say(rt, b"", length as u64)?;
+    say(rt, b" bytes of film from byte ", offset as u64)?;
+    text(rt, b" of the file\n")
 }
 
-fn refused(place: usize) {
-    text(b"refused 17 at byte ");
-    io::print_decimal(libc::STDOUT_FILENO, place as u64);
-    text(b" of the slip\n");
+fn refused(rt: &impl Print, place: usize) -> io::Result<()> {
+    text(rt, b"refused 17 at byte ")?;
+    print!(rt; "{place}")?;
+    text(rt, b" of the slip\n")
 }
 
-fn read(bytes: &[u8]) {
+fn read(rt: &impl Print, bytes: &[u8]) -> io::Result<()> {
     let mut room = [0u32; 4];
     match slip::read_slip(bytes, &mut room) {
         SlipRead::Accepted(head) => {
-            print_head(head);
-            print_pair(room[0], room[1]);
-            print_pair(room[2], room[3]);
+            print_head(rt, head)?;
+            print_pair(rt, room[0], room[1])?;
+            print_pair(rt, room[2], room[3])
         }
-        SlipRead::NoRoom => text(b"refused 16\n"),
-        SlipRead::Malformed(place) => refused(place),
+        SlipRead::NoRoom => text(rt, b"refused 16\n"),
+        SlipRead::Malformed(place) => refused(rt, place),
     }
 }
 
-fn main() {
+fn main(rt: HostRuntime) -> io::Result<()> {
     let mut out = [0u8; 13];
     write(&mut out);
-    print_bytes(&out);
-    read(&out);
+    print_bytes(&rt, &out)?;
+    read(&rt, &out)?;
     // b is now a.
     out[5] = 24;
-    read(&out);
+    read(&rt, &out)
 }

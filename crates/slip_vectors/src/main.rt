@@ -7,6 +7,9 @@ mod show;
 mod writing;
 
 use bigendian::{after, u32_at, u64_at};
+use program_input::{Argument, arguments, name_given, open_named, read_up_to};
+use std::io;
+use std::rt::Files;
 
 // The kinds of cases: a number below 2^32 read, a slip of form 1 read, a number written, a slip written, a slip of either form read, a number
 // below 2^64 read.
@@ -27,52 +30,47 @@ const READ_WIDE_NUMBER: u32 = 6;
 // The bytes to read, or the numbers to write, follow.
 const BODY: usize = 24;
 
-fn answer(case: &[u8]) {
+// The most bytes of a case.
+const MOST_CASE: usize = 4096;
+
+fn answer(rt: &impl Print, case: &[u8]) -> io::Result<()> {
     let body = after(case, BODY);
     let room = u32_at(case, 4) as usize;
     let n = u64_at(case, 8);
     let at = u64_at(case, 16) as usize;
     match u32_at(case, 0) {
-        READ_NUMBER => reading::number(body, n, at, false),
-        READ_WIDE_NUMBER => reading::number(body, n, at, true),
-        READ_SLIP => reading::slip(body, room),
-        READ_ANY_SLIP => reading::any_slip(body, room),
-        WRITE_NUMBER => writing::number(n, at, room),
-        WRITE_SLIP => writing::slip(body, n == 1, room),
-        _ => show::text(b": no case"),
+        READ_NUMBER => reading::number(rt, body, n, at, false),
+        READ_WIDE_NUMBER => reading::number(rt, body, n, at, true),
+        READ_SLIP => reading::slip(rt, body, room),
+        READ_ANY_SLIP => reading::any_slip(rt, body, room),
+        WRITE_NUMBER => writing::number(rt, n, at, room),
+        WRITE_SLIP => writing::slip(rt, body, n == 1, room),
+        _ => show::text(rt, b": no case"),
     }
 }
 
 // A case of up to 4,096 bytes; of a longer one the rest is not read.
-fn read(fd: i32) {
-    let mut case = io::buffer();
-    let n = io::read_full(fd, &mut case);
-    answer(&case[..n]);
-    show::text(b"\n");
+fn read(rt: &(impl Print + AllocGlobal), reader: &mut impl io::Read) -> io::Result<()> {
+    let case = read_up_to(rt.alloc(), reader, MOST_CASE)?;
+    answer(rt, &case)?;
+    show::text(rt, b"\n")
 }
 
-fn case(i: usize) {
-    let mut name = io::buffer();
-    let length = os::arg(i, &mut name);
-    if os::errno() != 0 {
-        os::fail(b"name");
-        return;
-    }
-    let fd = os::open_read(&name[..length]);
-    if fd < 0 {
-        os::fail(&name[..length]);
-        return;
-    }
-    show::text(&name[..length]);
-    read(fd);
-    libc::close(fd);
+fn case(rt: &(impl Files + Print + Eprint + AllocGlobal), argument: &Argument) -> io::Result<()> {
+    let Some(name) = name_given(rt, argument)? else {
+        return Ok(());
+    };
+    let Some(mut file) = open_named(rt, name)? else {
+        return Ok(());
+    };
+    show::text(rt, name)?;
+    read(rt, &mut file)
 }
 
-fn main() {
-    let count = os::arg_count();
-    let mut i = 1;
-    while i < count {
-        case(i);
-        i += 1;
+fn main(rt: HostRuntime) -> io::Result<()> {
+    let names = arguments(&rt)?;
+    for name in &names {
+        case(&rt, name)?;
     }
+    Ok(())
 }

@@ -3,6 +3,7 @@ use super::{ends, show};
 use opened::{Opened, Opening};
 use opened_steps::start_by;
 use questions::samples::Sample;
+use std::io;
 use stepping::{Start, Step, Stepper};
 use structure::source::Source;
 
@@ -78,13 +79,14 @@ fn start_of(film: &[u8], o: Opening, n: u32) -> Start {
 }
 
 // The same start by a handle, and the start by that handle on the other film.
-pub fn by_handle(film: &[u8], other: &[u8], id: u32, n: u32) {
+pub fn by_handle(rt: &impl Print, film: &[u8], other: &[u8], id: u32, n: u32) -> io::Result<()> {
     let o = Opened::of(film, Source::whole(), id);
     let start = Stepper::at(film, Source::whole(), id, n);
     if !same_starts(film, start, start_of(film, o, n)) {
-        show::text(b"    otherwise by the handle\n");
+        show::text(rt, b"    otherwise by the handle\n")?;
     }
     if !start_ends(other, start_of(other, o, n)) {
-        show::text(b"    more by the handle elsewhere\n");
+        show::text(rt, b"    more by the handle elsewhere\n")?;
     }
+    Ok(())
 }

@@ -8,53 +8,56 @@ mod handles;
 mod show;
 
 use handles::by_handle;
+use program_input::{Argument, MOST_FILM, arguments, name_given, open_named, read_up_to};
 use questions::samples::Sample;
+use std::io;
+use std::rt::Files;
 use stepping::{Start, Step, Stepper};
 use structure::source::Source;
 
 // Decode time, duration, composition time, whether sync, description ID, chunk, offset and size.
-fn line(s: Sample) {
-    show::text(b"   ");
-    show::next(s.decode);
-    show::next(s.duration as u64);
-    show::text(b" ");
-    show::signed(s.composition);
-    show::next(if s.sync { 1 } else { 0 });
-    show::next(s.description as u64);
-    show::next(s.chunk);
-    show::next(s.offset);
-    show::next(s.size as u64);
-    show::text(b"\n");
+fn line(rt: &impl Print, s: Sample) -> io::Result<()> {
+    show::text(rt, b"   ")?;
+    show::next(rt, s.decode)?;
+    show::next(rt, s.duration as u64)?;
+    show::text(rt, b" ")?;
+    show::signed(rt, s.composition)?;
+    show::next(rt, if s.sync { 1 } else { 0 })?;
+    show::next(rt, s.description as u64)?;
+    show::next(rt, s.chunk)?;
+    show::next(rt, s.offset)?;
+    show::next(rt, s.size as u64)?;
+    show::text(rt, b"\n")
 }
 
 // A step past the last sample, and once more.
-fn done_again(film: &[u8], p: Stepper) {
+fn done_again(rt: &impl Print, film: &[u8], p: Stepper) -> io::Result<()> {
     let r = p.step(film);
     match r {
-        Step::Next(s, _) => line(s),
-        Step::Done => show::text(b"    done\n"),
+        Step::Next(s, _) => line(rt, s),
+        Step::Done => show::text(rt, b"    done\n"),
     }
 }
 
 // The steps from a position to the end, a line each.
-fn walk(film: &[u8], p: Stepper) {
+fn walk(rt: &impl Print, film: &[u8], p: Stepper) -> io::Result<()> {
     let mut q = p;
     let mut left: u64 = p.samples as u64 + 1;
     while 0 < left {
         let r = q.step(film);
         match r {
             Step::Next(s, n) => {
-                line(s);
+                line(rt, s)?;
                 q = n;
                 left -= 1;
             }
             Step::Done => {
-                done_again(film, q);
-                return;
+                done_again(rt, film, q)?;
+                return Ok(());
             }
         }
     }
-    show::text(b"    more\n");
+    show::text(rt, b"    more\n")
 }
 
 // Whether the steps from a position of another film end before one more than it has samples.
@@ -84,120 +87,124 @@ fn samples(film: &[u8], id: u32) -> u32 {
     }
 }
 
-fn started(film: &[u8], other: &[u8], id: u32, n: u32) {
-    show::text(b"  track");
-    show::next(id as u64);
-    show::text(b" from");
-    show::next(n as u64);
+fn started(rt: &impl Print, film: &[u8], other: &[u8], id: u32, n: u32) -> io::Result<()> {
+    show::text(rt, b"  track")?;
+    show::next(rt, id as u64)?;
+    show::text(rt, b" from")?;
+    show::next(rt, n as u64)?;
     match Stepper::at(film, Source::whole(), id, n) {
         Start::At(p) => {
-            show::text(b"\n");
-            walk(film, p);
+            show::text(rt, b"\n")?;
+            walk(rt, film, p)?;
             if ends(other, p) {
-                show::text(b"    ends elsewhere\n");
+                show::text(rt, b"    ends elsewhere\n")?;
             }
+            Ok(())
         }
         Start::Refused(r) => {
-            show::text(b" refused");
-            show::next(r as u64);
-            show::text(b"\n");
+            show::text(rt, b" refused")?;
+            show::next(rt, r as u64)?;
+            show::text(rt, b"\n")
         }
     }
 }
 
-fn both(film: &[u8], other: &[u8], id: u32, n: u32) {
-    started(film, other, id, n);
-    by_handle(film, other, id, n);
+fn both(rt: &impl Print, film: &[u8], other: &[u8], id: u32, n: u32) -> io::Result<()> {
+    started(rt, film, other, id, n)?;
+    by_handle(rt, film, other, id, n)
 }
 
-fn track(film: &[u8], other: &[u8], id: u32) {
+fn track(rt: &impl Print, film: &[u8], other: &[u8], id: u32) -> io::Result<()> {
     let n = samples(film, id);
-    both(film, other, id, 0);
-    both(film, other, id, 1);
+    both(rt, film, other, id, 0)?;
+    both(rt, film, other, id, 1)?;
     if 1 < n {
-        both(film, other, id, n / 2 + 1);
-        both(film, other, id, n);
+        both(rt, film, other, id, n / 2 + 1)?;
+        both(rt, film, other, id, n)?;
     }
     if n < 4294967295 {
-        both(film, other, id, n + 1);
+        both(rt, film, other, id, n + 1)?;
     }
+    Ok(())
 }
 
-fn tracks(film: &[u8], other: &[u8]) {
-    track(film, other, 1);
-    track(film, other, 2);
-    track(film, other, 3);
+fn tracks(rt: &impl Print, film: &[u8], other: &[u8]) -> io::Result<()> {
+    track(rt, film, other, 1)?;
+    track(rt, film, other, 2)?;
+    track(rt, film, other, 3)
 }
 
-fn open(name: &[u8]) -> i32 {
-    let fd = os::open_read(name);
-    if fd < 0 {
-        os::fail(name);
+// The file that an argument names, open for reading; none where it cannot be opened.
+fn open_argument<R: Files + Eprint + AllocGlobal>(
+    rt: &R,
+    argument: &Argument,
+) -> io::Result<Option<R::File>> {
+    match name_given(rt, argument)? {
+        Some(name) => open_named(rt, name),
+        None => Ok(None),
     }
-    fd
-}
-
-// The file that an argument names, open for reading; below 0 where it cannot be opened.
-fn open_argument(i: usize) -> i32 {
-    let mut name = io::buffer();
-    let length = os::arg(i, &mut name);
-    if os::errno() != 0 {
-        os::fail(b"name");
-        return -1;
-    }
-    open(&name[..length])
 }
 
 // Up to 65,536 bytes of the other film; of a longer one the rest is not read.
-fn with_other(film: &[u8], fd: i32) {
-    let mut other = io::large_buffer();
-    let n = io::read_full(fd, &mut other);
-    tracks(film, &other[..n]);
+fn with_other(
+    rt: &(impl Print + AllocGlobal),
+    film: &[u8],
+    reader: &mut impl io::Read,
+) -> io::Result<()> {
+    let other = read_up_to(rt.alloc(), reader, MOST_FILM)?;
+    tracks(rt, film, &other)
 }
 
-fn beside(film: &[u8], other: usize) {
-    let fd = open_argument(other);
-    if fd < 0 {
-        return;
-    }
-    with_other(film, fd);
-    libc::close(fd);
+fn beside(
+    rt: &(impl Files + Print + Eprint + AllocGlobal),
+    film: &[u8],
+    other: &Argument,
+) -> io::Result<()> {
+    let Some(mut file) = open_argument(rt, other)? else {
+        return Ok(());
+    };
+    with_other(rt, film, &mut file)
 }
 
 // A film of up to 65,536 bytes; of a longer one the rest is not read.
-fn read_film(fd: i32, other: usize) {
-    let mut film = io::large_buffer();
-    let n = io::read_full(fd, &mut film);
-    beside(&film[..n], other);
+fn read_film(
+    rt: &(impl Files + Print + Eprint + AllocGlobal),
+    reader: &mut impl io::Read,
+    other: &Argument,
+) -> io::Result<()> {
+    let film = read_up_to(rt.alloc(), reader, MOST_FILM)?;
+    beside(rt, &film, other)
 }
 
 // A line with an argument.
-fn heading(i: usize) {
-    let mut name = io::buffer();
-    let length = os::arg(i, &mut name);
-    show::text(&name[..length]);
-    show::text(b"\n");
+fn heading(rt: &impl Print, argument: &Argument) -> io::Result<()> {
+    show::text(rt, argument.name())?;
+    show::text(rt, b"\n")
 }
 
-fn pair(film: usize, other: usize) {
-    heading(film);
-    let fd = open_argument(film);
-    if fd < 0 {
-        return;
-    }
-    read_film(fd, other);
-    libc::close(fd);
+fn pair(
+    rt: &(impl Files + Print + Eprint + AllocGlobal),
+    film: &Argument,
+    other: &Argument,
+) -> io::Result<()> {
+    heading(rt, film)?;
+    let Some(mut file) = open_argument(rt, film)? else {
+        return Ok(());
+    };
+    read_film(rt, &mut file, other)
 }
 
 // The arguments after the program's own name, two by two.
-fn main() {
-    let count = os::arg_count();
-    let mut i = 1;
+fn main(rt: HostRuntime) -> io::Result<()> {
+    let names = arguments(&rt)?;
+    let count = names.len();
+    let mut i = 0;
     while i < count {
         if count - i == 1 {
-            return;
+            return Ok(());
         }
-        pair(i, i + 1);
+        pair(&rt, &names[i], &names[i + 1])?;
         i += 2;
     }
+    Ok(())
 }

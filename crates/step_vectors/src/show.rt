@@ -1,24 +1,25 @@
 // What the lines are made of.
 use signs::absolute;
+use std::io;
 
-pub fn text(s: &[u8]) {
-    io::write_all(libc::STDOUT_FILENO, s);
+pub fn text(rt: &impl Print, s: &[u8]) -> io::Result<()> {
+    rt.write_all(s)
 }
 
-pub fn number(n: u64) {
-    io::print_decimal(libc::STDOUT_FILENO, n);
+pub fn number(rt: &impl Print, n: u64) -> io::Result<()> {
+    print!(rt; "{n}")
 }
 
 // A blank, and a number after it.
-pub fn next(n: u64) {
-    text(b" ");
-    number(n);
+pub fn next(rt: &impl Print, n: u64) -> io::Result<()> {
+    text(rt, b" ")?;
+    number(rt, n)
 }
 
 // What is below 0 is counted from -1 on, so that the least number has its place too.
-pub fn signed(n: i64) {
+pub fn signed(rt: &impl Print, n: i64) -> io::Result<()> {
     if n < 0 {
-        text(b"-");
+        text(rt, b"-")?;
     }
-    number(absolute(n));
+    number(rt, absolute(n))
 }

@@ -6,6 +6,7 @@ use super::{Ask, show};
 use edits::MediaTime;
 use slip::{Head, SlipRead, read_slip};
 use slip_writing::{SlipAnswer, write_slip};
+use std::io;
 use stretch::{StretchAnswer, stretch_of};
 use structure::source::Source;
 use track_list::{LINE, TrackList, track_list};
@@ -114,35 +115,36 @@ fn filled(count: usize, length: usize) -> usize
 }
 
 // The slip's length, its bytes, whether the rest is as it was, and whether the slip reads back.
-fn written(film: &[u8], ask: Ask, count: usize, room: &[u8]) {
+fn written(rt: &impl Print, film: &[u8], ask: Ask, count: usize, room: &[u8]) -> io::Result<()> {
     let n = filled(count, room.len());
-    show::number(count as u64);
-    show::text(b" bytes ");
-    show::bytes(&room[..n]);
-    show::text(b", rest");
-    show::untouched(is_untouched(&room[n..]));
+    show::number(rt, count as u64)?;
+    show::text(rt, b" bytes ")?;
+    show::bytes(rt, &room[..n])?;
+    show::text(rt, b", rest")?;
+    show::untouched(rt, is_untouched(&room[n..]))?;
     if reads_back(film, ask, &room[..n]) {
-        show::text(b", reads back");
+        show::text(rt, b", reads back")
     } else {
-        show::text(b", differs");
+        show::text(rt, b", differs")
     }
 }
 
-fn ask_in(film: &[u8], ask: Ask, room: &mut [u8]) {
+fn ask_in(rt: &impl Print, film: &[u8], ask: Ask, room: &mut [u8]) -> io::Result<()> {
     match write_slip(film, ask.id, MediaTime(ask.a), MediaTime(ask.b), room) {
-        SlipAnswer::Written(count) => written(film, ask, count, room),
-        SlipAnswer::Refused(number) => show::refused(number, is_untouched(room)),
+        SlipAnswer::Written(count) => written(rt, film, ask, count, room),
+        SlipAnswer::Refused(number) => show::refused(rt, number, is_untouched(room)),
     }
 }
 
 // Asks with a room of so many bytes, up to those of the longest.
-fn ask_with(film: &[u8], ask: Ask, length: usize) {
+fn ask_with(rt: &impl Print, film: &[u8], ask: Ask, length: usize) -> io::Result<()> {
     let mut room = [BYTE; BYTES];
     if length <= BYTES {
-        ask_in(film, ask, &mut room[..length]);
+        ask_in(rt, film, ask, &mut room[..length])?;
     }
+    Ok(())
 }
 
-pub fn slip(film: &[u8], ask: Ask) {
-    ask_with(film, ask, ask.room as usize);
+pub fn slip(rt: &impl Print, film: &[u8], ask: Ask) -> io::Result<()> {
+    ask_with(rt, film, ask, ask.room as usize)
 }

@@ -3,6 +3,7 @@ ghost use Rattle.std.specs.Prelude.{◌≤◌};
 
 use super::{Ask, show};
 use edits::MediaTime;
+use std::io;
 use stretch::{StretchAnswer, stretch_of};
 
 // What every place holds before a stretch is asked for. No film is long enough for it to be in a pair.
@@ -33,32 +34,33 @@ fn filled(count: usize, length: usize) -> usize
 }
 
 // The count of pairs, the total of bytes, the pairs, and whether the rest is as it was.
-fn answered(count: usize, bytes: u64, room: &[u32]) {
+fn answered(rt: &impl Print, count: usize, bytes: u64, room: &[u32]) -> io::Result<()> {
     let n = filled(count, room.len());
-    show::number(count as u64);
-    show::text(b" pairs, ");
-    show::number(bytes);
-    show::text(b" bytes:");
-    show::pairs(&room[..n]);
-    show::text(b", rest");
-    show::untouched(is_untouched(&room[n..]));
+    show::number(rt, count as u64)?;
+    show::text(rt, b" pairs, ")?;
+    show::number(rt, bytes)?;
+    show::text(rt, b" bytes:")?;
+    show::pairs(rt, &room[..n])?;
+    show::text(rt, b", rest")?;
+    show::untouched(rt, is_untouched(&room[n..]))
 }
 
-fn ask_in(film: &[u8], ask: Ask, room: &mut [u32]) {
+fn ask_in(rt: &impl Print, film: &[u8], ask: Ask, room: &mut [u32]) -> io::Result<()> {
     match stretch_of(film, ask.id, MediaTime(ask.a), MediaTime(ask.b), room) {
-        StretchAnswer::Pairs(count, bytes) => answered(count, bytes, room),
-        StretchAnswer::Refused(number) => show::refused(number, is_untouched(room)),
+        StretchAnswer::Pairs(count, bytes) => answered(rt, count, bytes, room),
+        StretchAnswer::Refused(number) => show::refused(rt, number, is_untouched(room)),
     }
 }
 
 // Asks with a room of so many places, up to those of the longest.
-fn ask_with(film: &[u8], ask: Ask, length: usize) {
+fn ask_with(rt: &impl Print, film: &[u8], ask: Ask, length: usize) -> io::Result<()> {
     let mut room = [GUARD; PLACES];
     if length <= PLACES {
-        ask_in(film, ask, &mut room[..length]);
+        ask_in(rt, film, ask, &mut room[..length])?;
     }
+    Ok(())
 }
 
-pub fn stretch(film: &[u8], ask: Ask) {
-    ask_with(film, ask, ask.room as usize);
+pub fn stretch(rt: &impl Print, film: &[u8], ask: Ask) -> io::Result<()> {
+    ask_with(rt, film, ask, ask.room as usize)
 }

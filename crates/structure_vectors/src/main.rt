@@ -2,45 +2,40 @@
 // lines are those that the reference in host/reference writes.
 #![tactic(auto)]
 
-use libc::STDOUT_FILENO;
+use program_input::{Argument, MOST_FILM, arguments, name_given, open_named, read_up_to};
+use std::alloc::{AllocError, Global};
+use std::io;
+use std::rt::Files;
 use structure::source::Source;
 
 // A film of up to 65,536 bytes; of a longer one the rest is not read.
-fn judge(fd: i32) -> u32 {
-    let mut film = io::large_buffer();
-    let n = io::read_full(fd, &mut film);
-    shape::judge(&film[..n], Source::whole()).refusal
+fn judge(alloc: Global, reader: &mut impl io::Read) -> Result<u32, AllocError> {
+    let film = read_up_to(alloc, reader, MOST_FILM)?;
+    Ok(shape::judge(&film, Source::whole()).refusal)
 }
 
-fn print(name: &[u8], number: u32) {
-    io::write_all(STDOUT_FILENO, name);
-    io::write_all(STDOUT_FILENO, b": ");
-    io::print_decimal(STDOUT_FILENO, number as u64);
-    io::write_all(STDOUT_FILENO, b"\n");
+fn print(rt: &impl Print, name: &[u8], number: u32) -> io::Result<()> {
+    rt.write_all(name)?;
+    rt.write_all(b": ")?;
+    print!(rt; "{number}")?;
+    rt.write_all(b"\n")
 }
 
-fn film(i: usize) {
-    let mut name = io::buffer();
-    let length = os::arg(i, &mut name);
-    if os::errno() != 0 {
-        os::fail(b"name");
-        return;
-    }
-    let fd = os::open_read(&name[..length]);
-    if fd < 0 {
-        os::fail(&name[..length]);
-        return;
-    }
-    let number = judge(fd);
-    libc::close(fd);
-    print(&name[..length], number);
+fn film(rt: &(impl Files + Print + Eprint + AllocGlobal), argument: &Argument) -> io::Result<()> {
+    let Some(name) = name_given(rt, argument)? else {
+        return Ok(());
+    };
+    let Some(mut file) = open_named(rt, name)? else {
+        return Ok(());
+    };
+    let number = judge(rt.alloc(), &mut file)?;
+    print(rt, name, number)
 }
 
-fn main() {
-    let count = os::arg_count();
-    let mut i = 1;
-    while i < count {
-        film(i);
-        i += 1;
+fn main(rt: HostRuntime) -> io::Result<()> {
+    let names = arguments(&rt)?;
+    for name in &names {
+        film(&rt, name)?;
     }
+    Ok(())
 }

@@ -8,6 +8,7 @@ use bigendian::{after, u32_at};
 use chunk_checks::deals_samples;
 use edits::MovieTime;
 use places::{Part, child_part, part_of};
+use std::io;
 
 // The atom at i, from 0, among those of that kind in the set; no bytes where there are no more than i.
 pub fn child(set: &[u8], kind: u32, i: usize) -> &[u8]
@@ -30,32 +31,32 @@ fn table(set: &[u8], kind: u32) -> &[u8]
 }
 
 // Of stts and ctts.
-fn of_runs(set: &[u8], question: u32, n: u32)
+fn of_runs(rt: &impl Print, set: &[u8], question: u32, n: u32) -> io::Result<()>
     requires { length set.now < 2 ^ 32 }
 {
     let stts = table(set, kinds::STTS);
     let ctts = table(set, kinds::CTTS);
     match question {
-        asks::STTS_COUNTS => show::truth(runs::counts(stts, n)),
-        asks::CTTS_COUNTS => show::truth(runs::counts(ctts, n)),
-        asks::TIMING_OF => show::timing(runs::timing_of(stts, n)),
-        asks::SAMPLE_AT => show::found(runs::sample_at(stts, n)),
-        _ => show::signed(runs::composition_offset(ctts, n)),
+        asks::STTS_COUNTS => show::truth(rt, runs::counts(stts, n)),
+        asks::CTTS_COUNTS => show::truth(rt, runs::counts(ctts, n)),
+        asks::TIMING_OF => show::timing(rt, runs::timing_of(stts, n)),
+        asks::SAMPLE_AT => show::found(rt, runs::sample_at(stts, n)),
+        _ => show::signed(rt, runs::composition_offset(ctts, n)),
     }
 }
 
 // Of stsz and stss.
-fn of_samples(set: &[u8], ask: Ask, n: u32)
+fn of_samples(rt: &impl Print, set: &[u8], ask: Ask, n: u32) -> io::Result<()>
     requires { length set.now < 2 ^ 32 }
 {
     let stsz = table(set, kinds::STSZ);
     let stss = table(set, kinds::STSS);
     let question = ask.question;
     match question {
-        asks::SIZE_OF => show::number_32(words::size_of(stsz, n)),
-        asks::BYTES_BETWEEN => show::number(words::bytes_between(stsz, ask.a, n)),
-        asks::SYNCS_AGREE => show::truth(words::syncs_agree(stss, n)),
-        _ => show::truth(words::is_sync(stss, n)),
+        asks::SIZE_OF => show::number_32(rt, words::size_of(stsz, n)),
+        asks::BYTES_BETWEEN => show::number(rt, words::bytes_between(stsz, ask.a, n)),
+        asks::SYNCS_AGREE => show::truth(rt, words::syncs_agree(stss, n)),
+        _ => show::truth(rt, words::is_sync(stss, n)),
     }
 }
 
@@ -68,7 +69,7 @@ fn place(set: &[u8], n: u32) -> chunks::Located
 }
 
 // Of stsc and stco.
-fn of_chunks(set: &[u8], ask: Ask, n: u32)
+fn of_chunks(rt: &impl Print, set: &[u8], ask: Ask, n: u32) -> io::Result<()>
     requires { length set.now < 2 ^ 32 }
 {
     let stsc = table(set, kinds::STSC);
@@ -77,113 +78,118 @@ fn of_chunks(set: &[u8], ask: Ask, n: u32)
     let question = ask.question;
     match question {
         asks::DEALS_BY_DESCRIPTIONS => {
-            show::truth(deals_samples(stsc, u32_at(stco, 12), n, ask.a))
+            show::truth(rt, deals_samples(stsc, u32_at(stco, 12), n, ask.a))
         }
-        asks::DEALS_BY_SAMPLES => { show::truth(deals_samples(stsc, u32_at(stco, 12), ask.a, n)) }
-        asks::LOCATE => show::located(place(set, n)),
-        asks::OFFSET_AT => show::number(chunks::located_offset(stsz, stco, place(set, n), n)),
-        asks::CHUNK_OFFSET => show::number(words::chunk_offset(stco, n as u64)),
-        _ => show::truth(chunk_ends::chunks_end_within(stsc, stsz, stco, n as u64)),
+        asks::DEALS_BY_SAMPLES => {
+            show::truth(rt, deals_samples(stsc, u32_at(stco, 12), ask.a, n))
+        }
+        asks::LOCATE => show::located(rt, place(set, n)),
+        asks::OFFSET_AT => show::number(rt, chunks::located_offset(stsz, stco, place(set, n), n)),
+        asks::CHUNK_OFFSET => show::number(rt, words::chunk_offset(stco, n as u64)),
+        _ => show::truth(
+            rt,
+            chunk_ends::chunks_end_within(stsc, stsz, stco, n as u64),
+        ),
     }
 }
 
 // Of elst.
-fn of_edits(set: &[u8], ask: Ask, n: u32)
+fn of_edits(rt: &impl Print, set: &[u8], ask: Ask, n: u32) -> io::Result<()>
     requires { length set.now < 2 ^ 32 }
 {
     let elst = table(set, kinds::ELST);
     let question = ask.question;
     match question {
-        asks::EDITS_OK => show::truth(edits::edits_ok(elst, ask.a, ask.b, n)),
-        _ => show::mapped(edits::media_at(elst, ask.a, ask.b, ask.c, MovieTime(n))),
+        asks::EDITS_OK => show::truth(rt, edits::edits_ok(elst, ask.a, ask.b, n)),
+        _ => show::mapped(rt, edits::media_at(elst, ask.a, ask.b, ask.c, MovieTime(n))),
     }
 }
 
-fn answer(set: &[u8], ask: Ask, n: u32)
+fn answer(rt: &impl Print, set: &[u8], ask: Ask, n: u32) -> io::Result<()>
     requires { length set.now < 2 ^ 32 }
 {
     let question = ask.question;
     match question {
-        asks::STTS_COUNTS..=asks::SHIFT_AT => of_runs(set, question, n),
-        asks::SIZE_OF..=asks::IS_SYNC => of_samples(set, ask, n),
-        asks::DEALS_BY_DESCRIPTIONS..=asks::ENDS_WITHIN => of_chunks(set, ask, n),
-        _ => of_edits(set, ask, n),
+        asks::STTS_COUNTS..=asks::SHIFT_AT => of_runs(rt, set, question, n),
+        asks::SIZE_OF..=asks::IS_SYNC => of_samples(rt, set, ask, n),
+        asks::DEALS_BY_DESCRIPTIONS..=asks::ENDS_WITHIN => of_chunks(rt, set, ask, n),
+        _ => of_edits(rt, set, ask, n),
     }
 }
 
 // The totals, which ask for no number.
-fn totals(set: &[u8])
+fn totals(rt: &impl Print, set: &[u8]) -> io::Result<()>
     requires { length set.now < 2 ^ 32 }
 {
     let stts = table(set, kinds::STTS);
-    show::text(b"total_duration ");
-    show::total(runs::total_duration(stts));
-    show::text(b", least_duration ");
-    show::number_32(runs::least_duration(stts));
-    show::text(b", all_bytes ");
-    show::number(words::all_bytes(table(set, kinds::STSZ)));
+    show::text(rt, b"total_duration ")?;
+    show::total(rt, runs::total_duration(stts))?;
+    show::text(rt, b", least_duration ")?;
+    show::number_32(rt, runs::least_duration(stts))?;
+    show::text(rt, b", all_bytes ")?;
+    show::number(rt, words::all_bytes(table(set, kinds::STSZ)))
 }
 
-fn edits_total(set: &[u8])
+fn edits_total(rt: &impl Print, set: &[u8]) -> io::Result<()>
     requires { length set.now < 2 ^ 32 }
 {
-    show::text(b"edits_total ");
-    show::total(edits::edits_total(table(set, kinds::ELST)));
+    show::text(rt, b"edits_total ")?;
+    show::total(rt, edits::edits_total(table(set, kinds::ELST)))
 }
 
-fn scales(words: &[u8], ask: Ask) {
-    show::text(words);
-    show::field(b" scale ", ask.a);
-    show::field(b" movie ", ask.b);
+fn scales(rt: &impl Print, words: &[u8], ask: Ask) -> io::Result<()> {
+    show::text(rt, words)?;
+    show::field(rt, b" scale ", ask.a)?;
+    show::field(rt, b" movie ", ask.b)
 }
 
 // The name of a question, with the numbers that belong to the whole line.
-fn heading(set: &[u8], ask: Ask)
+fn heading(rt: &impl Print, set: &[u8], ask: Ask) -> io::Result<()>
     requires { length set.now < 2 ^ 32 }
 {
     let question = ask.question;
     match question {
-        asks::STTS_COUNTS => show::text(b"counts in stts"),
-        asks::CTTS_COUNTS => show::text(b"counts in ctts"),
-        asks::TOTALS => totals(set),
-        asks::TIMING_OF => show::text(b"timing_of"),
-        asks::SAMPLE_AT => show::text(b"sample_at"),
-        asks::SHIFT_AT => show::text(b"composition_offset"),
-        asks::SIZE_OF => show::text(b"size_of"),
-        asks::BYTES_BETWEEN => show::field(b"bytes_between from ", ask.a),
-        asks::SYNCS_AGREE => show::text(b"syncs_agree"),
-        asks::IS_SYNC => show::text(b"is_sync"),
-        asks::DEALS_BY_DESCRIPTIONS => show::field(b"deals_samples samples ", ask.a),
-        asks::DEALS_BY_SAMPLES => show::field(b"deals_samples descriptions ", ask.a),
-        asks::LOCATE => show::text(b"locate"),
-        asks::OFFSET_AT => show::text(b"located_offset"),
-        asks::CHUNK_OFFSET => show::text(b"chunk_offset"),
-        asks::ENDS_WITHIN => show::text(b"chunks_end_within"),
-        asks::EDITS_TOTAL => edits_total(set),
-        asks::EDITS_OK => scales(b"edits_ok", ask),
+        asks::STTS_COUNTS => show::text(rt, b"counts in stts"),
+        asks::CTTS_COUNTS => show::text(rt, b"counts in ctts"),
+        asks::TOTALS => totals(rt, set),
+        asks::TIMING_OF => show::text(rt, b"timing_of"),
+        asks::SAMPLE_AT => show::text(rt, b"sample_at"),
+        asks::SHIFT_AT => show::text(rt, b"composition_offset"),
+        asks::SIZE_OF => show::text(rt, b"size_of"),
+        asks::BYTES_BETWEEN => show::field(rt, b"bytes_between from ", ask.a),
+        asks::SYNCS_AGREE => show::text(rt, b"syncs_agree"),
+        asks::IS_SYNC => show::text(rt, b"is_sync"),
+        asks::DEALS_BY_DESCRIPTIONS => show::field(rt, b"deals_samples samples ", ask.a),
+        asks::DEALS_BY_SAMPLES => show::field(rt, b"deals_samples descriptions ", ask.a),
+        asks::LOCATE => show::text(rt, b"locate"),
+        asks::OFFSET_AT => show::text(rt, b"located_offset"),
+        asks::CHUNK_OFFSET => show::text(rt, b"chunk_offset"),
+        asks::ENDS_WITHIN => show::text(rt, b"chunks_end_within"),
+        asks::EDITS_TOTAL => edits_total(rt, set),
+        asks::EDITS_OK => scales(rt, b"edits_ok", ask),
         asks::MEDIA_AT => {
-            scales(b"media_at", ask);
-            show::field(b" total ", ask.c);
+            scales(rt, b"media_at", ask)?;
+            show::field(rt, b" total ", ask.c)
         }
-        _ => show::text(b"no question"),
+        _ => show::text(rt, b"no question"),
     }
 }
 
-pub fn line(set: &[u8], atom: &[u8])
+pub fn line(rt: &impl Print, set: &[u8], atom: &[u8]) -> io::Result<()>
     requires { length set.now < 2 ^ 32 }
 {
     let ask = asks::ask_in(atom);
-    show::text(b"  ");
-    heading(set, ask);
+    show::text(rt, b"  ")?;
+    heading(rt, set, ask)?;
     let numbers = after(atom, asks::HEAD);
     let count = numbers.len() / 4;
     let mut i = 0;
     while i < count {
         let n = u32_at(numbers, 4 * i);
-        show::field(b" ", n);
-        show::text(b":");
-        answer(set, ask, n);
+        show::field(rt, b" ", n)?;
+        show::text(rt, b":")?;
+        answer(rt, set, ask, n)?;
         i += 1;
     }
-    show::text(b"\n");
+    show::text(rt, b"\n")
 }

@@ -9,50 +9,47 @@ mod show;
 
 ghost use Rattle.std.specs.Prelude.{◌<◌, ◌^◌, length};
 
-fn lines(set: &[u8])
+use program_input::{Argument, MOST_FILM, arguments, name_given, open_named, read_up_to};
+use std::io;
+use std::rt::Files;
+
+fn lines(rt: &impl Print, set: &[u8]) -> io::Result<()>
     requires { length set.now < 2 ^ 32 }
 {
     let mut i = 0;
     while i < set.len() {
         let atom = answers::child(set, asks::ASKS, i);
         if atom.len() == 0 {
-            return;
+            return Ok(());
         }
-        answers::line(set, atom);
+        answers::line(rt, set, atom)?;
         i += 1;
     }
+    Ok(())
 }
 
 // A set of up to 65,536 bytes; of a longer one the rest is not read.
-fn read(fd: i32) {
-    let mut set = io::large_buffer();
-    let n = io::read_full(fd, &mut set);
-    lines(&set[..n]);
+fn read(rt: &(impl Print + AllocGlobal), reader: &mut impl io::Read) -> io::Result<()> {
+    let set = read_up_to(rt.alloc(), reader, MOST_FILM)?;
+    lines(rt, &set)
 }
 
-fn set(i: usize) {
-    let mut name = io::buffer();
-    let length = os::arg(i, &mut name);
-    if os::errno() != 0 {
-        os::fail(b"name");
-        return;
-    }
-    let fd = os::open_read(&name[..length]);
-    if fd < 0 {
-        os::fail(&name[..length]);
-        return;
-    }
-    show::text(&name[..length]);
-    show::text(b"\n");
-    read(fd);
-    libc::close(fd);
+fn set(rt: &(impl Files + Print + Eprint + AllocGlobal), argument: &Argument) -> io::Result<()> {
+    let Some(name) = name_given(rt, argument)? else {
+        return Ok(());
+    };
+    let Some(mut file) = open_named(rt, name)? else {
+        return Ok(());
+    };
+    show::text(rt, name)?;
+    show::text(rt, b"\n")?;
+    read(rt, &mut file)
 }
 
-fn main() {
-    let count = os::arg_count();
-    let mut i = 1;
-    while i < count {
-        set(i);
-        i += 1;
+fn main(rt: HostRuntime) -> io::Result<()> {
+    let names = arguments(&rt)?;
+    for name in &names {
+        set(&rt, name)?;
     }
+    Ok(())
 }

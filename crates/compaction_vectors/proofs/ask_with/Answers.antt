@@ -6,4 +6,4 @@ use lib.Seq.{length-take-le}
 use Rattle.compaction_vectors.proofs.ask_with.Goals as goal
 
 pub slice_bounds-ask_in-end : goal.slice_bounds-ask_in-end
-slice_bounds-ask_in-end c = sym (length-take-le _ _ (omega arith))
+slice_bounds-ask_in-end g c = sym (length-take-le _ _ (omega arith))

@@ -5,4 +5,4 @@ use lib.Seq.{length-take-le}
 use Rattle.film_totals.proofs.print_return.Goals as goal
 
 pub slice_bounds-with_named-end : goal.slice_bounds-with_named-end
-slice_bounds-with_named-end c = sym (length-take-le _ _ c.name_length-n.ensures.1)
+slice_bounds-with_named-end g c = sym (length-take-le _ _ c.name_length-n.ensures.1)

@@ -5,7 +5,7 @@ use lib.ListN.{length}
 use Rattle.film_totals.proofs.print_return.Given as goal
 
 abbrev pub invariant-loop-rest : goal.invariant-loop-rest
-invariant-loop-rest l = length l.rest ≤ length l.names
+invariant-loop-rest g l = length l.rest ≤ length l.names
 
 abbrev pub decreases-loop-rest : goal.decreases-loop-rest
-decreases-loop-rest l = length l.rest
+decreases-loop-rest g l = length l.rest

@@ -6,4 +6,4 @@ use lib.Seq.{length-take-le}
 use Rattle.film_totals.proofs.with_named.Goals as goal
 
 pub slice_bounds-with_film-end : goal.slice_bounds-with_film-end
-slice_bounds-with_film-end c = sym (length-take-le _ _ (omega arith))
+slice_bounds-with_film-end g c = sym (length-take-le _ _ (omega arith))

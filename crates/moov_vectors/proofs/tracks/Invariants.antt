@@ -4,7 +4,7 @@ use lib.ListN.{length}
 use Rattle.moov_vectors.proofs.tracks.Given as goal
 
 abbrev pub invariant-loop-t : goal.invariant-loop-t
-invariant-loop-t l = Unit {0}
+invariant-loop-t g l = Unit {0}
 
 abbrev pub decreases-loop-t : goal.decreases-loop-t
-decreases-loop-t l = length l.t
+decreases-loop-t g l = length l.t

@@ -4,7 +4,7 @@ use Prim.Native.Nat.{◌-◌}
 use Rattle.profile_vectors.proofs.lines.Given as goal
 
 abbrev pub invariant-loop-id : goal.invariant-loop-id
-invariant-loop-id l = Unit {0}
+invariant-loop-id g l = Unit {0}
 
 abbrev pub decreases-loop-id : goal.decreases-loop-id
-decreases-loop-id l = 10 - l.id
+decreases-loop-id g l = 10 - l.id

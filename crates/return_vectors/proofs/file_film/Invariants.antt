@@ -4,7 +4,7 @@ use Prim.Native.Nat.{◌-◌}
 use Rattle.return_vectors.proofs.file_film.Given as goal
 
 abbrev pub invariant-loop-k : goal.invariant-loop-k
-invariant-loop-k l = Unit {0}
+invariant-loop-k g l = Unit {0}
 
 abbrev pub decreases-loop-k : goal.decreases-loop-k
-decreases-loop-k l = 26 - l.k
+decreases-loop-k g l = 26 - l.k

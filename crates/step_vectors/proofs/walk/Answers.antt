@@ -4,4 +4,4 @@ use native.Mathlib.Omega.{arith}
 use Rattle.step_vectors.proofs.walk.Goals as goal
 
 pub loop-left-smaller : goal.loop-left-smaller
-loop-left-smaller c = omega arith
+loop-left-smaller g c = omega arith

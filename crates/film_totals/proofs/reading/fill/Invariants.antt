@@ -6,7 +6,7 @@ use lib.ListN.{length}
 use Rattle.film_totals.proofs.reading.fill.Given as goal
 
 abbrev pub invariant-loop-n : goal.invariant-loop-n
-invariant-loop-n l = (l.n ≤ length l.room) × (length l.room ≡ length l.initial.room)
+invariant-loop-n g l = (l.n ≤ length l.room) × (length l.room ≡ length l.initial.room)
 
 abbrev pub decreases-loop-n : goal.decreases-loop-n
-decreases-loop-n l = length l.room - l.n
+decreases-loop-n g l = length l.room - l.n

@@ -6,4 +6,4 @@ use lib.Seq.{length-take-le}
 use Rattle.hoses_example.proofs.answers.answer.Goals as goal
 
 pub slice_bounds-print_answers-end : goal.slice_bounds-print_answers-end
-slice_bounds-print_answers-end c = sym (length-take-le _ _ (omega arith))
+slice_bounds-print_answers-end g c = sym (length-take-le _ _ (omega arith))

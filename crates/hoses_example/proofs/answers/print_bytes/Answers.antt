@@ -6,4 +6,4 @@ use lib.Seq.{length-take-le}
 use Rattle.hoses_example.proofs.answers.print_bytes.Goals as goal
 
 pub slice_bounds-print_pairs-end : goal.slice_bounds-print_pairs-end
-slice_bounds-print_pairs-end c = sym (length-take-le _ _ (omega arith))
+slice_bounds-print_pairs-end g c = sym (length-take-le _ _ (omega arith))

@@ -6,4 +6,4 @@ use lib.Seq.{length-take-le}
 use Rattle.movie_vectors.proofs.rooms.ask_with.Goals as goal
 
 pub slice_bounds-ask-end : goal.slice_bounds-ask-end
-slice_bounds-ask-end c = sym (length-take-le _ _ (omega arith))
+slice_bounds-ask-end g c = sym (length-take-le _ _ (omega arith))

@@ -4,4 +4,4 @@ use Rattle.std.proofs.Common.{sym, arith, length-take-le}
 use Rattle.question_vectors.proofs.rooms.ask_with.Goals as goal
 
 pub slice_bounds-ask-end : goal.slice_bounds-ask-end
-slice_bounds-ask-end c = sym (length-take-le _ _ (omega arith))
+slice_bounds-ask-end g c = sym (length-take-le _ _ (omega arith))

@@ -4,4 +4,4 @@ use Rattle.std.proofs.Common.{sym, arith, length-take-le}
 use Rattle.question_vectors.proofs.rooms.kept.Goals as goal
 
 pub slice_bounds-numbers-end : goal.slice_bounds-numbers-end
-slice_bounds-numbers-end c = sym (length-take-le _ _ (omega arith))
+slice_bounds-numbers-end g c = sym (length-take-le _ _ (omega arith))

@@ -6,4 +6,4 @@ use lib.Seq.{length-take-le}
 use Rattle.slip_vectors.proofs.reading.slip.Goals as goal
 
 pub slice_bounds-slip_into-end : goal.slice_bounds-slip_into-end
-slice_bounds-slip_into-end c = sym (length-take-le _ _ (omega arith))
+slice_bounds-slip_into-end g c = sym (length-take-le _ _ (omega arith))

@@ -4,7 +4,7 @@ use mathlib.Core.Path.{◌∙◌}
 use Rattle.slip_vectors.proofs.writing.put_numbers.Goals as goal
 
 pub loop-t-preserved : goal.loop-t-preserved
-loop-t-preserved c = c.put_number-at.auto.0 ∙ c.loop-t.invariant
+loop-t-preserved g c = c.put_number-at.auto.0 ∙ c.loop-t.invariant
 
 pub shape_of-out : goal.shape_of-out
-shape_of-out c = c.loop-t.invariant
+shape_of-out g c = c.loop-t.invariant

@@ -5,7 +5,7 @@ use lib.ListN.{length}
 use Rattle.slip_vectors.proofs.writing.put_numbers.Given as goal
 
 abbrev pub invariant-loop-t : goal.invariant-loop-t
-invariant-loop-t l = length l.out ≡ length l.initial.out
+invariant-loop-t g l = length l.out ≡ length l.initial.out
 
 abbrev pub decreases-loop-t : goal.decreases-loop-t
-decreases-loop-t l = length l.t
+decreases-loop-t g l = length l.t

@@ -6,4 +6,4 @@ use lib.Seq.{length-take-le}
 use Rattle.slip_vectors.proofs.writing.slip.Goals as goal
 
 pub slice_bounds-slip_in-end : goal.slice_bounds-slip_in-end
-slice_bounds-slip_in-end c = sym (length-take-le _ _ (omega arith))
+slice_bounds-slip_in-end g c = sym (length-take-le _ _ (omega arith))

@@ -4,4 +4,4 @@ use Rattle.std.proofs.Common.{sym, arith, length-take-le}
 use Rattle.stretch_vectors.proofs.stretches.answered.Goals as goal
 
 pub slice_bounds-pairs-end : goal.slice_bounds-pairs-end
-slice_bounds-pairs-end c = sym (length-take-le _ _ (omega arith))
+slice_bounds-pairs-end g c = sym (length-take-le _ _ (omega arith))

@@ -4,7 +4,7 @@ use Prim.Native.Nat.{◌-◌}
 use Rattle.tables_vectors.proofs.answers.line.Given as goal
 
 abbrev pub invariant-loop-i : goal.invariant-loop-i
-invariant-loop-i l = Unit {0}
+invariant-loop-i g l = Unit {0}
 
 abbrev pub decreases-loop-i : goal.decreases-loop-i
-decreases-loop-i l = l.count - i
+decreases-loop-i g l = l.count - i
