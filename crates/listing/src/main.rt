@@ -4,7 +4,9 @@
 
 mod show;
 
-use program_input::{Argument, MOST_FILM, arguments, name_given, open_named, read_full, read_up_to};
+use program_input::{
+    Argument, MOST_FILM, arguments, name_given, open_named, read_full, read_up_to,
+};
 use std::io;
 use std::rt::Files;
 use structure::source::Source;

@@ -6,4 +6,4 @@ abbrev pub invariant-loop-left : goal.invariant-loop-left
 invariant-loop-left g l = Unit {0}
 
 abbrev pub decreases-loop-left : goal.decreases-loop-left
-decreases-loop-left g l = left
+decreases-loop-left g l = l.left
