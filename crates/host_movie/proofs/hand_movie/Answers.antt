@@ -6,8 +6,8 @@ use Rattle.host_movie.proofs.hand_movie.Goals as goal
 
 pub returns-in-Movie : goal.returns-in-Movie
 unfolding movie_numbers
-returns-in-Movie c =     handed _ _ _ _ _ _ (of_case movie_numbers c.movie_header.ensures.answer c.in-Movie.is) c.hand.ensures
+returns-in-Movie c = handed _ _ _ _ _ _ (of_case movie_numbers c.movie_header.ensures.answer c.in-Movie.is) c.hand.ensures
 
 pub returns-in-Refused : goal.returns-in-Refused
 unfolding movie_numbers
-returns-in-Refused c =     handed _ _ _ _ _ _ (of_case movie_numbers c.movie_header.ensures.answer c.in-Refused.is) c.hand-in-Refused.ensures
+returns-in-Refused c = handed _ _ _ _ _ _ (of_case movie_numbers c.movie_header.ensures.answer c.in-Refused.is) c.hand-in-Refused.ensures
