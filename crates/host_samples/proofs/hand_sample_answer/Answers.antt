@@ -7,6 +7,9 @@ use lib.IntN.{pos}
 use mir.Syntax.{w64}
 use mir.Val.{bool_byte, to_z}
 use mir.ValLaws.{to_z-of_z}
+use Rattle.std.proofs.lemmas.Int.{to_z_pos}
+use mir.Val.{SFits}
+use borrow.Author.Rules.{rules}
 use Rattle.questions.specs.Samples.{sample_zeros, sample_numbers}
 use Rattle.hand.proofs.Answered.{handed_signed}
 use Rattle.host_samples.proofs.hand_sample_answer.Goals as goal
@@ -27,19 +30,20 @@ overflow_cast-s-in-Found-5 c = record { sfits = omega (arith, (c.requires _ c.in
 pub returns-in-Found : goal.returns-in-Found
 unfolding sample_numbers
 returns-in-Found c =
+    let s = c.in-Found.s in
+    let q = c.requires _ c.in-Found.is in
     let z =
     rw (
-      to_z-of_z w64 _ (cast-t9 c),
-      to_z-of_z w64 _ (cast-t10 c),
-      to_z-of_z w64 _ (cast-t11 c),
-      to_z-of_z w64 _ (cast-t12 c),
-      to_z-of_z w64 _ (cast-t13 c),
-      to_z-of_z w64 _ (cast-t14 c),
-      to_z-of_z w64 _ (record { sfits = c.struct_told-1.given.1.1.0.1 }),
-      as_number _,
+      to_z_pos w64 s.decode (omega (arith, q.0)),
+      to_z_pos w64 s.duration (omega arith),
+      to_z_pos w64 s.description (omega arith),
+      to_z_pos w64 s.chunk (omega (arith, q.1)),
+      to_z_pos w64 s.offset (omega (arith, q.2)),
+      to_z_pos w64 s.size (omega arith),
     )
     at c.hand_signed.ensures in
-    handed_signed _ _ _ _ _ _ (ap sample_numbers c.in-Found.is) z
+    let f : SFits w64 s.composition = search rules in
+    handed_signed _ _ _ _ _ _ (ap sample_numbers c.in-Found.is) (rw (to_z-of_z w64 s.composition f, as_number s.sync) at z)
 
 pub returns-in-Refused : goal.returns-in-Refused
 unfolding sample_numbers sample_zeros
