@@ -8,7 +8,7 @@ use Rattle.host_wide_stretches.proofs.hand_wide_stretch.Goals as goal
 
 pub returns-then-places-lt2 : goal.returns-then-places-lt2
 unfolding stretch_refusal
-returns-then-places-lt2 c =     too_few _ _ _ _ _ _ _ _ (stretch_judged _ _ _ _ _ _) refl c.if-places-lt2.true (rw (← c.span_refusal.ensures) c.or_short.ensures)
+returns-then-places-lt2 c = too_few _ _ _ _ _ _ _ _ (stretch_judged _ _ _ _ _ _) refl c.if-places-lt2.true (rw (← c.span_refusal.ensures) c.or_short.ensures)
 
 pub returns-in-Pairs : goal.returns-in-Pairs
 unfolding stretch_numbers
