@@ -3,6 +3,8 @@
 use Prim.Native.Nat.{◌-◌}
 use mathlib.Core.Path.{refl}
 use native.Mathlib.Omega.{arith}
+use lib.IntN.{pos}
+use lib.ListN.{get_or}
 use mir.Syntax.{w64}
 use mir.ValLaws.{to_z-of_z}
 use Rattle.hand.proofs.Handing.{turn, short, all}
@@ -24,7 +26,7 @@ pub loop-k-smaller : goal.loop-k-smaller
 loop-k-smaller c = omega arith
 
 pub loop-k-preserved : goal.loop-k-preserved
-loop-k-preserved c = rw (to_z-of_z w64 _ (record { sfits = c.places-1.given })) (turn _ _ _ _ _ c.loop-k-test.true c.loop-k.invariant)
+loop-k-preserved c = rw (to_z-of_z w64 (get_or c.args.values.now c.loop-k.k (pos 0)) (record { sfits = omega arith })) (turn _ _ _ _ _ c.loop-k-test.true c.loop-k.invariant)
 
 pub shape_of-places : goal.shape_of-places
 shape_of-places c = c.loop-k.invariant.same
