@@ -6,7 +6,7 @@ use Rattle.host_opened.proofs.Again.{Fits, hands_handle}
 use Rattle.host_opened.proofs.hand_handle.Goals as goal
 
 pub overflow_cast-h-5 : goal.overflow_cast-h-5
-overflow_cast-h-5 c = record { fits = omega (arith, c.struct_known-5-1.given.1.1.1.1.1.1.0) }
+overflow_cast-h-5 c = record { fits = omega arith }
 
 pub returns : goal.returns
 unfolding opened_numbers
