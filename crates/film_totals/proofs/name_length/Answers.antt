@@ -1,6 +1,5 @@
 -- `film_totals::name_length` meets its contract. The loop's invariant: no line feed is among the first i bytes.
 -- Assumes nothing.
-use Prim.Native.Nat.{◌-◌}
 use native.Mathlib.Omega.{arith}
 use Rattle.film_totals.proofs.Names.{feed_here, feed_later, no_feed}
 use Rattle.film_totals.proofs.name_length.Goals as goal
