@@ -5,14 +5,14 @@ use std::collections::HashMap;
 const BYTES: &str = include_str!("../../../crates/film_w/specs/Bytes.antt");
 const FILE: &[u8] = include_bytes!("../../../films/w.mov");
 
-/// A number, `[]`, `replicate count byte`, `placesFrom first count`, or the name of a definition above.
+/// A number, `[]`, `replicate count byte`, `places_from first count`, or the name of a definition above.
 fn term(text: &str, known: &HashMap<&str, Vec<u8>>) -> Vec<u8> {
     let words: Vec<&str> = text.split_whitespace().collect();
     let number = |i: usize| words[i].parse::<usize>().unwrap();
     match words[..] {
         ["[]"] => Vec::new(),
         ["replicate", _, byte] => vec![byte.parse().unwrap(); number(1)],
-        ["placesFrom", _, _] => (number(1)..).take(number(2)).map(|i| u8::try_from(i % 251).unwrap()).collect(),
+        ["places_from", _, _] => (number(1)..).take(number(2)).map(|i| u8::try_from(i % 251).unwrap()).collect(),
         [name] => known.get(name).cloned().unwrap_or_else(|| vec![name.parse().unwrap()]),
         _ => panic!("not read: {text}"),
     }
