@@ -5,7 +5,9 @@
 
 use bigendian::{after, u32_at, u64_at};
 use compaction::{Compacted, compact_moov};
-use program_input::{Argument, MOST_FILM, arguments, name_given, open_named, read_up_to};
+use program_input::{
+    Argument, MOST_FILM, MOST_NAME, argument_at, name_given, open_named, read_full,
+};
 use std::io;
 use std::rt::Files;
 use structure::source::Source;
@@ -73,12 +75,14 @@ fn stored(rt: &impl Print, film: &[u8]) -> io::Result<()> {
 }
 
 // A film of up to 65,536 bytes with its lengths; of a longer one the rest is not read.
-fn read(rt: &(impl Print + AllocGlobal), reader: &mut impl io::Read) -> io::Result<()> {
-    let film = read_up_to(rt.alloc(), reader, MOST_FILM)?;
-    stored(rt, &film)
+fn read(rt: &impl Print, reader: &mut impl io::Read) -> io::Result<()> {
+    let mut room = [0u8; MOST_FILM];
+    let count = read_full(reader, &mut room);
+    let film = &room[..count];
+    stored(rt, film)
 }
 
-fn open(rt: &(impl Files + Print + Eprint + AllocGlobal), name: &[u8]) -> io::Result<()> {
+fn open(rt: &(impl Files + Print + Eprint), name: &[u8]) -> io::Result<()> {
     text(rt, name)?;
     text(rt, b": ")?;
     let Some(mut file) = open_named(rt, name)? else {
@@ -87,7 +91,7 @@ fn open(rt: &(impl Files + Print + Eprint + AllocGlobal), name: &[u8]) -> io::Re
     read(rt, &mut file)
 }
 
-fn film(rt: &(impl Files + Print + Eprint + AllocGlobal), argument: &Argument) -> io::Result<()> {
+fn film(rt: &(impl Files + Print + Eprint), argument: Argument) -> io::Result<()> {
     let Some(name) = name_given(rt, argument)? else {
         return Ok(());
     };
@@ -95,9 +99,12 @@ fn film(rt: &(impl Files + Print + Eprint + AllocGlobal), argument: &Argument) -
 }
 
 fn main(rt: HostRuntime) -> io::Result<()> {
-    let names = arguments(&rt)?;
-    for name in &names {
-        film(&rt, name)?;
+    for i in 1..usize::MAX {
+        let mut room = [0u8; MOST_NAME];
+        match argument_at(&rt, i, &mut room) {
+            Some(next) => film(&rt, next)?,
+            None => break,
+        }
     }
     Ok(())
 }

@@ -28,13 +28,9 @@ fn with_film(rt: &impl Print, r: FilmReturn, film: &[u8], name: &[u8]) -> io::Re
 }
 
 // The return with the film of that name in it, if it is counted.
-fn with_named(
-    rt: &(impl Files + Print + AllocGlobal),
-    r: FilmReturn,
-    name: &[u8],
-) -> io::Result<FilmReturn> {
-    let mut room = vec![in rt.alloc(); 0u8; MOST_FILM]?;
-    let read = read_named(rt, name, room.as_mut_slice());
+fn with_named(rt: &(impl Files + Print), r: FilmReturn, name: &[u8]) -> io::Result<FilmReturn> {
+    let mut room = [0u8; MOST_FILM];
+    let read = read_named(rt, name, &mut room);
     if read.failure.is_some() {
         show::skipped(rt, name)?;
         return Ok(r);
@@ -61,7 +57,7 @@ fn name_length(names: &[u8]) -> usize
     i
 }
 
-fn print_return(rt: &(impl Files + Print + AllocGlobal), names: &[u8]) -> io::Result<()> {
+fn print_return(rt: &(impl Files + Print), names: &[u8]) -> io::Result<()> {
     let mut r = FilmReturn::empty();
     let mut rest = names;
     while 0 < rest.len() {
@@ -78,8 +74,8 @@ fn print_return(rt: &(impl Files + Print + AllocGlobal), names: &[u8]) -> io::Re
 }
 
 fn main(rt: HostRuntime) -> io::Result<()> {
-    let mut names = vec![in rt.alloc(); 0u8; MOST_FILM]?;
-    let read = read_from(&mut rt.reader(), names.as_mut_slice());
+    let mut names = [0u8; MOST_FILM];
+    let read = read_from(&mut rt.reader(), &mut names);
     if let Some(kind) = read.failure {
         return eprintln!(rt; "standard input: {kind}");
     }

@@ -7,7 +7,7 @@ mod filing;
 mod show;
 
 use program_input::{
-    Argument, MOST_FILM, arguments, name_given, open_named, read_full, read_up_to,
+    Argument, MOST_FILM, MOST_NAME, argument_at, name_given, open_named, read_full,
 };
 use std::io;
 use std::rt::Files;
@@ -22,17 +22,19 @@ fn has_more(reader: &mut impl io::Read) -> bool {
 }
 
 // The film is read to the input's end, as the listing does: one byte more is asked for only after a full buffer.
-fn answer_input(rt: &(impl Print + AllocGlobal), reader: &mut impl io::Read) -> io::Result<()> {
-    let film = read_up_to(rt.alloc(), reader, MOST_BYTES)?;
+fn answer_input(rt: &impl Print, reader: &mut impl io::Read) -> io::Result<()> {
+    let mut room = [0u8; MOST_BYTES];
+    let count = read_full(reader, &mut room);
+    let film = &room[..count];
     if film.len() == MOST_BYTES {
         if has_more(reader) {
             return show::text(rt, b"too long\n");
         }
     }
-    answers::answer(rt, &film)
+    answers::answer(rt, film)
 }
 
-fn answer_file(rt: &(impl Files + Print + Eprint + AllocGlobal), name: &[u8]) -> io::Result<()> {
+fn answer_file(rt: &(impl Files + Print + Eprint), name: &[u8]) -> io::Result<()> {
     match open_named(rt, name)? {
         Some(mut file) => answer_input(rt, &mut file),
         None => Ok(()),
@@ -46,10 +48,7 @@ fn is_dash(name: &[u8]) -> bool {
     name[0] == b'-'
 }
 
-fn answer_named(
-    rt: &(impl Files + Input + Print + Eprint + AllocGlobal),
-    name: &[u8],
-) -> io::Result<()> {
+fn answer_named(rt: &(impl Files + Input + Print + Eprint), name: &[u8]) -> io::Result<()> {
     if is_dash(name) {
         answer_input(rt, &mut rt.reader())
     } else {
@@ -57,10 +56,7 @@ fn answer_named(
     }
 }
 
-fn argument(
-    rt: &(impl Files + Input + Print + Eprint + AllocGlobal),
-    argument: &Argument,
-) -> io::Result<()> {
+fn argument(rt: &(impl Files + Input + Print + Eprint), argument: Argument) -> io::Result<()> {
     match name_given(rt, argument)? {
         Some(name) => answer_named(rt, name),
         None => Ok(()),
@@ -68,12 +64,17 @@ fn argument(
 }
 
 fn main(rt: HostRuntime) -> io::Result<()> {
-    let names = arguments(&rt)?;
-    if names.is_empty() {
-        answer_input(&rt, &mut rt.reader())?;
-    }
-    for name in &names {
-        argument(&rt, name)?;
+    for i in 1..usize::MAX {
+        let mut room = [0u8; MOST_NAME];
+        match argument_at(&rt, i, &mut room) {
+            Some(next) => argument(&rt, next)?,
+            None => {
+                if i == 1 {
+                    answer_input(&rt, &mut rt.reader())?;
+                }
+                break;
+            }
+        }
     }
     Ok(())
 }

@@ -5,7 +5,7 @@
 mod show;
 
 use program_input::{
-    Argument, MOST_FILM, arguments, name_given, open_named, read_full, read_up_to,
+    Argument, MOST_FILM, MOST_NAME, argument_at, name_given, open_named, read_full,
 };
 use std::io;
 use std::rt::Files;
@@ -60,17 +60,19 @@ fn has_more(reader: &mut impl io::Read) -> bool {
 
 // Lists the film that is read to the input's end, whatever is given at a time; a read that fails counts as the end. Only after a full buffer is one byte
 // more asked for: an input that has ended is not read again, since a terminal would wait.
-fn list(rt: &(impl Print + AllocGlobal), reader: &mut impl io::Read) -> io::Result<()> {
-    let film = read_up_to(rt.alloc(), reader, MOST_BYTES)?;
+fn list(rt: &impl Print, reader: &mut impl io::Read) -> io::Result<()> {
+    let mut room = [0u8; MOST_BYTES];
+    let count = read_full(reader, &mut room);
+    let film = &room[..count];
     if film.len() == MOST_BYTES {
         if has_more(reader) {
             return show::too_long(rt);
         }
     }
-    print_list(rt, &film)
+    print_list(rt, film)
 }
 
-fn list_file(rt: &(impl Files + Print + Eprint + AllocGlobal), name: &[u8]) -> io::Result<()> {
+fn list_file(rt: &(impl Files + Print + Eprint), name: &[u8]) -> io::Result<()> {
     match open_named(rt, name)? {
         Some(mut file) => list(rt, &mut file),
         None => Ok(()),
@@ -84,10 +86,7 @@ fn is_dash(name: &[u8]) -> bool {
     name[0] == b'-'
 }
 
-fn list_named(
-    rt: &(impl Files + Input + Print + Eprint + AllocGlobal),
-    name: &[u8],
-) -> io::Result<()> {
+fn list_named(rt: &(impl Files + Input + Print + Eprint), name: &[u8]) -> io::Result<()> {
     if is_dash(name) {
         list(rt, &mut rt.reader())
     } else {
@@ -95,10 +94,7 @@ fn list_named(
     }
 }
 
-fn argument(
-    rt: &(impl Files + Input + Print + Eprint + AllocGlobal),
-    argument: &Argument,
-) -> io::Result<()> {
+fn argument(rt: &(impl Files + Input + Print + Eprint), argument: Argument) -> io::Result<()> {
     match name_given(rt, argument)? {
         Some(name) => list_named(rt, name),
         None => Ok(()),
@@ -106,12 +102,17 @@ fn argument(
 }
 
 fn main(rt: HostRuntime) -> io::Result<()> {
-    let names = arguments(&rt)?;
-    if names.is_empty() {
-        list(&rt, &mut rt.reader())?;
-    }
-    for name in &names {
-        argument(&rt, name)?;
+    for i in 1..usize::MAX {
+        let mut room = [0u8; MOST_NAME];
+        match argument_at(&rt, i, &mut room) {
+            Some(next) => argument(&rt, next)?,
+            None => {
+                if i == 1 {
+                    list(&rt, &mut rt.reader())?;
+                }
+                break;
+            }
+        }
     }
     Ok(())
 }

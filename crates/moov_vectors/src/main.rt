@@ -7,7 +7,9 @@ mod show;
 
 use bigendian::{after, u64_at};
 use host_tracks::hand_track_list;
-use program_input::{Argument, MOST_FILM, arguments, name_given, open_named, read_up_to};
+use program_input::{
+    Argument, MOST_FILM, MOST_NAME, argument_at, name_given, open_named, read_full,
+};
 use std::io;
 use std::rt::Files;
 use structure::source::Source;
@@ -110,12 +112,14 @@ fn stored(rt: &impl Print, file: &[u8]) -> io::Result<()> {
 }
 
 // A film of up to 65,536 bytes; of a longer one the rest is not read.
-fn read(rt: &(impl Print + AllocGlobal), reader: &mut impl io::Read) -> io::Result<()> {
-    let file = read_up_to(rt.alloc(), reader, MOST_FILM)?;
-    stored(rt, &file)
+fn read(rt: &impl Print, reader: &mut impl io::Read) -> io::Result<()> {
+    let mut room = [0u8; MOST_FILM];
+    let count = read_full(reader, &mut room);
+    let file = &room[..count];
+    stored(rt, file)
 }
 
-fn open(rt: &(impl Files + Print + Eprint + AllocGlobal), name: &[u8]) -> io::Result<()> {
+fn open(rt: &(impl Files + Print + Eprint), name: &[u8]) -> io::Result<()> {
     show::text(rt, name)?;
     show::text(rt, b"\n")?;
     let Some(mut file) = open_named(rt, name)? else {
@@ -124,7 +128,7 @@ fn open(rt: &(impl Files + Print + Eprint + AllocGlobal), name: &[u8]) -> io::Re
     read(rt, &mut file)
 }
 
-fn named(rt: &(impl Files + Print + Eprint + AllocGlobal), argument: &Argument) -> io::Result<()> {
+fn named(rt: &(impl Files + Print + Eprint), argument: Argument) -> io::Result<()> {
     let Some(name) = name_given(rt, argument)? else {
         return Ok(());
     };
@@ -132,9 +136,12 @@ fn named(rt: &(impl Files + Print + Eprint + AllocGlobal), argument: &Argument) 
 }
 
 fn main(rt: HostRuntime) -> io::Result<()> {
-    let names = arguments(&rt)?;
-    for name in &names {
-        named(&rt, name)?;
+    for i in 1..usize::MAX {
+        let mut room = [0u8; MOST_NAME];
+        match argument_at(&rt, i, &mut room) {
+            Some(next) => named(&rt, next)?,
+            None => break,
+        }
     }
     Ok(())
 }

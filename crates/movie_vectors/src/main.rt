@@ -5,7 +5,9 @@
 mod rooms;
 mod show;
 
-use program_input::{Argument, MOST_FILM, arguments, name_given, open_named, read_up_to};
+use program_input::{
+    Argument, MOST_FILM, MOST_NAME, argument_at, name_given, open_named, read_full,
+};
 use std::io;
 use std::rt::Files;
 use structure::source::Source;
@@ -26,16 +28,14 @@ fn lines(rt: &impl Print, name: &[u8], film: &[u8]) -> io::Result<()> {
 }
 
 // A film of up to 65,536 bytes; of a longer one the rest is not read.
-fn read(
-    rt: &(impl Print + AllocGlobal),
-    reader: &mut impl io::Read,
-    name: &[u8],
-) -> io::Result<()> {
-    let film = read_up_to(rt.alloc(), reader, MOST_FILM)?;
-    lines(rt, name, &film)
+fn read(rt: &impl Print, reader: &mut impl io::Read, name: &[u8]) -> io::Result<()> {
+    let mut room = [0u8; MOST_FILM];
+    let count = read_full(reader, &mut room);
+    let film = &room[..count];
+    lines(rt, name, film)
 }
 
-fn film(rt: &(impl Files + Print + Eprint + AllocGlobal), argument: &Argument) -> io::Result<()> {
+fn film(rt: &(impl Files + Print + Eprint), argument: Argument) -> io::Result<()> {
     let Some(name) = name_given(rt, argument)? else {
         return Ok(());
     };
@@ -46,9 +46,12 @@ fn film(rt: &(impl Files + Print + Eprint + AllocGlobal), argument: &Argument) -
 }
 
 fn main(rt: HostRuntime) -> io::Result<()> {
-    let names = arguments(&rt)?;
-    for name in &names {
-        film(&rt, name)?;
+    for i in 1..usize::MAX {
+        let mut room = [0u8; MOST_NAME];
+        match argument_at(&rt, i, &mut room) {
+            Some(next) => film(&rt, next)?,
+            None => break,
+        }
     }
     Ok(())
 }

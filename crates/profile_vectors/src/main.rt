@@ -3,7 +3,9 @@
 #![tactic(auto)]
 
 use profile_checks::{ProfileCheckAnswer, check_profile};
-use program_input::{Argument, MOST_FILM, arguments, name_given, open_named, read_up_to};
+use program_input::{
+    Argument, MOST_FILM, MOST_NAME, argument_at, name_given, open_named, read_full,
+};
 use std::io;
 use std::rt::Files;
 use structure::source::Source;
@@ -36,12 +38,14 @@ fn lines(rt: &impl Print, film: &[u8]) -> io::Result<()> {
 }
 
 // A film of up to 65,536 bytes; of a longer one the rest is not read.
-fn read_film(rt: &(impl Print + AllocGlobal), reader: &mut impl io::Read) -> io::Result<()> {
-    let film = read_up_to(rt.alloc(), reader, MOST_FILM)?;
-    lines(rt, &film)
+fn read_film(rt: &impl Print, reader: &mut impl io::Read) -> io::Result<()> {
+    let mut room = [0u8; MOST_FILM];
+    let count = read_full(reader, &mut room);
+    let film = &room[..count];
+    lines(rt, film)
 }
 
-fn ask(rt: &(impl Files + Print + Eprint + AllocGlobal), name: &[u8]) -> io::Result<()> {
+fn ask(rt: &(impl Files + Print + Eprint), name: &[u8]) -> io::Result<()> {
     text(rt, name)?;
     text(rt, b"\n")?;
     let Some(mut file) = open_named(rt, name)? else {
@@ -51,10 +55,7 @@ fn ask(rt: &(impl Files + Print + Eprint + AllocGlobal), name: &[u8]) -> io::Res
 }
 
 // The film that an argument names.
-fn argument(
-    rt: &(impl Files + Print + Eprint + AllocGlobal),
-    argument: &Argument,
-) -> io::Result<()> {
+fn argument(rt: &(impl Files + Print + Eprint), argument: Argument) -> io::Result<()> {
     let Some(name) = name_given(rt, argument)? else {
         return Ok(());
     };
@@ -63,9 +64,12 @@ fn argument(
 
 // The arguments after the program's own name.
 fn main(rt: HostRuntime) -> io::Result<()> {
-    let names = arguments(&rt)?;
-    for name in &names {
-        argument(&rt, name)?;
+    for i in 1..usize::MAX {
+        let mut room = [0u8; MOST_NAME];
+        match argument_at(&rt, i, &mut room) {
+            Some(next) => argument(&rt, next)?,
+            None => break,
+        }
     }
     Ok(())
 }

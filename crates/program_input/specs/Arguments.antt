@@ -5,7 +5,7 @@ use Rattle.program_input.specs.declared.Argument.TheVariants.{Name, TooLong}
 
 -- the bytes of the name that an argument gives; none where it is too long
 abbrev pub name_of : Argument → List ℕ
-name_of (Name bytes) = bytes.items
+name_of (Name bytes) = bytes.now
 name_of TooLong = []
 
 -- a name has 4,096 bytes at most

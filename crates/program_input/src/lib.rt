@@ -1,11 +1,10 @@
 // What the programs read: the arguments that they are started with, the files that these name, and bytes up to so many.
 #![tactic(auto)]
 
-ghost use Rattle.std.specs.Prelude.{◌≡◌, ◌≤◌, ◌↔◌, length, take, All, IfOk, IfSome, IsNone, IsErr, IsUtf8, vec_len};
+ghost use Rattle.std.specs.Prelude.{◌≡◌, ◌≤◌, ◌↔◌, length, take, IfOk, IfSome, IsNone, IsErr, IsUtf8};
 ghost use Rattle.std.specs.Io.KnownBytes.{Consumes};
 ghost use Rattle.program_input.specs.Arguments.{name_of, IsShort};
 
-use std::alloc::{AllocError, Global};
 use std::env::FillError;
 use std::rt::{Env, Files};
 use std::{fs, io};
@@ -17,59 +16,46 @@ pub const MOST_NAME: usize = 4096;
 pub const MOST_FILM: usize = 65536;
 
 // An argument: the bytes of a name, or that it has more of them than a name may have.
-#[derive(Drop)]
-pub enum Argument {
-    Name(Vec<u8>),
+#[derive(Clone, Copy)]
+pub enum Argument<'a> {
+    Name(&'a [u8]),
     TooLong,
 }
 
-impl Argument {
+impl<'a> Argument<'a> {
     // The name; no bytes where it is too long.
-    pub fn name(&self) -> &[u8]
-        ensures { result.now ≡ name_of self.now }
+    pub fn name(self) -> &'a [u8]
+        ensures { result.now ≡ name_of self.entry }
     {
         match self {
-            Argument::Name(bytes) => bytes.as_slice(),
+            Argument::Name(bytes) => bytes,
             Argument::TooLong => &[],
         }
     }
 }
 
-fn argument_at<R: Env + AllocGlobal>(rt: &R, i: usize) -> Result<Option<Argument>, AllocError>
-    ensures { IfOk result (λ a. IfSome a IsShort) }
+// The argument of a number, in the room lent; none past the last. The program's own name has the number 0.
+pub fn argument_at<'a>(
+    rt: &impl Env,
+    i: usize,
+    room: &'a mut [u8; MOST_NAME],
+) -> Option<Argument<'a>>
+    ensures { IfSome result IsShort }
 {
-    let mut room = [0u8; MOST_NAME];
-    match rt.arg(i, &mut room) {
-        Ok(n) => {
-            let bytes = Vec::from_slice(rt.alloc(), &room[..n])?;
-            Ok(Some(Argument::Name(bytes)))
-        }
-        Err(FillError::TooLong) => Ok(Some(Argument::TooLong)),
-        Err(FillError::NotPresent) => Ok(None),
+    match rt.arg(i, room) {
+        Ok(n) => Some(Argument::Name(&room[..n])),
+        Err(FillError::TooLong) => Some(Argument::TooLong),
+        Err(FillError::NotPresent) => None,
     }
-}
-
-// The arguments after the program's own name.
-pub fn arguments<R: Env + AllocGlobal>(rt: &R) -> Result<Vec<Argument>, AllocError>
-    ensures { IfOk result (λ all. All IsShort all.items) }
-{
-    let mut all = Vec::new(rt.alloc());
-    for i in 1..usize::MAX {
-        match argument_at(rt, i)? {
-            Some(next) => all.push(next)?,
-            None => break,
-        }
-    }
-    Ok(all)
 }
 
 // The name that an argument gives. Where it is too long, a line on standard error says so.
-pub fn name_given<'a>(rt: &impl Eprint, argument: &'a Argument) -> io::Result<Option<&'a [u8]>>
-    ensures name { IfOk result (λ name. IfSome name (λ bytes. bytes.now ≡ name_of argument.now)) }
-    ensures none { IfOk result (λ name. IsNone name ↔ (argument.now ≡ Argument.TooLong)) }
+pub fn name_given<'a>(rt: &impl Eprint, argument: Argument<'a>) -> io::Result<Option<&'a [u8]>>
+    ensures name { IfOk result (λ name. IfSome name (λ bytes. bytes.now ≡ name_of argument.entry)) }
+    ensures none { IfOk result (λ name. IsNone name ↔ (argument.entry ≡ Argument.TooLong)) }
 {
     match argument {
-        Argument::Name(bytes) => Ok(Some(bytes.as_slice())),
+        Argument::Name(bytes) => Ok(Some(bytes)),
         Argument::TooLong => {
             eprintln!(rt; "name: more than {MOST_NAME} bytes")?;
             Ok(None)
@@ -88,17 +74,16 @@ pub fn open_read<R: Files>(rt: &R, name: &[u8]) -> io::Result<R::File>
 }
 
 // The file of a name, opened for reading. Where it cannot be opened, a line on standard error says so.
-pub fn open_named<R: Files + Eprint + AllocGlobal>(
-    rt: &R,
-    name: &[u8],
-) -> io::Result<Option<R::File>>
+pub fn open_named<R: Files + Eprint>(rt: &R, name: &[u8]) -> io::Result<Option<R::File>>
     ensures { (IsUtf8 name.now → ⊥) → IfOk result (λ file. IsNone file) }
 {
     match open_read(rt, name) {
         Ok(file) => Ok(Some(file)),
         Err(error) => {
-            let said = String::from_utf8_lossy(rt.alloc(), name)?;
-            eprintln!(rt; "{said}: {error}")?;
+            match str::from_utf8(name) {
+                Ok(text) => eprintln!(rt; "{text}: {error}")?,
+                Err(_) => eprintln!(rt; "a name that is not UTF-8: {error}")?,
+            }
             Ok(None)
         }
     }
@@ -117,19 +102,4 @@ pub fn read_full<R: io::Read>(reader: &mut R, room: &mut [u8]) -> usize
         }
     }
     done
-}
-
-// Up to so many bytes; of more the rest is not read. A read that fails counts as the end.
-pub fn read_up_to<R: io::Read>(
-    alloc: Global,
-    reader: &mut R,
-    most: usize,
-) -> Result<Vec<u8>, AllocError>
-    ensures bound { IfOk result (λ v. vec_len v ≤ most) }
-    ensures bytes { IfOk result (λ v. Consumes (R.remaining reader.old) (R.remaining reader.new) v.items) }
-{
-    let mut bytes = vec![in alloc; 0u8; most]?;
-    let n = read_full(reader, bytes.as_mut_slice());
-    bytes.truncate(n);
-    Ok(bytes)
 }

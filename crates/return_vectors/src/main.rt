@@ -5,7 +5,7 @@
 mod show;
 
 use film_return::add_film;
-use program_input::{MOST_FILM, arguments, open_named, read_up_to};
+use program_input::{MOST_FILM, MOST_NAME, argument_at, open_named, read_full};
 use return_numbers::{NUMBERS, return_in};
 use return_totals::{FilmReturn, join_returns};
 use std::io;
@@ -79,12 +79,14 @@ fn file_film(rt: &impl Print, film: &[u8]) -> io::Result<()> {
     Ok(())
 }
 
-fn file_named(rt: &(impl Files + Print + Eprint + AllocGlobal), name: &[u8]) -> io::Result<()> {
+fn file_named(rt: &(impl Files + Print + Eprint), name: &[u8]) -> io::Result<()> {
     let Some(mut file) = open_named(rt, name)? else {
         return Ok(());
     };
-    let film = read_up_to(rt.alloc(), &mut file, MOST_FILM)?;
-    file_film(rt, &film)
+    let mut room = [0u8; MOST_FILM];
+    let count = read_full(&mut file, &mut room);
+    let film = &room[..count];
+    file_film(rt, film)
 }
 
 // How many pairs of returns are joined.
@@ -144,9 +146,12 @@ fn join_pairs(rt: &impl Print) -> io::Result<()> {
 }
 
 fn main(rt: HostRuntime) -> io::Result<()> {
-    let names = arguments(&rt)?;
-    for name in &names {
-        file_named(&rt, name.name())?;
+    for i in 1..usize::MAX {
+        let mut room = [0u8; MOST_NAME];
+        match argument_at(&rt, i, &mut room) {
+            Some(next) => file_named(&rt, next.name())?,
+            None => break,
+        }
     }
     join_pairs(&rt)
 }

@@ -7,7 +7,7 @@ mod show;
 mod writing;
 
 use bigendian::{after, u32_at, u64_at};
-use program_input::{Argument, arguments, name_given, open_named, read_up_to};
+use program_input::{Argument, MOST_NAME, argument_at, name_given, open_named, read_full};
 use std::io;
 use std::rt::Files;
 
@@ -50,13 +50,15 @@ fn answer(rt: &impl Print, case: &[u8]) -> io::Result<()> {
 }
 
 // A case of up to 4,096 bytes; of a longer one the rest is not read.
-fn read(rt: &(impl Print + AllocGlobal), reader: &mut impl io::Read) -> io::Result<()> {
-    let case = read_up_to(rt.alloc(), reader, MOST_CASE)?;
-    answer(rt, &case)?;
+fn read(rt: &impl Print, reader: &mut impl io::Read) -> io::Result<()> {
+    let mut room = [0u8; MOST_CASE];
+    let count = read_full(reader, &mut room);
+    let case = &room[..count];
+    answer(rt, case)?;
     show::text(rt, b"\n")
 }
 
-fn case(rt: &(impl Files + Print + Eprint + AllocGlobal), argument: &Argument) -> io::Result<()> {
+fn case(rt: &(impl Files + Print + Eprint), argument: Argument) -> io::Result<()> {
     let Some(name) = name_given(rt, argument)? else {
         return Ok(());
     };
@@ -68,9 +70,12 @@ fn case(rt: &(impl Files + Print + Eprint + AllocGlobal), argument: &Argument) -
 }
 
 fn main(rt: HostRuntime) -> io::Result<()> {
-    let names = arguments(&rt)?;
-    for name in &names {
-        case(&rt, name)?;
+    for i in 1..usize::MAX {
+        let mut room = [0u8; MOST_NAME];
+        match argument_at(&rt, i, &mut room) {
+            Some(next) => case(&rt, next)?,
+            None => break,
+        }
     }
     Ok(())
 }

@@ -8,10 +8,12 @@ mod handles;
 mod show;
 
 use handles::by_handle;
-use program_input::{Argument, MOST_FILM, arguments, name_given, open_named, read_up_to};
+use program_input::{
+    Argument, MOST_FILM, MOST_NAME, argument_at, name_given, open_named, read_full,
+};
 use questions::samples::Sample;
 use std::io;
-use std::rt::Files;
+use std::rt::{Env, Files};
 use stepping::{Start, Step, Stepper};
 use structure::source::Source;
 
@@ -135,10 +137,7 @@ fn tracks(rt: &impl Print, film: &[u8], other: &[u8]) -> io::Result<()> {
 }
 
 // The file that an argument names, open for reading; none where it cannot be opened.
-fn open_argument<R: Files + Eprint + AllocGlobal>(
-    rt: &R,
-    argument: &Argument,
-) -> io::Result<Option<R::File>> {
+fn open_argument<R: Files + Eprint>(rt: &R, argument: Argument) -> io::Result<Option<R::File>> {
     match name_given(rt, argument)? {
         Some(name) => open_named(rt, name),
         None => Ok(None),
@@ -146,20 +145,14 @@ fn open_argument<R: Files + Eprint + AllocGlobal>(
 }
 
 // Up to 65,536 bytes of the other film; of a longer one the rest is not read.
-fn with_other(
-    rt: &(impl Print + AllocGlobal),
-    film: &[u8],
-    reader: &mut impl io::Read,
-) -> io::Result<()> {
-    let other = read_up_to(rt.alloc(), reader, MOST_FILM)?;
-    tracks(rt, film, &other)
+fn with_other(rt: &impl Print, film: &[u8], reader: &mut impl io::Read) -> io::Result<()> {
+    let mut room = [0u8; MOST_FILM];
+    let count = read_full(reader, &mut room);
+    let other = &room[..count];
+    tracks(rt, film, other)
 }
 
-fn beside(
-    rt: &(impl Files + Print + Eprint + AllocGlobal),
-    film: &[u8],
-    other: &Argument,
-) -> io::Result<()> {
+fn beside(rt: &(impl Files + Print + Eprint), film: &[u8], other: Argument) -> io::Result<()> {
     let Some(mut file) = open_argument(rt, other)? else {
         return Ok(());
     };
@@ -168,25 +161,23 @@ fn beside(
 
 // A film of up to 65,536 bytes; of a longer one the rest is not read.
 fn read_film(
-    rt: &(impl Files + Print + Eprint + AllocGlobal),
+    rt: &(impl Files + Print + Eprint),
     reader: &mut impl io::Read,
-    other: &Argument,
+    other: Argument,
 ) -> io::Result<()> {
-    let film = read_up_to(rt.alloc(), reader, MOST_FILM)?;
-    beside(rt, &film, other)
+    let mut room = [0u8; MOST_FILM];
+    let count = read_full(reader, &mut room);
+    let film = &room[..count];
+    beside(rt, film, other)
 }
 
 // A line with an argument.
-fn heading(rt: &impl Print, argument: &Argument) -> io::Result<()> {
+fn heading(rt: &impl Print, argument: Argument) -> io::Result<()> {
     show::text(rt, argument.name())?;
     show::text(rt, b"\n")
 }
 
-fn pair(
-    rt: &(impl Files + Print + Eprint + AllocGlobal),
-    film: &Argument,
-    other: &Argument,
-) -> io::Result<()> {
+fn pair(rt: &(impl Files + Print + Eprint), film: Argument, other: Argument) -> io::Result<()> {
     heading(rt, film)?;
     let Some(mut file) = open_argument(rt, film)? else {
         return Ok(());
@@ -194,16 +185,31 @@ fn pair(
     read_film(rt, &mut file, other)
 }
 
+// The two films, by the arguments of those numbers. Answers whether there are both.
+fn pair_at(
+    rt: &(impl Files + Env + Print + Eprint),
+    film: usize,
+    other: usize,
+) -> io::Result<bool> {
+    let mut room = [0u8; MOST_NAME];
+    let Some(first) = argument_at(rt, film, &mut room) else {
+        return Ok(false);
+    };
+    let mut other_room = [0u8; MOST_NAME];
+    let Some(second) = argument_at(rt, other, &mut other_room) else {
+        return Ok(false);
+    };
+    pair(rt, first, second)?;
+    Ok(true)
+}
+
 // The arguments after the program's own name, two by two.
 fn main(rt: HostRuntime) -> io::Result<()> {
-    let names = arguments(&rt)?;
-    let count = names.len();
-    let mut i = 0;
-    while i < count {
-        if count - i == 1 {
-            return Ok(());
+    let mut i = 1;
+    while i < usize::MAX - 1 {
+        if !pair_at(&rt, i, i + 1)? {
+            break;
         }
-        pair(&rt, &names[i], &names[i + 1])?;
         i += 2;
     }
     Ok(())

@@ -7,9 +7,11 @@ mod slips;
 mod stretches;
 
 use bigendian::u32_at;
-use program_input::{Argument, MOST_FILM, arguments, name_given, open_named, read_up_to};
+use program_input::{
+    Argument, MOST_FILM, MOST_NAME, argument_at, name_given, open_named, read_full,
+};
 use std::io;
-use std::rt::Files;
+use std::rt::{Env, Files};
 
 // The kinds of questions.
 const STRETCH: u32 = 1;
@@ -62,10 +64,7 @@ fn lines(rt: &impl Print, film: &[u8], questions: &[u8]) -> io::Result<()> {
 }
 
 // The file that an argument names, open for reading; none where it cannot be opened.
-fn open_argument<R: Files + Eprint + AllocGlobal>(
-    rt: &R,
-    argument: &Argument,
-) -> io::Result<Option<R::File>> {
+fn open_argument<R: Files + Eprint>(rt: &R, argument: Argument) -> io::Result<Option<R::File>> {
     match name_given(rt, argument)? {
         Some(name) => open_named(rt, name),
         None => Ok(None),
@@ -73,21 +72,15 @@ fn open_argument<R: Files + Eprint + AllocGlobal>(
 }
 
 // Up to 65,536 bytes of questions; of more the rest is not read.
-fn read_questions(
-    rt: &(impl Print + AllocGlobal),
-    film: &[u8],
-    reader: &mut impl io::Read,
-) -> io::Result<()> {
-    let questions = read_up_to(rt.alloc(), reader, MOST_FILM)?;
-    lines(rt, film, &questions)
+fn read_questions(rt: &impl Print, film: &[u8], reader: &mut impl io::Read) -> io::Result<()> {
+    let mut room = [0u8; MOST_FILM];
+    let count = read_full(reader, &mut room);
+    let questions = &room[..count];
+    lines(rt, film, questions)
 }
 
 // Asks a film the questions in the file that an argument names.
-fn ask_all(
-    rt: &(impl Files + Print + Eprint + AllocGlobal),
-    film: &[u8],
-    questions: &Argument,
-) -> io::Result<()> {
+fn ask_all(rt: &(impl Files + Print + Eprint), film: &[u8], questions: Argument) -> io::Result<()> {
     let Some(mut file) = open_argument(rt, questions)? else {
         return Ok(());
     };
@@ -96,26 +89,24 @@ fn ask_all(
 
 // A film of up to so many bytes; of a longer one the rest is not read.
 fn read_film(
-    rt: &(impl Files + Print + Eprint + AllocGlobal),
+    rt: &(impl Files + Print + Eprint),
     reader: &mut impl io::Read,
-    questions: &Argument,
+    questions: Argument,
 ) -> io::Result<()> {
-    let film = read_up_to(rt.alloc(), reader, FILM)?;
-    ask_all(rt, &film, questions)
+    let mut room = [0u8; FILM];
+    let count = read_full(reader, &mut room);
+    let film = &room[..count];
+    ask_all(rt, film, questions)
 }
 
 // A line with an argument.
-fn heading(rt: &impl Print, argument: &Argument) -> io::Result<()> {
+fn heading(rt: &impl Print, argument: Argument) -> io::Result<()> {
     show::text(rt, argument.name())?;
     show::text(rt, b"\n")
 }
 
 // A film and the questions that it is asked, each by the argument that names it.
-fn pair(
-    rt: &(impl Files + Print + Eprint + AllocGlobal),
-    film: &Argument,
-    questions: &Argument,
-) -> io::Result<()> {
+fn pair(rt: &(impl Files + Print + Eprint), film: Argument, questions: Argument) -> io::Result<()> {
     heading(rt, film)?;
     let Some(mut file) = open_argument(rt, film)? else {
         return Ok(());
@@ -123,16 +114,31 @@ fn pair(
     read_film(rt, &mut file, questions)
 }
 
+// The film and what it is asked, by the arguments of those numbers. Answers whether there are both.
+fn pair_at(
+    rt: &(impl Files + Env + Print + Eprint),
+    film: usize,
+    questions: usize,
+) -> io::Result<bool> {
+    let mut room = [0u8; MOST_NAME];
+    let Some(first) = argument_at(rt, film, &mut room) else {
+        return Ok(false);
+    };
+    let mut other_room = [0u8; MOST_NAME];
+    let Some(second) = argument_at(rt, questions, &mut other_room) else {
+        return Ok(false);
+    };
+    pair(rt, first, second)?;
+    Ok(true)
+}
+
 // The arguments after the program's own name, two by two.
 fn main(rt: HostRuntime) -> io::Result<()> {
-    let names = arguments(&rt)?;
-    let count = names.len();
-    let mut i = 0;
-    while i < count {
-        if count - i == 1 {
-            return Ok(());
+    let mut i = 1;
+    while i < usize::MAX - 1 {
+        if !pair_at(&rt, i, i + 1)? {
+            break;
         }
-        pair(&rt, &names[i], &names[i + 1])?;
         i += 2;
     }
     Ok(())

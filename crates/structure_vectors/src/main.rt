@@ -2,16 +2,19 @@
 // lines are those that the reference in host/reference writes.
 #![tactic(auto)]
 
-use program_input::{Argument, MOST_FILM, arguments, name_given, open_named, read_up_to};
-use std::alloc::{AllocError, Global};
+use program_input::{
+    Argument, MOST_FILM, MOST_NAME, argument_at, name_given, open_named, read_full,
+};
 use std::io;
 use std::rt::Files;
 use structure::source::Source;
 
 // A film of up to 65,536 bytes; of a longer one the rest is not read.
-fn judge(alloc: Global, reader: &mut impl io::Read) -> Result<u32, AllocError> {
-    let film = read_up_to(alloc, reader, MOST_FILM)?;
-    Ok(shape::judge(&film, Source::whole()).refusal)
+fn judge(reader: &mut impl io::Read) -> u32 {
+    let mut room = [0u8; MOST_FILM];
+    let count = read_full(reader, &mut room);
+    let film = &room[..count];
+    shape::judge(film, Source::whole()).refusal
 }
 
 fn print(rt: &impl Print, name: &[u8], number: u32) -> io::Result<()> {
@@ -21,21 +24,24 @@ fn print(rt: &impl Print, name: &[u8], number: u32) -> io::Result<()> {
     rt.write_all(b"\n")
 }
 
-fn film(rt: &(impl Files + Print + Eprint + AllocGlobal), argument: &Argument) -> io::Result<()> {
+fn film(rt: &(impl Files + Print + Eprint), argument: Argument) -> io::Result<()> {
     let Some(name) = name_given(rt, argument)? else {
         return Ok(());
     };
     let Some(mut file) = open_named(rt, name)? else {
         return Ok(());
     };
-    let number = judge(rt.alloc(), &mut file)?;
+    let number = judge(&mut file);
     print(rt, name, number)
 }
 
 fn main(rt: HostRuntime) -> io::Result<()> {
-    let names = arguments(&rt)?;
-    for name in &names {
-        film(&rt, name)?;
+    for i in 1..usize::MAX {
+        let mut room = [0u8; MOST_NAME];
+        match argument_at(&rt, i, &mut room) {
+            Some(next) => film(&rt, next)?,
+            None => break,
+        }
     }
     Ok(())
 }

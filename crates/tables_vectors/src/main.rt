@@ -9,7 +9,9 @@ mod show;
 
 ghost use Rattle.std.specs.Prelude.{◌<◌, ◌^◌, length};
 
-use program_input::{Argument, MOST_FILM, arguments, name_given, open_named, read_up_to};
+use program_input::{
+    Argument, MOST_FILM, MOST_NAME, argument_at, name_given, open_named, read_full,
+};
 use std::io;
 use std::rt::Files;
 
@@ -29,12 +31,14 @@ fn lines(rt: &impl Print, set: &[u8]) -> io::Result<()>
 }
 
 // A set of up to 65,536 bytes; of a longer one the rest is not read.
-fn read(rt: &(impl Print + AllocGlobal), reader: &mut impl io::Read) -> io::Result<()> {
-    let set = read_up_to(rt.alloc(), reader, MOST_FILM)?;
-    lines(rt, &set)
+fn read(rt: &impl Print, reader: &mut impl io::Read) -> io::Result<()> {
+    let mut room = [0u8; MOST_FILM];
+    let count = read_full(reader, &mut room);
+    let set = &room[..count];
+    lines(rt, set)
 }
 
-fn set(rt: &(impl Files + Print + Eprint + AllocGlobal), argument: &Argument) -> io::Result<()> {
+fn set(rt: &(impl Files + Print + Eprint), argument: Argument) -> io::Result<()> {
     let Some(name) = name_given(rt, argument)? else {
         return Ok(());
     };
@@ -47,9 +51,12 @@ fn set(rt: &(impl Files + Print + Eprint + AllocGlobal), argument: &Argument) ->
 }
 
 fn main(rt: HostRuntime) -> io::Result<()> {
-    let names = arguments(&rt)?;
-    for name in &names {
-        set(&rt, name)?;
+    for i in 1..usize::MAX {
+        let mut room = [0u8; MOST_NAME];
+        match argument_at(&rt, i, &mut room) {
+            Some(next) => set(&rt, next)?,
+            None => break,
+        }
     }
     Ok(())
 }
