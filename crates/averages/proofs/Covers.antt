@@ -1,12 +1,13 @@
 -- Samples between two media times, added by what is found at each; and a sum over the entries of an edit list, entry after entry.
 -- Assumes nothing.
-use Prim.Native.Nat.{ℕ, zero, suc, ◌+◌, ◌-◌, ◌*◌, ◌≤◌, ◌<◌}
-use mathlib.Core.Path.{◌≡◌, refl, sym, ap, ◌∙◌}
+use Rattle.std.specs.Prelude.{Option}
+use Prim.Native.Nat.{ℕ, suc, ◌+◌, ◌-◌, ◌*◌, ◌≤◌, ◌<◌}
+use mathlib.Core.Path.{◌≡◌, refl, ap, ◌∙◌}
 use mathlib.Core.Bool.{true}
 use mathlib.Core.List.{List, [], ◌∷◌, ◌++◌}
 use native.Mathlib.Nat.{mul-le-mul_right}
 use native.Mathlib.Omega.{arith}
-use lib.ListN.{length, get_or, drop}
+use lib.ListN.{length}
 use Rattle.lists.specs.Lists.{sum, before, between, expand, holder}
 use Rattle.lists.proofs.Places.{before_suc, before_le, before_mono, before_drop, holder_holds, holder_mono, holds_below}
 use Rattle.lists.proofs.Booleans.{cond_both}
@@ -15,7 +16,6 @@ use Rattle.runs.specs.declared.Hit.{Hit}
 use Rattle.edits.specs.Edits.{edit_ok, all_ok}
 use Rattle.edits.specs.declared.Edit.{Edit}
 use Rattle.rates.specs.Rates.{rate_of}
-use Rattle.rates.specs.declared.Feature.{Feature}
 use Rattle.rates.proofs.Orders.{eightfold}
 use Rattle.averages.specs.Averages.{Range, range_at, covered_by, covered, added_over, average_over}
 use Rattle.averages.specs.Computed.{added_in, added_all, Small, Edited}
@@ -128,7 +128,7 @@ module _ (scale movie : ℕ) (ds zs : List ℕ) where
       λ i. record { bytes = x i; units = y i }
 
 -- 8 may stand with either factor
-pub average_is : (scale : ℕ) (ds zs : List ℕ) (rs : List Range) (x : Added) (r : Feature) → x ≡ added_all ds zs rs → r ≡ rate_of (x.bytes * (8 * scale)) x.units
+pub average_is : (scale : ℕ) (ds zs : List ℕ) (rs : List Range) (x : Added) (r : Option ℕ) → x ≡ added_all ds zs rs → r ≡ rate_of (x.bytes * (8 * scale)) x.units
     → r ≡ average_over scale ds zs rs
 unfolding average_over
 average_is scale ds zs rs x r p e =

@@ -1,12 +1,11 @@
 -- Document 02, Ask 2, "Averages must respect edits". ds are the durations of a track's samples and zs their sizes; scale is the
 -- media's time scale, movie the movie's.
-use Rattle.std.specs.Prelude.{ℕ, suc, ◌+◌, ◌-◌, ◌*◌, List, [], ◌∷◌, ◌++◌, map}
+use Rattle.std.specs.Prelude.{ℕ, suc, ◌+◌, ◌-◌, ◌*◌, List, [], ◌∷◌, ◌++◌, map, Option}
 use Rattle.lists.specs.Lists.{sum, between, holder}
 use Rattle.edits.specs.Edits.{start_of, in_media}
 use Rattle.edits.specs.declared.Edit.{Edit}
 use Rattle.edits.specs.declared.EditStart.{EditStart}
 use Rattle.edits.specs.declared.EditStart.TheVariants.{From, Empty, Wrong}
-use Rattle.rates.specs.declared.Feature.{Feature}
 use Rattle.rates.specs.Rates.{rate_of}
 
 -- samples by index, from one up to, not including, another
@@ -38,5 +37,5 @@ abbrev pub added_over : List ℕ → List Range → ℕ
 added_over xs rs = sum (map (λ r. between xs r.from r.stop) rs)
 
 -- document 01: "8 × all sizes × scale / total", of these samples. Document 02: "18 also when no entry shows media": the divisor is then 0
-unfoldable pub average_over : ℕ → List ℕ → List ℕ → List Range → Feature
+unfoldable pub average_over : ℕ → List ℕ → List ℕ → List Range → Option ℕ
 average_over scale ds zs rs = rate_of (8 * added_over zs rs * scale) (added_over ds rs)

@@ -13,8 +13,8 @@ ghost use Rattle.averages.specs.Computed.{added_in, added_all, Small, Edited};
 
 use bigendian::after;
 use edits::{Edit, EditStart, MediaTime, edit_at, last_place, start_of};
-use rates::{Feature, rate};
-use runs::{Hit, Looked, look_up};
+use rates::rate;
+use runs::{Hit, look_up};
 use words::bytes_between;
 
 // The sizes and the durations of some samples, added.
@@ -29,8 +29,7 @@ fn hit_at(stts: &[u8], t: u32) -> Hit
     requires { (length stts.now < 2 ^ 32) × (t < sum (per_sample stts.now)) }
     ensures { result ≡ hit_of (runs_of stts.now) t }
 {
-    let r = look_up(stts, t);
-    let Looked::Hit(hit) = r else {
+    let Some(hit) = look_up(stts, t) else {
         return Hit {
             index: 0,
             entry: 0,
@@ -77,21 +76,18 @@ fn edits_added(stts: &[u8], stsz: &[u8], elst: &[u8], scale: u32, movie: u32) ->
     requires { Small stts.now × Edited scale movie (sum (per_sample stts.now)) (edits elst.now) }
     ensures { result ≡ added_all (per_sample stts.now) (sizes stsz.now) (covered scale movie (per_sample stts.now) (edits elst.now)) }
 {
-    let part = after(elst, 16);
-    let mut t = part;
     let mut bytes: u64 = 0;
     let mut units: u64 = 0;
-    while 12 <= t.len() {
-        let a = entry_added(stts, stsz, edit_at(t), scale, movie);
+    for entry in after(elst, 16).chunks_exact(12) {
+        let a = entry_added(stts, stsz, edit_at(entry), scale, movie);
         bytes += a.bytes;
         units += a.units;
-        t = &t[12..];
     }
     Added { bytes, units }
 }
 
-// The average rate over the samples that the entries cover, in bits a second.
-pub fn edited_average(stts: &[u8], stsz: &[u8], elst: &[u8], scale: u32, movie: u32) -> Feature
+// The average rate over the samples that the entries cover, in bits a second, where it can be computed.
+pub fn edited_average(stts: &[u8], stsz: &[u8], elst: &[u8], scale: u32, movie: u32) -> Option<u32>
     requires { Small stts.now × Edited scale movie (sum (per_sample stts.now)) (edits elst.now) }
     ensures { result ≡ average_over scale (per_sample stts.now) (sizes stsz.now) (covered scale movie (per_sample stts.now) (edits elst.now)) }
 {

@@ -1,3 +1,4 @@
 pub mod Halves
 pub mod Laws
 pub mod Parts
+pub mod Entries

@@ -1,11 +1,13 @@
 -- Bytes written one after the other from an offset on.
 -- Assumes nothing.
-use Prim.Native.Nat.{ℕ, zero, suc, ◌+◌, ◌-◌, ◌<◌, ◌≤◌}
+use Prim.Native.Nat.{ℕ, suc, ◌+◌, ◌<◌, ◌≤◌}
 use mathlib.Core.Path.{◌≡◌, refl, sym, ap, ◌∙◌}
 use mathlib.Core.List.{List, [], ◌∷◌, ◌++◌}
 use native.Mathlib.Omega.{arith}
-use lib.ListN.{length, get_or, drop, set, replicate, length-append}
-use lib.Seq.{sets, length-sets, set_comm}
+use lib.ListN.{length, take, drop, set, length-append}
+use Rattle.std.proofs.Common.{append_assoc}
+use lib.Seq.{sets, sets-eq, length-sets, set_comm, drop-drop}
+use borrow.Rule.Slice.PartMut.{put_mid}
 use Rattle.lists.proofs.Stores.{sets_append}
 use Rattle.byte_writing.specs.Bytes.{be32}
 
@@ -13,14 +15,9 @@ pub be32_length : (n : ℕ) → length (be32 n) ≡ 4
 unfolding be32
 be32_length n = refl
 
--- a byte of the rest stored
-pub bytes_next : (l : List ℕ) (k : ℕ) (t goal : List ℕ) → 0 < length t → sets l k t ≡ goal → sets (set l k (get_or t 0 0)) (k + 1) (drop 1 t) ≡ goal
-bytes_next l k [] goal h e = absurd (omega arith)
-bytes_next l k (x ∷ t) goal h e = let q : k + 1 ≡ suc k = omega arith in rw q e
-
-pub bytes_end : (l : List ℕ) (k : ℕ) (t goal : List ℕ) → length t ≤ 0 → sets l k t ≡ goal → l ≡ goal
-bytes_end l k [] goal h e = e
-bytes_end l k (x ∷ t) goal h e = absurd (omega arith)
+-- a part of the output, written at once
+pub part_written : (out xs ys : List ℕ) (at k : ℕ) → at + length xs ≤ length out → k ≡ length xs → ys ≡ xs → put_mid at k out ys ≡ sets out at xs
+part_written out xs ys at k h e d = rw (d, e, drop-drop (length xs) at out) (sym (sets-eq xs out at h ∙ append_assoc (take at out) xs (drop (at + length xs) out)))
 
 -- the state of a loop that writes: out is written up to k, `rest` is still to be, up to the place `end`, and out is then `goal`
 pub record Storing (goal out₀ : List ℕ) (end : ℕ) (out : List ℕ) (k : ℕ) (rest : List ℕ) : Type 0 where
@@ -72,8 +69,3 @@ sets_before l i j (x ∷ xs) ys h = ap (λ z. sets z (suc i) xs) (set_before l i
 -- the head of a table stored after its entries
 pub head_last : (l l₁ l₂ : List ℕ) (i j : ℕ) (xs ys : List ℕ) → j ≡ i + length xs → l₁ ≡ sets l j ys → l₂ ≡ sets l₁ i xs → l₂ ≡ sets l i (xs ++ ys)
 head_last l l₁ l₂ i j xs ys h d e = e ∙ rw (d, h) (sets_before l i (i + length xs) xs ys (omega arith) ∙ sym (sets_append l i xs ys))
-
--- one more 0
-pub zeros_next : (l : List ℕ) (k n : ℕ) (goal : List ℕ) → 0 < n → sets l k (replicate n 0) ≡ goal → sets (set l k 0) (k + 1) (replicate (n - 1) 0) ≡ goal
-zeros_next l k zero goal h e = absurd (omega arith)
-zeros_next l k (suc n) goal h e = let q : k + 1 ≡ suc k = omega arith in let r : suc n - 1 ≡ n = omega arith in rw (q, r) e

@@ -9,10 +9,7 @@ ghost use Rattle.byte_writing.specs.Bytes.{be32, Fits, Wrote};
 pub fn front(s: &[u8], n: usize) -> &[u8]
     ensures { result.now ≡ take n s.now }
 {
-    if n <= s.len() {
-        return &s[..n];
-    }
-    s
+    s.get(..n).unwrap_or(s)
 }
 
 // Writes a number in four bytes, most significant first; of a larger number its lowest 32 bits.
@@ -31,14 +28,9 @@ pub fn put_bytes(from: &[u8], out: &mut [u8], at: usize) -> usize
     requires { Fits from.now out.old at }
     ensures { Wrote from.now out.old at result out.new }
 {
-    let mut t = from;
-    let mut k = at;
-    while 0 < t.len() {
-        out[k] = t[0];
-        k += 1;
-        t = &t[1..];
-    }
-    k
+    let end = at + from.len();
+    out[at..end].copy_from_slice(from);
+    end
 }
 
 // Writes n zeros and returns the offset past them.
@@ -46,12 +38,7 @@ pub fn put_zeros(out: &mut [u8], at: usize, n: usize) -> usize
     requires { at + n ≤ length out.old }
     ensures { (result ≡ at + n) × (out.new ≡ sets out.old at (replicate n 0)) }
 {
-    let mut k = at;
-    let mut left = n;
-    while 0 < left {
-        out[k] = 0;
-        k += 1;
-        left -= 1;
-    }
-    k
+    let end = at + n;
+    out[at..end].fill(0);
+    end
 }

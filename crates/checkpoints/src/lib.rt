@@ -56,12 +56,10 @@ pub fn put_checkpoints(table: &[u8], count: usize, room: &mut [u64])
     ensures { room.new ≡ sets room.old 0 (point_numbers (runs_of table.now) count) }
 {
     let mut r = Sums { count: 0, total: 0 };
-    let mut i = 0;
-    while i < count {
+    for i in 0..count {
         room[2 * i] = r.count;
         room[2 * i + 1] = r.total;
         r = sums_past(after(table, 16 + BYTES * i), r);
-        i += 1;
     }
 }
 

@@ -2,7 +2,7 @@
 // with a common size the chunks of a run are asked at once.
 #![tactic(auto)]
 
-ghost use Rattle.std.specs.Prelude.{◌≡◌, ◌+◌, ◌-◌, ◌*◌, ◌^◌, ◌≤◌, ◌<◌, min, max, ltb, length, take, replicate};
+ghost use Rattle.std.specs.Prelude.{◌≡◌, ◌+◌, ◌*◌, ◌^◌, ◌≤◌, ◌<◌, ltb, length, take, replicate};
 ghost use Rattle.bigendian.specs.BigEndian.{u32_at};
 ghost use Rattle.words.specs.Words.{numbers_in, words_in, sizes, width_of, chunk_offsets};
 ghost use Rattle.chunks.specs.Chunks.{per_chunk, end_within};
@@ -11,12 +11,6 @@ ghost use Rattle.chunk_ends.specs.Ends.{none_above};
 use bigendian::{after, u32_at};
 use chunks::{pass, ready, start_cursor};
 use words::{is_long, number_in, sum_words, width_of};
-
-fn smaller(a: usize, b: usize) -> usize
-    ensures { result ≡ min a b }
-{
-    if a < b { a } else { b }
-}
 
 // Whether a chunk ends past the limit: its offset plus its bytes. Their sum could wrap.
 fn passes(base: u64, bytes: u64, limit: u64) -> bool
@@ -44,7 +38,7 @@ fn listed_within(
     let mut z = sizes;
     let mut c = ready(stsc, chunks, start_cursor());
     while c.remaining != 0 {
-        let n = smaller(c.per as usize * 4, z.len());
+        let n = (c.per as usize * 4).min(z.len());
         let bytes = sum_words(&z[..n]);
         if passes(number_in(offsets, long, index), bytes, limit) {
             return false;
@@ -68,12 +62,6 @@ fn first_numbers(part: &[u8], long: bool, count: u64) -> &[u8]
     part
 }
 
-fn larger(a: u64, b: u64) -> u64
-    ensures { result ≡ max a b }
-{
-    if a < b { b } else { a }
-}
-
 // Whether none of the first `count` offsets is above the largest one allowed. Two a turn take as long as one would.
 fn offsets_within(offsets: &[u8], long: bool, count: u64, most: u64) -> bool
     ensures { result ≡ none_above most (take count (numbers_in (width_of long) offsets.now)) }
@@ -82,7 +70,7 @@ fn offsets_within(offsets: &[u8], long: bool, count: u64, most: u64) -> bool
     let these = first_numbers(offsets, long, count);
     let mut t = these;
     while step <= t.len() {
-        if most < larger(number_in(t, long, 0), number_in(t, long, 1)) {
+        if most < number_in(t, long, 0).max(number_in(t, long, 1)) {
             return false;
         }
         t = &t[step..];
@@ -103,16 +91,14 @@ fn clamped_within(
 ) -> bool
     ensures { result ≡ end_within limit (replicate count per) (numbers_in (width_of long) offsets.now) (replicate samples each) }
 {
-    let mut i: u64 = 0;
     let mut stock = samples;
-    while i < count {
+    for i in 0..count {
         let base = number_in(offsets, long, i as usize);
         let following = words::span(per, stock);
         if passes(base, (stock - following) as u64 * each as u64, limit) {
             return false;
         }
         stock = following;
-        i += 1;
     }
     true
 }
@@ -139,16 +125,6 @@ fn run_within(
     clamped_within(offsets, long, samples, each, count, per, limit)
 }
 
-// How many of some samples remain past the first `count`.
-fn remaining(samples: u32, count: u64) -> u32
-    ensures { result ≡ samples - count }
-{
-    if count < samples as u64 {
-        return samples - count as u32;
-    }
-    0
-}
-
 // Whether each chunk's offset plus the bytes of its samples is within a limit, with a common size of so many samples: run after run.
 fn common_within(
     stsc: &[u8],
@@ -170,7 +146,7 @@ fn common_within(
         if !run_within(t, long, stock, each, count, c.per, limit) {
             return false;
         }
-        stock = remaining(stock, count * c.per as u64);
+        stock = (stock as u64).saturating_sub(count * c.per as u64) as u32;
         let others = after(t, count as usize * width);
         t = others;
         c = ready(stsc, chunks, pass(c, count));

@@ -41,12 +41,10 @@ pub fn put_checkpoints(stsc: &[u8], chunks: u32, count: usize, room: &mut [u64])
     ensures { room.new ≡ sets room.old 0 (point_numbers (deal_runs stsc.now chunks) count) }
 {
     let mut r = Sums { count: 0, total: 0 };
-    let mut i = 0;
-    while i < count {
+    for i in 0..count {
         room[2 * i] = r.count;
         room[2 * i + 1] = r.total;
         r = sums_past(after(stsc, 16 + BYTES * i), chunks, r);
-        i += 1;
     }
 }
 

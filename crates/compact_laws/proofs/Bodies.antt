@@ -21,7 +21,7 @@ use Rattle.atoms.specs.Tree.{all, everywhere}
 use Rattle.atoms.proofs.Laws.{below, size_le, atoms_none, atoms_next}
 use Rattle.atoms.proofs.Into.{everywhere_into}
 use Rattle.atoms.proofs.Lengths.{body_short}
-use Rattle.leaves.specs.declared.LeafRule.TheVariants.{Size}
+use Rattle.leaves.specs.Leaves.{Size}
 use Rattle.leaves.specs.Leaves.{form_of, leaf_ok, size_ok, holds_entries, atom_ok, leaves_ok}
 use Rattle.compact_tables.specs.Tables.{compact_table, compact_tables}
 use Rattle.compact_tree.specs.Tree.{compact_body}

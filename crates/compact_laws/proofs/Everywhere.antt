@@ -14,7 +14,7 @@ use Rattle.atoms.specs.Pieces.{total, filled_by}
 use Rattle.atoms.specs.Atoms.{kind_of, header_of, body_of, atoms, filled}
 use Rattle.atoms.specs.Tree.{all, everywhere}
 use Rattle.atoms.proofs.Laws.{below}
-use Rattle.leaves.specs.declared.LeafRule.TheVariants.{Size}
+use Rattle.leaves.specs.Leaves.{Size}
 use Rattle.leaves.specs.Leaves.{leaves_ok}
 use Rattle.byte_writing.specs.Bytes.{joined}
 use Rattle.compact_tables.specs.Tables.{compact_tables}

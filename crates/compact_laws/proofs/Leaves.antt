@@ -19,8 +19,8 @@ use Rattle.atoms.specs.Kinds.{moov, trak, edts, mdia, minf, dinf, stbl, stts, st
 use Rattle.atoms.specs.Atoms.{kind_of, header_of, atoms}
 use Rattle.atoms.specs.Tree.{all, everywhere}
 use Rattle.leaves.specs.declared.Form.TheVariants.{Skipped}
-use Rattle.leaves.specs.declared.LeafRule.{LeafRule}
-use Rattle.leaves.specs.declared.LeafRule.TheVariants.{Version, Size}
+use Rattle.leaves.specs.Leaves.{LeafRule}
+use Rattle.leaves.specs.Leaves.{Version, Size}
 use Rattle.leaves.specs.Leaves.{form_of, skipped, version_ok, size_ok, holds_entries, leaf_ok, atom_ok, leaves_ok}
 use Rattle.byte_writing.specs.Bytes.{be32, joined}
 use Rattle.compact_entries.specs.Entries.{compact_runs, compact_deals}

@@ -13,8 +13,8 @@ use Rattle.atoms.specs.Atoms.{kind_of, atoms}
 use Rattle.atoms.specs.Tree.{all, everywhere}
 use Rattle.leaves.specs.declared.Form.{Form}
 use Rattle.leaves.specs.declared.Form.TheVariants.{Skipped}
-use Rattle.leaves.specs.declared.LeafRule.{LeafRule}
-use Rattle.leaves.specs.declared.LeafRule.TheVariants.{Version, Size}
+use Rattle.leaves.specs.Leaves.{LeafRule}
+use Rattle.leaves.specs.Leaves.{Version, Size}
 use Rattle.leaves.specs.Leaves.{form_of, leaf_ok, atom_ok, leaves_ok}
 use Rattle.structure.specs.declared.source.Source.{Source}
 use Rattle.structure.specs.Rows.{some}

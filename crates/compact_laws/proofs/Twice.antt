@@ -19,7 +19,7 @@ use Rattle.atoms.specs.Kinds.{stbl, stts, stsc, container}
 use Rattle.atoms.specs.Atoms.{kind_of, header_of, body_of, atoms, filled}
 use Rattle.atoms.specs.Tree.{all, everywhere}
 use Rattle.atoms.proofs.Laws.{below}
-use Rattle.leaves.specs.declared.LeafRule.TheVariants.{Size}
+use Rattle.leaves.specs.Leaves.{Size}
 use Rattle.leaves.specs.Leaves.{leaves_ok}
 use Rattle.byte_writing.specs.Bytes.{be32, joined}
 use Rattle.compact_entries.specs.Entries.{with_count, runs_from, compact_runs, same_deal, deals_from, compact_deals}

@@ -17,14 +17,18 @@ use Rattle.structure.specs.Rows.{or_else}
 use Rattle.structure.specs.Movie.{moov_of}
 use Rattle.movie.specs.Refusals.{film_refusal}
 use Rattle.movie.specs.Rooms.{no_room, filled_room, refused_with}
-use Rattle.movie.proofs.Answers.{puts_refused, puts_answer}
+use Rattle.movie.proofs.Answers.{puts_err, puts_answer}
+use Rattle.movie.proofs.Refused.{or_err}
 use Rattle.compact_tree.specs.Tree.{compact_body}
 use Rattle.byte_writing.proofs.Writing.{two_writes}
 use Rattle.compact_laws.proofs.Bodies.{atoms_headed, body_length}
 use Rattle.compact_laws.proofs.Children.{kind_headed}
 use Rattle.compact_laws.proofs.Sound.{film, sound, sound_moov}
 use Rattle.compaction.specs.Compaction.{compact_moov, compact_refusal, compact_asked, compact_numbers, Compacts}
-use Rattle.compaction.specs.declared.Compacted.TheVariants.{Written, Refused}
+use Rattle.std.specs.Prelude.{Ok, Err}
+use Rattle.refusals.specs.Refusals.{number}
+use Rattle.refusals.specs.declared.Refusal.{Refusal}
+use Rattle.refusals.specs.declared.Refusal.TheVariants.{NoRoom}
 
 all_bytes : (x room : List ℕ) → length x ≤ length room → sets room 0 x ≡ x ++ drop (length x) room
 all_bytes x room h = rw (zero-add) at (sets-eq x room 0 (omega (arith, h)))
@@ -37,18 +41,15 @@ whole_part s n l = rw l (take-length s)
 pub moov_part : (s a : List ℕ) (n : ℕ) (p : Part) → n ≡ length s → a ≡ part_in s p → part_in s p ≡ child_in file moov 0 (part_in s (record { at = 0; len = n })) → a ≡ child_in file moov 0 s
 moov_part s a n p l e f = e ∙ f ∙ ap (child_in file moov 0) (whole_part s n l)
 
-answered : (s : List ℕ) (w : Source) (room : List ℕ) (r : ℕ) → compact_refusal s w room ≡ r → (r ≡ 0 → ⊥) → Compacts s w room (Refused r) room
+answered : (s : List ℕ) (w : Source) (room : List ℕ) (e : Refusal) → compact_refusal s w room ≡ number e → Compacts s w room (Err e) room
 unfolding compact_numbers
-answered s w room r e n = puts_refused compact_numbers (refused_with 1) Refused (λ k. refl) (compact_asked s) (compact_moov s) room (compact_refusal s w room) r e n
+answered s w room e h = puts_err compact_numbers (refused_with 1) (λ k. refl) (compact_asked s) (compact_moov s) room (compact_refusal s w room) e h
 
-pub refused_film : (s : List ℕ) (w : Source) (room : List ℕ) (r : ℕ) → r ≡ film_refusal s w → (r ≡ 0 → ⊥) → Compacts s w room (Refused r) room
-unfolding compact_refusal or_else
-refused_film s w room r e n = answered s w room r (rw (← e, ne_eqb r 0 n)) n
+pub refused_film : (s : List ℕ) (w : Source) (room : List ℕ) (e : Refusal) → film_refusal s w ≡ number e → Compacts s w room (Err e) room
+unfolding compact_refusal
+refused_film s w room e h = answered s w room e (or_err (film_refusal s w) _ e h)
 
-module _ (s : List ℕ) (w : Source) (room : List ℕ) (r : ℕ) (e : r ≡ film_refusal s w) (z : r ≡ 0) where
-  clear : film_refusal s w ≡ 0
-  clear = sym e ∙ z
-
+module _ (s : List ℕ) (w : Source) (room : List ℕ) (clear : film_refusal s w ≡ 0) where
   abbrev atom : List ℕ
   atom = child_in file moov 0 s
 
@@ -72,11 +73,11 @@ module _ (s : List ℕ) (w : Source) (room : List ℕ) (r : ℕ) (e : r ≡ film
 
   then_room : compact_refusal s w room ≡ no_room (compact_moov s) room
   unfolding compact_refusal or_else
-  then_room = rw (← e, eq-eqb r 0 z)
+  then_room = rw clear
 
-  pub short_room : length room < length (child_in file moov 0 s) → Compacts s w room (Refused 16) room
+  pub short_room : length room < length (child_in file moov 0 s) → Compacts s w room (Err NoRoom) room
   unfolding no_room
-  short_room h = answered s w room 16 (then_room ∙ rw (lt-ltb (length room) (length (compact_moov s)) (omega (arith, h, same_length)))) (λ y. omega arith)
+  short_room h = answered s w room NoRoom (then_room ∙ rw (lt-ltb (length room) (length (compact_moov s)) (omega (arith, h, same_length))))
 
   -- the room holds the header, and then the body
   pub parts_fit : length (child_in file moov 0 s) ≤ length room
@@ -90,12 +91,12 @@ module _ (s : List ℕ) (w : Source) (room : List ℕ) (r : ℕ) (e : r ≡ film
   pub written : length (child_in file moov 0 s) ≤ length room → (at end : ℕ) (out after : List ℕ)
       → at ≡ 0 + length (take (header_of (child_in file moov 0 s)) (child_in file moov 0 s)) → out ≡ sets room 0 (take (header_of (child_in file moov 0 s)) (child_in file moov 0 s))
       → end ≡ at + length (compact_body 5 moov (body_of (child_in file moov 0 s))) → after ≡ sets out at (compact_body 5 moov (body_of (child_in file moov 0 s)))
-      → Compacts s w room (Written end) after
+      → Compacts s w room (Ok end) after
   unfolding no_room compact_numbers filled_room compact_moov
   written h at end out after a b c d =
       let q = two_writes (take (header_of atom) atom) (compact_body 5 moov (body_of atom)) room out after 0 at end a b c d in
       let g : length (compact_moov s) ≤ length room = omega (arith, same_length, h) in
-      puts_answer compact_numbers (refused_with 1) Refused (λ i. refl) (compact_asked s) (compact_moov s) room (compact_refusal s w room) _ after
+      puts_answer compact_numbers (refused_with 1) (λ i. refl) (compact_asked s) (compact_moov s) room (compact_refusal s w room) _ after
       (then_room ∙ rw (le-ltb (length room) (length (compact_moov s)) g))
-      (ap Written (q.0 ∙ zero-add _))
+      (ap Ok (q.0 ∙ zero-add _))
       (q.1 ∙ all_bytes (take (header_of atom) atom ++ compact_body 5 moov (body_of atom)) room g)

@@ -6,34 +6,24 @@ ghost use Rattle.compaction.specs.Compaction.{Compacts};
 use atoms::{body_of, kinds};
 use byte_writing::put_bytes;
 use compact_tree::{header_of, put_body};
-use movie::refusal;
 use places::{Part, child_part, part_of};
+use refusals::Refusal;
 use structure::source::Source;
 
-// The length of the moov atom, or the number of a refusal.
-#[derive(Clone, Copy)]
-pub enum Compacted {
-    Written(usize),
-    Refused(u32),
-}
-
-// Writes the moov atom with its tables compact into the first bytes of the room. A refusal leaves the room as it is: everything is checked before
-// the first byte is written.
-pub fn compact_moov(input: &[u8], source: Source, room: &mut [u8]) -> Compacted
+// Writes the moov atom with its tables compact into the first bytes of the room; answers its length. A refusal leaves the room as it is: everything
+// is checked before the first byte is written.
+pub fn compact_moov(input: &[u8], source: Source, room: &mut [u8]) -> Result<usize, Refusal>
     ensures { Compacts input.now source room.old result room.new }
 {
-    let number = refusal(input, source);
-    if number != 0 {
-        return Compacted::Refused(number);
-    }
+    movie::refusal(input, source)?;
     let whole = Part {
         at: 0,
         len: input.len(),
     };
     let atom = part_of(input, child_part(input, whole, kinds::FILE, kinds::MOOV, 0));
     if room.len() < atom.len() {
-        return Compacted::Refused(16);
+        return Err(Refusal::NoRoom);
     }
     let at = put_bytes(header_of(atom), room, 0);
-    Compacted::Written(put_body(body_of(atom), kinds::MOOV, 5, room, at))
+    Ok(put_body(body_of(atom), kinds::MOOV, 5, room, at))
 }

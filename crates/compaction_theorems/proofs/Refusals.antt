@@ -10,7 +10,7 @@ use Rattle.bigendian.specs.BigEndian.{u32_at}
 use Rattle.atoms.specs.Kinds.{file, moov, trak, mvhd, container}
 use Rattle.atoms.specs.Atoms.{body_of, atoms, of_kind, count_in, child_in}
 use Rattle.atoms.specs.Tree.{everywhere}
-use Rattle.leaves.specs.declared.LeafRule.TheVariants.{Version, Size}
+use Rattle.leaves.specs.Leaves.{Version, Size}
 use Rattle.leaves.specs.Leaves.{leaves_ok}
 use Rattle.structure.specs.declared.source.Source.{Source}
 use Rattle.structure.specs.Source.{length_of}

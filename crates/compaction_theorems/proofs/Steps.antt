@@ -11,8 +11,6 @@ use Rattle.movie.specs.Tracks.{has_track}
 use Rattle.questions.specs.Asked.{ask_refusal, track_asked}
 use Rattle.questions.specs.Samples.{sample_refusal, sample_answer}
 use Rattle.questions.specs.declared.samples.Sample.{Sample}
-use Rattle.questions.specs.declared.samples.SampleAnswer.{SampleAnswer}
-use Rattle.questions.specs.declared.samples.SampleAnswer.TheVariants.{Found, Refused}
 use Rattle.stepping.specs.Stepping.{Stands}
 use Rattle.stepping.specs.declared.Stepper.{Stepper}
 use Rattle.stepping.specs.declared.Step.{Step}
@@ -20,18 +18,20 @@ use Rattle.stepping_theorems.specs.Walked.{answers_from, Walks, Keeps}
 use Rattle.stepping_theorems.proofs.Walked.{steps_from_any}
 use Rattle.ways.proofs.Answers.{SameFilm, ids_same, asked, same_answers}
 use Rattle.compaction_theorems.specs.Compact.{SameSteps}
+use Rattle.std.specs.Prelude.{Result, Ok, Err}
+use Rattle.refusals.specs.declared.Refusal.{Refusal}
 
-from_same : (g h : ℕ → SampleAnswer) → ((n : ℕ) → g n ≡ h n) → (n c : ℕ) → answers_from g n c ≡ answers_from h n c
+from_same : (g h : ℕ → Result Sample Refusal) → ((n : ℕ) → g n ≡ h n) → (n c : ℕ) → answers_from g n c ≡ answers_from h n c
 from_same g h e n zero = refl
 from_same g h e n (suc c) = λ i. e n i ∷ from_same g h e (suc n) c i
 
 -- the samples of some answers, to the first refusal
-abbrev samples_in : List SampleAnswer → List Sample
+abbrev samples_in : List (Result Sample Refusal) → List Sample
 samples_in [] = []
-samples_in (Found x ∷ l) = x ∷ samples_in l
-samples_in (Refused r ∷ l) = []
+samples_in (Ok x ∷ l) = x ∷ samples_in l
+samples_in (Err e ∷ l) = []
 
-samples_found : (xs : List Sample) → samples_in (map Found xs) ≡ xs
+samples_found : (xs : List Sample) → samples_in (map Ok xs) ≡ xs
 samples_found [] = refl
 samples_found (x ∷ xs) = ap (λ l. x ∷ l) (samples_found xs)
 

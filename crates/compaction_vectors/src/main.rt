@@ -4,7 +4,7 @@
 #![tactic(auto)]
 
 use bigendian::{after, u32_at, u64_at};
-use compaction::{Compacted, compact_moov};
+use compaction::compact_moov;
 use program_input::{
     Argument, MOST_FILM, MOST_NAME, argument_at, name_given, open_named, read_full,
 };
@@ -17,51 +17,32 @@ const BYTES: usize = 4096;
 
 const BYTE: u8 = 0xEE;
 
-fn text(rt: &impl Print, s: &[u8]) -> io::Result<()> {
-    rt.write_all(s)
-}
-
-// Words, and a number after them.
-fn field(rt: &impl Print, words: &[u8], n: u64) -> io::Result<()> {
-    text(rt, words)?;
-    print!(rt; "{n}")
-}
-
-fn hex(rt: &impl Print, byte: u8) -> io::Result<()> {
-    print!(rt; "{byte:02x}")
-}
-
-fn bytes(rt: &impl Print, s: &[u8]) -> io::Result<()> {
-    let mut i = 0;
-    while i < s.len() {
-        hex(rt, s[i])?;
-        i += 1;
-    }
-    Ok(())
-}
-
 fn ask_in(rt: &impl Print, input: &[u8], source: Source, room: &mut [u8]) -> io::Result<()> {
     match compact_moov(input, source, room) {
-        Compacted::Written(n) => field(rt, b"length ", n as u64)?,
-        Compacted::Refused(number) => field(rt, b"refused ", number as u64)?,
+        Ok(n) => print!(rt; "length {n}")?,
+        Err(refusal) => print!(rt; "refused {}", u32::from(refusal))?,
     }
-    text(rt, b", room ")?;
-    bytes(rt, room)
+    print!(rt; ", room ")?;
+    for byte in room.iter() {
+        print!(rt; "{byte:02x}")?;
+    }
+    Ok(())
 }
 
 fn ask_with(rt: &impl Print, input: &[u8], source: Source, length: usize) -> io::Result<()> {
     let mut room = [BYTE; BYTES];
-    if length <= BYTES {
-        ask_in(rt, input, source, &mut room[..length])?;
+    match room.get_mut(..length) {
+        Some(room) => ask_in(rt, input, source, room),
+        None => Ok(()),
     }
-    Ok(())
 }
 
 fn source_of(length: u64) -> Source {
     if length == 0 {
-        return Source::whole();
+        Source::whole()
+    } else {
+        Source::of_moov(length)
     }
-    Source::of_moov(length)
 }
 
 fn stored(rt: &impl Print, film: &[u8]) -> io::Result<()> {
@@ -71,20 +52,19 @@ fn stored(rt: &impl Print, film: &[u8]) -> io::Result<()> {
         source_of(u64_at(film, 0)),
         u32_at(film, 8) as usize,
     )?;
-    text(rt, b"\n")
+    println!(rt)
 }
 
 // A film of up to 65,536 bytes with its lengths; of a longer one the rest is not read.
 fn read(rt: &impl Print, reader: &mut impl io::Read) -> io::Result<()> {
     let mut room = [0u8; MOST_FILM];
     let count = read_full(reader, &mut room);
-    let film = &room[..count];
-    stored(rt, film)
+    stored(rt, &room[..count])
 }
 
 fn open(rt: &(impl Files + Print + Eprint), name: &[u8]) -> io::Result<()> {
-    text(rt, name)?;
-    text(rt, b": ")?;
+    rt.write_all(name)?;
+    print!(rt; ": ")?;
     let Some(mut file) = open_named(rt, name)? else {
         return Ok(());
     };

@@ -7,12 +7,6 @@ ghost use Rattle.descriptions.specs.Descriptions.{descriptions, picture_size};
 use bigendian::{after, u16_at};
 use leaves::entry_size;
 
-fn larger(a: u16, b: u16) -> u16
-    ensures { result ≡ max a b }
-{
-    if a < b { b } else { a }
-}
-
 // How many descriptions there are, each of at least so many bytes; none without stsd.
 pub fn description_count(stsd: &[u8], least: usize) -> usize
     ensures { result ≡ length (descriptions least stsd.now) }
@@ -51,8 +45,8 @@ pub fn greatest_size(stsd: &[u8]) -> PictureSize
             return PictureSize { width, height };
         }
         let d = &t[..z];
-        width = larger(width, u16_at(d, 32));
-        height = larger(height, u16_at(d, 34));
+        width = width.max(u16_at(d, 32));
+        height = height.max(u16_at(d, 34));
         t = &t[z..];
     }
 }

@@ -12,6 +12,9 @@ use lib.ListN.{length, drop, length-drop, length-map}
 use borrow.Author.Tests.{eq-eqb, ne_eqb, lt-ltb, le-ltb}
 use Rattle.bigendian.specs.BigEndian.{u32_at, signed32}
 use Rattle.bigendian.proofs.Laws.{be_at_take}
+use Rattle.bigendian.proofs.Entries.{Comes, entry_u32}
+use Rattle.std.specs.Slice.Iter.{chunks_exact_rest}
+use Rattle.std.specs.declared.slice.ChunksExact.{ChunksExact}
 use Rattle.lists.specs.Lists.{sum}
 use Rattle.lists.specs.Entries.{rows_of, entries}
 use Rattle.lists.proofs.Rows.{rows_none, rows_next, length_rows}
@@ -41,6 +44,10 @@ edits_next t h p =
       rate = be_at_take 4 12 t 8 (lit≤ tt) i;
     } ∷ edits_in (drop 12 t))
     ∙ ap (λ x. x ∷ edits_in (drop 12 t)) (sym p)
+
+-- the entry that comes in a loop
+pub entry_edit : {s t : ChunksExact ℕ} {x : List ℕ} → Comes 12 s t x → edit_of x ≡ edit_of (chunks_exact_rest s)
+entry_edit e = λ i. record { duration = entry_u32 e 0 (lit≤ tt) i; media = signed32 (entry_u32 e 4 (lit≤ tt) i); rate = entry_u32 e 8 (lit≤ tt) i }
 
 -- a list as long as n entries has no more
 pub edits_few : (s : List ℕ) (n : ℕ) → length s ≤ 16 + 12 * n → length (edits s) ≤ n

@@ -8,7 +8,6 @@ ghost use Rattle.lists.specs.Totals.{total_of};
 ghost use Rattle.edits.specs.Edits.{edit_of, edit_total, start_of, in_media, edit_ok, edits_ok, placed, shown_at, media_at};
 
 use bigendian::{after, i32_at, u32_at};
-use lists::Total;
 
 // A time of the movie, in the movie's scale.
 #[derive(Clone, Copy)]
@@ -66,21 +65,18 @@ pub fn edit_at(t: &[u8]) -> Edit
     }
 }
 
-// The sum of the durations of all entries.
-pub fn edits_total(elst: &[u8]) -> Total
+// The sum of the durations of all entries, where it is at most 4,294,967,295.
+pub fn edits_total(elst: &[u8]) -> Option<u32>
     ensures { result ≡ total_of (edit_total elst.now) }
 {
-    let part = after(elst, 16);
-    let mut t = part;
     let mut total: u64 = 0;
-    while 12 <= t.len() {
-        total += u32_at(t, 0) as u64;
+    for entry in after(elst, 16).chunks_exact(12) {
+        total += u32_at(entry, 0) as u64;
         if 4294967295 < total {
-            return Total::Over;
+            return None;
         }
-        t = &t[12..];
     }
-    Total::Sum(total as u32)
+    Some(total as u32)
 }
 
 // A time of the movie's scale in the media's, rounded down; 0 where the movie's scale is 0.
@@ -138,13 +134,11 @@ pub fn edits_ok(elst: &[u8], scale: u32, movie: u32, total: u32) -> bool
     if part.len() < 12 {
         return false;
     }
-    let mut rows = part;
-    while 12 <= rows.len() {
-        let e = edit_at(rows);
+    for entry in part.chunks_exact(12) {
+        let e = edit_at(entry);
         if !edit_ok(e, scale, movie, total) {
             return false;
         }
-        rows = &rows[12..];
     }
     true
 }
@@ -183,18 +177,15 @@ pub fn media_at(elst: &[u8], scale: u32, movie: u32, total: u32, t: MovieTime) -
     if elst.len() == 0 {
         return shown(0, time, scale, movie, total);
     }
-    let part = after(elst, 16);
-    let mut s = part;
     let mut rest = time;
-    while 12 <= s.len() {
-        let e = edit_at(s);
+    for entry in after(elst, 16).chunks_exact(12) {
+        let e = edit_at(entry);
         let d = e.duration;
         if rest < d {
             let media = e.media;
             return shown(media, rest, scale, movie, total);
         }
         rest -= d;
-        s = &s[12..];
     }
     Mapped::Outside
 }

@@ -1,5 +1,6 @@
 -- The bounds of the six codes, and what a value below its bound says of the record.
 -- Assumes nothing.
+use Rattle.std.specs.Prelude.{Option, Some, None}
 use Prim.Native.Nat.{ℕ, suc, ◌+◌, ◌-◌, ◌/◌, ◌%◌, ◌≤◌, ◌<◌}
 use mathlib.Core.Path.{◌≡◌, refl, ◌∙◌}
 use mathlib.Core.Bool.{Bool, true, false, cond, ◌||◌}
@@ -12,8 +13,6 @@ use lib.Dec.{eqb, ltb, lit<}
 use lib.ListN.{get_or, set, length-set, get_or-replicate}
 use lib.Seq.{get_or-set_same, get_or-set_other}
 use Rattle.lists.proofs.Booleans.{and_false}
-use Rattle.rates.specs.declared.Feature.{Feature}
-use Rattle.rates.specs.declared.Feature.TheVariants.{Value, NotComputed}
 use Rattle.features.specs.Features.{tvsz, feature_of}
 use Rattle.track.specs.Track.{Track}
 use Rattle.feature_checks.specs.Records.{record_code, record_value, is_universal}
@@ -27,10 +26,10 @@ halves : (value : ℕ) → value < 4294967296 → (c : Bool) → cond c (ltb (va
 halves value h true = rw (lt-ltb (value / 65536) 65536 ((div-lt_iff_lt-mul {x = value} {y = 65536} (lit< tt)).1 (omega arith)))
 halves value h false = lt-ltb value 4294967296 h
 
-pub below_low : (code value : ℕ) (f : Feature) → value < 4294967296 → is_below code value (bound_of f) ≡ too_low code value f
+pub below_low : (code value : ℕ) (f : Option ℕ) → value < 4294967296 → is_below code value (bound_of f) ≡ too_low code value f
 unfolding is_below bound_of too_low
-below_low code value (Value v) h = refl
-below_low code value NotComputed h = halves value h (eqb code tvsz)
+below_low code value (Some v) h = refl
+below_low code value None h = halves value h (eqb code tvsz)
 
 module _ (movie : ℕ) (t : Track) where
   -- none yet
@@ -38,7 +37,7 @@ module _ (movie : ℕ) (t : Track) where
   no_bound b e = rw e (record { six = refl; known = λ i h n. absurd (n (get_or-replicate 6 i 0 0 h)) })
 
   -- the bound of a code
-  pub bound_is : (code i b : ℕ) (f : Feature) → i ≡ index_in code feature_codes → i < 6 → f ≡ feature_of movie t code → b ≡ bound_of f → 1 + b ≡ bound_at movie t i
+  pub bound_is : (code i b : ℕ) (f : Option ℕ) → i ≡ index_in code feature_codes → i < 6 → f ≡ feature_of movie t code → b ≡ bound_of f → 1 + b ≡ bound_at movie t i
   unfolding bound_at
   bound_is code i b f d h e q =
       let k : index_in code feature_codes < 6 = omega arith in

@@ -1,8 +1,6 @@
 -- What a record's value must reach, kept for each of the six codes: promises of functions that other crates call. Which bounds are held after a
 -- record may differ from one correct program to another, so these need not be believed; callers go by `Judges.fault`.
-use Rattle.std.specs.Prelude.{ℕ, suc, ◌/◌, ◌%◌, ◌<◌, ◌≡◌, List, [], ◌∷◌, Bool, cond, ◌||◌, length, get_or, replicate, eqb, ltb}
-use Rattle.rates.specs.declared.Feature.{Feature}
-use Rattle.rates.specs.declared.Feature.TheVariants.{Value, NotComputed}
+use Rattle.std.specs.Prelude.{ℕ, suc, ◌/◌, ◌%◌, ◌<◌, ◌≡◌, List, [], ◌∷◌, Bool, cond, ◌||◌, length, get_or, replicate, eqb, ltb, Option, Some, None}
 use Rattle.features.specs.Features.{tvsz, feature_of}
 use Rattle.track.specs.Track.{Track}
 use Rattle.feature_checks.specs.declared.Bounds.{Bounds}
@@ -15,9 +13,9 @@ index_in x [] = 0
 index_in x (y ∷ ys) = cond (eqb y x) 0 (suc (index_in x ys))
 
 -- the least value that is not too low; where the feature can't be computed, one that 32 bits don't hold
-unfoldable pub bound_of : Feature → ℕ
-bound_of (Value v) = v
-bound_of NotComputed = 4294967296
+unfoldable pub bound_of : Option ℕ → ℕ
+bound_of (Some v) = v
+bound_of None = 4294967296
 
 unfoldable pub is_below : ℕ → ℕ → ℕ → Bool
 is_below code value bound =

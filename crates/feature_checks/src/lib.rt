@@ -12,7 +12,6 @@ ghost use Rattle.feature_checks.specs.Bounds.{index_in, bound_of, is_below, no_b
 use bigendian::u32_at;
 use features::{AVAB, AVVB, MABR, MVBR, TVSZ, VFPS, feature_of};
 use places::trak::Parts;
-use rates::Feature;
 
 // The part-ID of a universal record.
 const UNIVERSAL: u32 = 0x20202020;
@@ -40,12 +39,12 @@ fn code_index(code: u32) -> usize
 }
 
 // What a value must reach: the feature, or, where it can't be computed, a number that no value of 32 bits reaches.
-fn bound_of(f: Feature) -> u64
+fn bound_of(f: Option<u32>) -> u64
     ensures { (result ≡ bound_of f) × (result ≤ 4294967296) }
 {
     match f {
-        Feature::Value(v) => v as u64,
-        Feature::NotComputed => 4294967296,
+        Some(v) => v as u64,
+        None => 4294967296,
     }
 }
 

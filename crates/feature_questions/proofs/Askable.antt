@@ -1,7 +1,7 @@
 -- An accepted track has what its features need, and so has the one that is asked where neither the film nor the ID is refused.
 -- Assumes nothing.
 use Prim.Native.Nat.{ℕ, ◌+◌, ◌*◌, ◌≤◌, ◌<◌, ◌^◌}
-use mathlib.Core.Path.{◌≡◌, sym, ap, ◌∙◌}
+use mathlib.Core.Path.{◌≡◌, refl, sym, ap, ◌∙◌}
 use mathlib.Core.List.{List}
 use native.Mathlib.Omega.{arith}
 use borrow.Author.Tests.{not-false}
@@ -67,11 +67,11 @@ module _ (w : Source) (scale len : ℕ) (t : List ℕ) (a : Accepted w scale len
         };
       }
 
-module _ (s t : List ℕ) (w : Source) (id r : ℕ) (e : r ≡ ask_refusal s w id) (z : r ≡ 0) (d : t ≡ track_asked s id) where
+module _ (s t : List ℕ) (w : Source) (id : ℕ) (z : ask_refusal s w id ≡ 0) (d : t ≡ track_asked s id) where
   pub asked_computable : Computable t
-  asked_computable = accepted_computable w (movie_scale (moov_of s)) (length_of w s) t (asked_track s t w id r e z d) (asked_short s t w id r e z d)
+  asked_computable = accepted_computable w (movie_scale (moov_of s)) (length_of w s) t (asked_track s t w id 0 (sym z) refl d) (asked_short s t w id 0 (sym z) refl d)
 
   -- m is the body of the moov
   pub asked_averaged : (m : List ℕ) (movie : ℕ) → m ≡ moov_of s → movie ≡ movie_scale m → Averaged movie t
   asked_averaged m movie b q =
-      rw (q, b) (accepted_averaged w (movie_scale (moov_of s)) (length_of w s) t (asked_track s t w id r e z d) (asked_short s t w id r e z d))
+      rw (q, b) (accepted_averaged w (movie_scale (moov_of s)) (length_of w s) t (asked_track s t w id 0 (sym z) refl d) (asked_short s t w id 0 (sym z) refl d))

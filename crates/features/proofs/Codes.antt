@@ -1,5 +1,6 @@
 -- The decision over the codes: each code's feature in a track of the right subtype and of another, and that there is no other code.
 -- Assumes nothing.
+use Rattle.std.specs.Prelude.{Option, None}
 use Prim.Native.Nat.{ℕ}
 use mathlib.Core.Path.{◌≡◌, refl, sym, ◌∙◌}
 use mathlib.Core.Bool.{Bool, true, false, cond}
@@ -9,19 +10,16 @@ use borrow.Author.Tests.{eq-eqb, ne_eqb}
 use Rattle.atoms.specs.Kinds.{vide}
 use Rattle.structure.specs.Track.{subtype_of}
 use Rattle.track.specs.Track.{Track, track_of}
-use Rattle.rates.specs.declared.Feature.{Feature}
-use Rattle.rates.specs.declared.Feature.TheVariants.{NotComputed}
 use Rattle.peaks.specs.Peaks.{peak_of, peak_in, rate_in}
-use Rattle.peaks.specs.declared.Peak.TheVariants as peaks
 use Rattle.peaks.proofs.Placing.{peak_rate}
 use Rattle.features.specs.Features.{avvb, avab, tvsz, vfps, mvbr, mabr, soun, average, picture, frames, peak, only_in, feature_of, peak_only_in, peak_for}
 
-module _ (t : List ℕ) (wanted subtype : ℕ) (f : Feature) (s : subtype ≡ subtype_of t) where
+module _ (t : List ℕ) (wanted subtype : ℕ) (f : Option ℕ) (s : subtype ≡ subtype_of t) where
   pub only_yes : subtype ≡ wanted → only_in wanted (track_of t) f ≡ f
   unfolding only_in track_of
   only_yes e = rw (eq-eqb (subtype_of t) wanted (sym s ∙ e))
 
-  pub only_no : (subtype ≡ wanted → ⊥) → only_in wanted (track_of t) f ≡ NotComputed
+  pub only_no : (subtype ≡ wanted → ⊥) → only_in wanted (track_of t) f ≡ None
   unfolding only_in track_of
   only_no e = rw (ne_eqb (subtype_of t) wanted (λ z. e (s ∙ z)))
 
@@ -47,7 +45,7 @@ module _ (movie : ℕ) (t : Track) (code : ℕ) where
   unfolding peak_only_in only_in peak
   rate_only subtype = by (eqb t.subtype subtype)
     where
-      by : (b : Bool) → rate_in (cond b (peak_in t.scale t.durations t.sizes) peaks.NotComputed) ≡ cond b (peak_of t.scale t.durations t.sizes) NotComputed
+      by : (b : Bool) → rate_in (cond b (peak_in t.scale t.durations t.sizes) None) ≡ cond b (peak_of t.scale t.durations t.sizes) None
       by true = peak_rate t.scale t.durations t.sizes
       by false = refl
 
@@ -60,7 +58,7 @@ module _ (movie : ℕ) (t : Track) (code : ℕ) where
   code_mabr e = rw e (sym (rate_only soun))
 
   pub code_other : (code ≡ avvb → ⊥) → (code ≡ avab → ⊥) → (code ≡ tvsz → ⊥) → (code ≡ vfps → ⊥) → (code ≡ mvbr → ⊥) → (code ≡ mabr → ⊥)
-      → feature_of movie t code ≡ NotComputed
+      → feature_of movie t code ≡ None
   unfolding feature_of
   code_other a b c d e f =
       rw (ne_eqb code avvb a, ne_eqb code avab b, ne_eqb code tvsz c, ne_eqb code vfps d, ne_eqb code mvbr e, ne_eqb code mabr f)
@@ -76,6 +74,6 @@ module _ (t : Track) (code : ℕ) where
   unfolding peak_for
   peak_mabr e = rw e
 
-  pub peak_other : (code ≡ mvbr → ⊥) → (code ≡ mabr → ⊥) → peak_for t code ≡ peaks.NotComputed
+  pub peak_other : (code ≡ mvbr → ⊥) → (code ≡ mabr → ⊥) → peak_for t code ≡ None
   unfolding peak_for
   peak_other e f = rw (ne_eqb code mvbr e, ne_eqb code mabr f)

@@ -17,7 +17,7 @@ use descriptions::{description_count, greatest_size};
 use peaks::{Peak, peak_of};
 use places::part_of;
 use places::trak::Parts;
-use rates::{Feature, rate};
+use rates::rate;
 use runs::least_duration;
 use track::{media_total, scale_in, subtype_in};
 use words::all_bytes;
@@ -38,7 +38,7 @@ pub const MABR: u32 = 0x6d616272;
 pub const SOUN: u32 = 0x736f756e;
 
 // The average rate of the whole media, in bits a second.
-fn whole_average(trak: &[u8], p: Parts) -> Feature
+fn whole_average(trak: &[u8], p: Parts) -> Option<u32>
     requires { (AreParts trak.now p) × (length trak.now < 2 ^ 32) × (total_in trak.now < 4294967296) }
     ensures { result ≡ whole_average (track_of trak.now) }
 {
@@ -48,7 +48,7 @@ fn whole_average(trak: &[u8], p: Parts) -> Feature
 }
 
 // The average rate of what the edit list shows; of the whole media without one.
-fn average_rate(trak: &[u8], p: Parts, movie: u32) -> Feature
+fn average_rate(trak: &[u8], p: Parts, movie: u32) -> Option<u32>
     requires { (AreParts trak.now p) × Averaged movie trak.now }
     ensures { result ≡ average movie (track_of trak.now) }
 {
@@ -62,20 +62,20 @@ fn average_rate(trak: &[u8], p: Parts, movie: u32) -> Feature
 }
 
 // The greatest width and height of a track of pictures.
-fn picture_size(trak: &[u8], p: Parts) -> Feature
+fn picture_size(trak: &[u8], p: Parts) -> Option<u32>
     requires { (AreParts trak.now p) × (subtype_of trak.now ≡ vide) }
     ensures { result ≡ picture (track_of trak.now) }
 {
     let stsd = part_of(trak, p.stsd);
     if description_count(stsd, 36) == 0 {
-        return Feature::NotComputed;
+        return None;
     }
     let size = greatest_size(stsd);
-    Feature::Value((size.width as u32) * 65536 + size.height as u32)
+    Some((size.width as u32) * 65536 + size.height as u32)
 }
 
 // The greatest number of frames a second, by the least duration of a sample.
-fn frame_rate(trak: &[u8], p: Parts) -> Feature
+fn frame_rate(trak: &[u8], p: Parts) -> Option<u32>
     requires { AreParts trak.now p }
     ensures { result ≡ frames (track_of trak.now) }
 {
@@ -84,12 +84,12 @@ fn frame_rate(trak: &[u8], p: Parts) -> Feature
 }
 
 // The highest rate over a second, and where it is, of a track of one subtype.
-fn peak_only_in(trak: &[u8], p: Parts, wanted: u32) -> Peak
+fn peak_only_in(trak: &[u8], p: Parts, wanted: u32) -> Option<Peak>
     requires { (AreParts trak.now p) × Computable trak.now }
     ensures { result ≡ peak_only_in wanted (track_of trak.now) }
 {
     if subtype_in(trak, p) != wanted {
-        return Peak::NotComputed;
+        return None;
     }
     peak_of(
         part_of(trak, p.stts),
@@ -99,34 +99,28 @@ fn peak_only_in(trak: &[u8], p: Parts, wanted: u32) -> Peak
 }
 
 // The same by the code of the feature.
-pub fn peak_for(trak: &[u8], p: Parts, code: u32) -> Peak
+pub fn peak_for(trak: &[u8], p: Parts, code: u32) -> Option<Peak>
     requires { (AreParts trak.now p) × Computable trak.now }
     ensures { result ≡ peak_for (track_of trak.now) code }
 {
     match code {
         MVBR => peak_only_in(trak, p, kinds::VIDE),
         MABR => peak_only_in(trak, p, SOUN),
-        _ => Peak::NotComputed,
+        _ => None,
     }
 }
 
 // Its rate alone.
-fn peak_rate(trak: &[u8], p: Parts, code: u32) -> Feature
+fn peak_rate(trak: &[u8], p: Parts, code: u32) -> Option<u32>
     requires { (AreParts trak.now p) × Computable trak.now }
     ensures { result ≡ rate_in (peak_for (track_of trak.now) code) }
 {
-    match peak_for(trak, p, code) {
-        Peak::Highest {
-            rate,
-            first: _,
-            count: _,
-        } => Feature::Value(rate),
-        Peak::NotComputed => Feature::NotComputed,
-    }
+    let peak = peak_for(trak, p, code)?;
+    Some(peak.rate)
 }
 
-// A feature of a track, by its code. `movie` is the movie's time scale.
-pub fn feature_of(trak: &[u8], p: Parts, movie: u32, code: u32) -> Feature
+// A feature of a track, by its code, where it can be computed. `movie` is the movie's time scale.
+pub fn feature_of(trak: &[u8], p: Parts, movie: u32, code: u32) -> Option<u32>
     requires { (AreParts trak.now p) × Computable trak.now × Averaged movie trak.now }
     ensures { result ≡ feature_of movie (track_of trak.now) code }
 {
@@ -136,28 +130,28 @@ pub fn feature_of(trak: &[u8], p: Parts, movie: u32, code: u32) -> Feature
             if kind == kinds::VIDE {
                 return average_rate(trak, p, movie);
             }
-            Feature::NotComputed
+            None
         }
         AVAB => {
             if kind == SOUN {
                 return average_rate(trak, p, movie);
             }
-            Feature::NotComputed
+            None
         }
         TVSZ => {
             if kind == kinds::VIDE {
                 return picture_size(trak, p);
             }
-            Feature::NotComputed
+            None
         }
         VFPS => {
             if kind == kinds::VIDE {
                 return frame_rate(trak, p);
             }
-            Feature::NotComputed
+            None
         }
         MVBR => peak_rate(trak, p, code),
         MABR => peak_rate(trak, p, code),
-        _ => Feature::NotComputed,
+        _ => None,
     }
 }

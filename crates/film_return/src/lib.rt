@@ -53,12 +53,8 @@ fn add_tracks(f: Filed, lent: &[u8], traks: Traks) -> Filed
 pub fn add_film(r: FilmReturn, lent: &[u8], source: Source) -> Filed
     ensures { Files r lent.now source result }
 {
-    let judged = movie::judge(lent, source);
-    let refusal = judged.refusal;
-    if refusal != 0 {
-        return settle(r, add_refused(r, refusal));
+    match movie::judge(lent, source) {
+        Err(refusal) => settle(r, add_refused(r, u32::from(refusal))),
+        Ok(movie) => settle(r, add_tracks(add_accepted(r), lent, movie.traks)),
     }
-    let movie = judged.movie;
-    let traks = movie.traks;
-    settle(r, add_tracks(add_accepted(r), lent, traks))
 }

@@ -19,7 +19,8 @@ use Rattle.return_totals.specs.Returns.{Return, with_track, with_tracks, with_ac
 use Rattle.return_totals.specs.declared.TrackTotals.{TrackTotals}
 use Rattle.return_totals.proofs.Overs.{track_over, accepted_over, refused_over}
 use Rattle.film_return.specs.Films.{totals_of, with_film}
-use Rattle.film_return.proofs.Numbered.{film_passes, film_slot}
+use Rattle.movie.proofs.Numbered.{film_passes}
+use Rattle.film_return.proofs.Numbered.{film_slot}
 use Rattle.film_return_theorems.specs.Filing.{Film, refusal_of, accepted_in, refused_in, tracks_in, samples_in, bytes_in, is_number}
 use Rattle.film_return_theorems.proofs.Scales.{with_all}
 

@@ -15,33 +15,34 @@ use Rattle.structure.specs.declared.source.Source.{Source}
 use Rattle.structure.specs.Movie.{moov_of}
 use Rattle.movie.specs.Refusals.{film_refusal}
 use Rattle.movie.specs.Rooms.{refused_with}
-use Rattle.movie.proofs.Answers.{gives_refused, gives_answer}
+use Rattle.movie.proofs.Answers.{gives_err, gives_answer}
 use Rattle.fragments.specs.Fragments.{moof, mvex, extended, fragmented, fragments_told, fragments_numbers, TellsFragments}
-use Rattle.fragments.specs.declared.FragmentsAnswer.TheVariants.{Told, Refused}
+use Rattle.std.specs.Prelude.{Ok, Err}
+use Rattle.refusals.specs.Refusals.{number}
+use Rattle.refusals.specs.declared.Refusal.{Refusal}
 
-pub refused_film : (s : List ℕ) (w : Source) (r : ℕ) → r ≡ film_refusal s w → (r ≡ 0 → ⊥) → TellsFragments s w (Refused r)
+pub refused_film : (s : List ℕ) (w : Source) (e : Refusal) → film_refusal s w ≡ number e → TellsFragments s w (Err e)
 unfolding fragments_numbers
-refused_film s w r e n =
-    gives_refused fragments_numbers (refused_with 2) Refused (λ k. refl) (fragments_told s w) (film_refusal s w) r (sym e) n
+refused_film s w e h = gives_err fragments_numbers (refused_with 2) (λ k. refl) (fragments_told s w) (film_refusal s w) e h
 
-module _ (s : List ℕ) (w : Source) (r : ℕ) (e : r ≡ film_refusal s w) (z : r ≡ 0) (a : Bool) (p : Part) (m : part_in s p ≡ moov_of s)
+module _ (s : List ℕ) (w : Source) (z : film_refusal s w ≡ 0) (a : Bool) (p : Part) (m : part_in s p ≡ moov_of s)
     (q : a ≡ ltb 0 (count_in moov mvex (part_in s p))) where
   in_moov : a ≡ extended s
   unfolding extended
   in_moov = q ∙ ap (λ (x : List ℕ). ltb 0 (count_in moov mvex x)) m
 
-  told : (b : Bool) → b ≡ fragmented s w → TellsFragments s w (Told a b)
+  told : (b : Bool) → b ≡ fragmented s w → TellsFragments s w (Ok (record { extended = a; fragmented = b }))
   unfolding fragments_numbers
   told b f =
-      gives_answer fragments_numbers (refused_with 2) Refused (λ k. refl) (fragments_told s w) (film_refusal s w) (Told a b) (sym e ∙ z)
-      (λ i. Told (in_moov i) (f i))
+      gives_answer fragments_numbers (refused_with 2) (λ k. refl) (fragments_told s w) (film_refusal s w) (Ok (record { extended = a; fragmented = b })) z
+      (λ i. Ok (record { extended = in_moov i; fragmented = f i }))
 
-  pub told_alone : w.alone ≡ true → TellsFragments s w (Told a false)
+  pub told_alone : w.alone ≡ true → TellsFragments s w (Ok (record { extended = a; fragmented = false }))
   unfolding fragmented
   told_alone h = told false (rw h)
 
   pub told_whole : w.alone ≡ false → (n : ℕ) → n ≡ length s → (b : Bool) → b ≡ ltb 0 (count_in file moof (part_in s (record { at = 0; len = n })))
-      → TellsFragments s w (Told a b)
+      → TellsFragments s w (Ok (record { extended = a; fragmented = b }))
   unfolding fragmented
   told_whole h n l b f =
       told b (rw h (f ∙ ap (λ (x : ℕ). ltb 0 (count_in file moof (part_in s (record { at = 0; len = x })))) l

@@ -9,8 +9,8 @@ ghost use Rattle.fragments.specs.Fragments.{moof, TellsFragments};
 
 use atoms::kinds;
 use bigendian::u32_at;
-use movie::refusal;
 use places::{Part, child_part, moov_part, part_of};
+use refusals::Refusal;
 use structure::source::Source;
 
 // The type of a fragment at top level, and of the atom in moov that announces fragments.
@@ -18,11 +18,11 @@ const MOOF: u32 = 0x6d6f6f66;
 
 const MVEX: u32 = 0x6d766578;
 
-// The answer of `fragments`: whether the moov has an mvex, and whether the file has a moof at top level; or the number of a refusal.
+// Whether the moov has an mvex, and whether the file has a moof at top level.
 #[derive(Clone, Copy)]
-pub enum FragmentsAnswer {
-    Told(bool, bool),
-    Refused(u32),
+pub struct FoundFragments {
+    pub extended: bool,
+    pub fragmented: bool,
 }
 
 // Whether a body, a part of the input, has a child of that kind.
@@ -34,22 +34,25 @@ fn has_child(lent: &[u8], body: Part, parent: u32, kind: u32) -> bool
 }
 
 // Whether a film has fragments. Of a moov alone the top level is not known: `is_fragment` tells it header by header.
-pub fn fragments(lent: &[u8], source: Source) -> FragmentsAnswer
+pub fn fragments(lent: &[u8], source: Source) -> Result<FoundFragments, Refusal>
     ensures { TellsFragments lent.now source result }
 {
-    let number = refusal(lent, source);
-    if number != 0 {
-        return FragmentsAnswer::Refused(number);
-    }
+    movie::refusal(lent, source)?;
     let extended = has_child(lent, moov_part(lent), kinds::MOOV, MVEX);
     if source.alone {
-        return FragmentsAnswer::Told(extended, false);
+        return Ok(FoundFragments {
+            extended,
+            fragmented: false,
+        });
     }
     let file = Part {
         at: 0,
         len: lent.len(),
     };
-    FragmentsAnswer::Told(extended, has_child(lent, file, kinds::FILE, MOOF))
+    Ok(FoundFragments {
+        extended,
+        fragmented: has_child(lent, file, kinds::FILE, MOOF),
+    })
 }
 
 // Whether the atom with that header is a fragment, for a walk over the top level. Of fewer than 8 bytes the answer is no.

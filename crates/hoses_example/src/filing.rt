@@ -1,11 +1,9 @@
 // The film time that slips file, beside the film time in the movie.
-ghost use Rattle.std.specs.Prelude.{◌≤◌};
-
-use super::show;
 use edits::MediaTime;
-use questions::samples::{SampleAnswer, sample_by_number};
-use slip::{SlipRead, read_slip};
-use slip_writing::{SlipAnswer, write_slip};
+use questions::samples::sample_by_number;
+use refusals::Refusal;
+use slip::{SlipError, read_slip};
+use slip_writing::write_slip;
 use std::io;
 use structure::source::Source;
 
@@ -15,122 +13,79 @@ const BYTES: usize = 131072;
 // More places than the pairs of such a slip can have.
 const PLACES: usize = 65536;
 
-// The film time that a slip files, or the number of the refusal.
-#[derive(Clone, Copy)]
-enum FilmTime {
-    Units(u32),
-    Refused(u32),
-}
-
-// From a up to b.
-fn between(a: u64, b: u64) -> u64 {
-    if a < b {
-        return b - a;
-    }
-    0
-}
-
-// The film time of a slip, which is read from its bytes alone.
-fn filed_by(bytes: &[u8]) -> FilmTime {
+// The film time that a slip files, which is read from its bytes alone.
+fn filed_by(bytes: &[u8]) -> Result<u32, Refusal> {
     let mut room = [0u32; PLACES];
     match read_slip(bytes, &mut room) {
-        SlipRead::Accepted(head) => FilmTime::Units(narrow(between(head.a, head.b))),
-        SlipRead::Malformed(_) => FilmTime::Refused(17),
-        SlipRead::NoRoom => FilmTime::Refused(16),
+        Ok(head) => Ok(narrow(head.b.saturating_sub(head.a))),
+        Err(SlipError::Malformed(_)) => Err(Refusal::MalformedSlip),
+        Err(SlipError::NoRoom) => Err(Refusal::NoRoom),
     }
 }
 
-// So many bytes; all where there are not so many, which a slip that was written never needs.
-fn written(count: usize, length: usize) -> usize
-    ensures { result ≤ length }
-{
-    if length < count {
-        return length;
-    }
-    count
-}
-
-// Writes the slip of a track from a to b, and reads it back.
-fn filed(film: &[u8], id: u32, a: u32, b: u32) -> FilmTime {
+// Writes the slip of a track from a to b, and reads it back: the film time that it files.
+fn filed(film: &[u8], id: u32, a: u32, b: u32) -> Result<u32, Refusal> {
     let mut out = [0u8; BYTES];
-    match write_slip(film, id, MediaTime(a), MediaTime(b), &mut out) {
-        SlipAnswer::Written(count) => {
-            let n = written(count, BYTES);
-            filed_by(&out[..n])
-        }
-        SlipAnswer::Refused(number) => FilmTime::Refused(number),
-    }
+    let count = write_slip(film, id, MediaTime(a), MediaTime(b), &mut out)?;
+    filed_by(&out[..count.min(BYTES)])
 }
 
 // A time as 32 bits hold it. A sample of an accepted film starts at no greater one.
 fn narrow(t: u64) -> u32 {
-    if t < 4294967296 {
-        return t as u32;
-    }
-    0
+    u32::try_from(t).unwrap_or(0)
 }
 
 // Where the second sample of a track starts; 0 where it has none.
 fn second_start(film: &[u8], id: u32) -> u32 {
     match sample_by_number(film, Source::whole(), id, 2) {
-        SampleAnswer::Found(sample) => narrow(sample.decode),
-        SampleAnswer::Refused(_) => 0,
+        Ok(sample) => narrow(sample.decode),
+        Err(_) => 0,
     }
 }
 
-fn verdict(rt: &impl Print, units: u64, total: u32) -> io::Result<()> {
-    show::field(rt, b", the movie has ", total)?;
-    if units == total as u64 {
-        show::text(rt, b": adds up\n")
+fn verdict(units: u64, total: u32) -> &'static str {
+    if units == u64::from(total) {
+        "adds up"
     } else {
-        show::text(rt, b": does not add up\n")
+        "does not add up"
     }
 }
 
 fn in_one_slip(rt: &impl Print, film: &[u8], id: u32, total: u32) -> io::Result<()> {
     match filed(film, id, 0, total) {
-        FilmTime::Units(units) => {
-            show::field(rt, b"one slip files ", units)?;
-            show::text(rt, b" units of film time")?;
-            verdict(rt, units as u64, total)
+        Ok(units) => {
+            let verdict = verdict(units as u64, total);
+            println!(rt;
+                "one slip files {units} units of film time, the movie has {total}: {verdict}"
+            )
         }
-        FilmTime::Refused(number) => show::refused(rt, number),
+        Err(refusal) => println!(rt; "refused {}", u32::from(refusal)),
     }
 }
 
-// The second of two slips, after one that files so many units.
-fn second_slip(
-    rt: &impl Print,
-    film: &[u8],
-    id: u32,
-    cut: u32,
-    total: u32,
-    first: u32,
-) -> io::Result<()> {
-    match filed(film, id, cut, total) {
-        FilmTime::Units(second) => {
-            show::field(rt, b"one slip files ", first)?;
-            show::field(rt, b" units of film time and one ", second)?;
-            verdict(rt, first as u64 + second as u64, total)
-        }
-        FilmTime::Refused(number) => show::refused(rt, number),
-    }
+// The film times of two slips that meet at `cut`; the refusal of the first that is refused.
+fn filed_twice(film: &[u8], id: u32, cut: u32, total: u32) -> Result<(u32, u32), Refusal> {
+    let first = filed(film, id, 0, cut)?;
+    let second = filed(film, id, cut, total)?;
+    Ok((first, second))
 }
 
 fn in_two_slips(rt: &impl Print, film: &[u8], id: u32, cut: u32, total: u32) -> io::Result<()> {
-    match filed(film, id, 0, cut) {
-        FilmTime::Units(first) => second_slip(rt, film, id, cut, total, first),
-        FilmTime::Refused(number) => show::refused(rt, number),
+    match filed_twice(film, id, cut, total) {
+        Ok((first, second)) => {
+            let verdict = verdict(first as u64 + second as u64, total);
+            print!(rt; "one slip files {first} units of film time and one {second}")?;
+            println!(rt; ", the movie has {total}: {verdict}")
+        }
+        Err(refusal) => println!(rt; "refused {}", u32::from(refusal)),
     }
 }
 
 // Files the whole of a track in two slips, which meet where its second sample starts; in one where no film time lies before that or after it.
 pub fn account(rt: &impl Print, film: &[u8], id: u32, total: u32) -> io::Result<()> {
-    show::field(rt, b"track ", id)?;
-    show::text(rt, b": ")?;
+    print!(rt; "track {id}: ")?;
     if total == 0 {
-        show::text(rt, b"no film time\n")?;
-        return Ok(());
+        return println!(rt; "no film time");
     }
     let cut = second_start(film, id);
     if 0 < cut && cut < total {

@@ -4,7 +4,6 @@
 
 mod answers;
 mod filing;
-mod show;
 
 use program_input::{
     Argument, MOST_FILM, MOST_NAME, argument_at, name_given, open_named, read_full,
@@ -12,47 +11,23 @@ use program_input::{
 use std::io;
 use std::rt::Files;
 
-// The most bytes that a film may have.
-const MOST_BYTES: usize = MOST_FILM;
-
-// Whether the input has a byte more.
-fn has_more(reader: &mut impl io::Read) -> bool {
-    let mut byte = [0u8; 1];
-    read_full(reader, &mut byte) > 0
-}
-
-// The film is read to the input's end, as the listing does: one byte more is asked for only after a full buffer.
+// The film is read to the input's end, as the listing does, into a room that takes one byte more than a film may have.
 fn answer_input(rt: &impl Print, reader: &mut impl io::Read) -> io::Result<()> {
-    let mut room = [0u8; MOST_BYTES];
+    let mut room = [0u8; MOST_FILM + 1];
     let count = read_full(reader, &mut room);
-    let film = &room[..count];
-    if film.len() == MOST_BYTES {
-        if has_more(reader) {
-            return show::text(rt, b"too long\n");
-        }
+    if count > MOST_FILM {
+        return println!(rt; "too long");
     }
-    answers::answer(rt, film)
-}
-
-fn answer_file(rt: &(impl Files + Print + Eprint), name: &[u8]) -> io::Result<()> {
-    match open_named(rt, name)? {
-        Some(mut file) => answer_input(rt, &mut file),
-        None => Ok(()),
-    }
-}
-
-fn is_dash(name: &[u8]) -> bool {
-    if name.len() != 1 {
-        return false;
-    }
-    name[0] == b'-'
+    answers::answer(rt, &room[..count])
 }
 
 fn answer_named(rt: &(impl Files + Input + Print + Eprint), name: &[u8]) -> io::Result<()> {
-    if is_dash(name) {
-        answer_input(rt, &mut rt.reader())
-    } else {
-        answer_file(rt, name)
+    if name == b"-".as_slice() {
+        return answer_input(rt, &mut rt.reader());
+    }
+    match open_named(rt, name)? {
+        Some(mut file) => answer_input(rt, &mut file),
+        None => Ok(()),
     }
 }
 

@@ -5,9 +5,9 @@ ghost use Rattle.compaction.specs.Compaction.{compact_moov};
 ghost use Rattle.hand.specs.Places.{Fills};
 ghost use Rattle.host_compaction.specs.Numbers.{of_compaction};
 
-use compaction::{Compacted, compact_moov};
+use compaction::compact_moov;
 use hand::{hand, or_short};
-use movie::refusal;
+use refusals::code;
 use structure::source::Source;
 
 // Writes the moov atom with its tables compact into the room, and its length into one place.
@@ -16,10 +16,11 @@ pub fn write_compact_moov(input: &[u8], source: Source, room: &mut [u8], places:
         (compact_moov input.now) room.old result places.new room.new }
 {
     if places.len() < 1 {
-        return or_short(refusal(input, source));
+        let asked = movie::refusal(input, source);
+        return or_short(code(&asked));
     }
     match compact_moov(input, source, room) {
-        Compacted::Written(n) => hand(0, &[n as u64], places),
-        Compacted::Refused(r) => hand(r, &[0], places),
+        Ok(n) => hand(0, &[n as u64], places),
+        Err(e) => hand(u32::from(e), &[0], places),
     }
 }

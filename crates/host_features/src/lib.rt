@@ -4,7 +4,7 @@
 ghost use Rattle.hand.specs.Places.{Answers};
 ghost use Rattle.host_features.specs.Numbers.{of_feature, of_peak};
 
-use feature_questions::{FeatureAnswer, PeakAnswer, feature_by_code, peak_by_code};
+use feature_questions::{feature_by_code, peak_by_code};
 use hand::hand;
 use structure::source::Source;
 
@@ -13,8 +13,8 @@ pub fn hand_feature(lent: &[u8], source: Source, id: u32, code: u32, places: &mu
     ensures { Answers (of_feature lent.now source id code) places.old result places.new }
 {
     match feature_by_code(lent, source, id, code) {
-        FeatureAnswer::Value(v) => hand(0, &[v as u64], places),
-        FeatureAnswer::Refused(r) => hand(r, &[0], places),
+        Ok(v) => hand(0, &[v as u64], places),
+        Err(e) => hand(u32::from(e), &[0], places),
     }
 }
 
@@ -23,7 +23,7 @@ pub fn hand_peak(lent: &[u8], source: Source, id: u32, code: u32, places: &mut [
     ensures { Answers (of_peak lent.now source id code) places.old result places.new }
 {
     match peak_by_code(lent, source, id, code) {
-        PeakAnswer::Run(first, count) => hand(0, &[first as u64, count as u64], places),
-        PeakAnswer::Refused(r) => hand(r, &[0, 0], places),
+        Ok(run) => hand(0, &[run.first as u64, run.count as u64], places),
+        Err(e) => hand(u32::from(e), &[0, 0], places),
     }
 }

@@ -6,7 +6,7 @@ ghost use Rattle.fragments.specs.Fragments.{bit};
 ghost use Rattle.hand.specs.Places.{Answers};
 ghost use Rattle.host_fragments.specs.Numbers.{of_fragments};
 
-use fragments::{FragmentsAnswer, fragments};
+use fragments::fragments;
 use hand::hand;
 use structure::source::Source;
 
@@ -22,7 +22,7 @@ pub fn hand_fragments(lent: &[u8], source: Source, places: &mut [u64]) -> u32
     ensures { Answers (of_fragments lent.now source) places.old result places.new }
 {
     match fragments(lent, source) {
-        FragmentsAnswer::Told(mvex, moof) => hand(0, &[bit(mvex), bit(moof)], places),
-        FragmentsAnswer::Refused(r) => hand(r, &[0, 0], places),
+        Ok(told) => hand(0, &[bit(told.extended), bit(told.fragmented)], places),
+        Err(e) => hand(u32::from(e), &[0, 0], places),
     }
 }

@@ -12,8 +12,8 @@ use Rattle.structure.specs.declared.source.Source.{Source}
 use Rattle.structure.specs.Rows.{or_else}
 use Rattle.movie.specs.Rooms.{no_room, filled_room, room_after}
 use Rattle.questions.specs.declared.samples.Sample.{Sample}
-use Rattle.questions.specs.declared.samples.SampleAnswer.{SampleAnswer}
-use Rattle.questions.specs.declared.samples.SampleAnswer.TheVariants as sample
+use Rattle.std.specs.Prelude.{Result, Ok}
+use Rattle.refusals.specs.declared.Refusal.{Refusal}
 use Rattle.hand.specs.Places.{Hands, Fills}
 use Rattle.hand.proofs.Answered.{judged, fills, too_few}
 use Rattle.opened.specs.declared.Opened.{Opened}
@@ -66,7 +66,7 @@ module _ (s handle index places : List ℕ) where
 -- ---- by a handle and an index
 
 -- the numbers of a sample are low
-pub indexed_low : (s ns index : List ℕ) (h : Opened) (n : ℕ) (a : SampleAnswer) → h ≡ opened_in ns → SampleByIndex s h index n a → (x : Sample) → a ≡ sample.Found x
+pub indexed_low : (s ns index : List ℕ) (h : Opened) (n : ℕ) (a : Result Sample Refusal) → h ≡ opened_in ns → SampleByIndex s h index n a → (x : Sample) → a ≡ Ok x
     → (x.decode < 2 ^ 63) × (x.chunk < 2 ^ 63) × (x.offset < 2 ^ 63)
 unfolding opened_in
 indexed_low s ns index h n a f b x e =

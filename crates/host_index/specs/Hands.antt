@@ -1,11 +1,12 @@
 -- What filling an index, and the questions by a handle and it, hand to a caller in another language.
-use Rattle.std.specs.Prelude.{ℕ, ◌≤◌, ◌<◌, ◌≡◌, cond, List, [], ◌∷◌, eqb, length, ℤ}
+use Rattle.std.specs.Prelude.{ℕ, ◌≤◌, ◌<◌, ◌≡◌, cond, List, [], ◌∷◌, eqb, length, ℤ, Result}
 use Rattle.structure.specs.declared.source.Source.{Source}
 use Rattle.movie.specs.Rooms.{no_room, refused_with}
 use Rattle.questions.specs.Samples.{sample_numbers}
-use Rattle.questions.specs.declared.samples.SampleAnswer.{SampleAnswer}
+use Rattle.questions.specs.declared.samples.Sample.{Sample}
+use Rattle.refusals.specs.declared.Refusal.{Refusal}
 use Rattle.time_questions.specs.Times.{number_numbers}
-use Rattle.time_questions.specs.declared.NumberAnswer.{NumberAnswer}
+use Rattle.time_questions.specs.declared.Numbered.{Numbered}
 use Rattle.hand.specs.Places.{Answers, SignedAnswers, Fills}
 use Rattle.hand.specs.Times.{media}
 use Rattle.host_samples.specs.Numbers.{of_sample}
@@ -30,12 +31,12 @@ pub record HandsIndex (s handle index places : List ℕ) (r : ℕ) (after filled
 
 abbrev pub HandsIndexedSample : List ℕ → List ℕ → List ℕ → ℕ → List ℤ → ℕ → List ℤ → Type 0
 HandsIndexedSample s handle index n places r after =
-    HandsBy {X = SampleAnswer} handle (SampleByIndex s (opened_in handle) index n)
+    HandsBy {X = Result Sample Refusal} handle (SampleByIndex s (opened_in handle) index n)
     (λ a. SignedAnswers (sample_numbers a) places r after) places r after
 
 abbrev pub HandsIndexedNumber : List ℕ → List ℕ → List ℕ → ℕ → List ℕ → ℕ → List ℕ → Type 0
 HandsIndexedNumber s handle index t places r after =
-    HandsBy {X = NumberAnswer} handle (NumberByIndex s (opened_in handle) index (media t))
+    HandsBy {X = Result Numbered Refusal} handle (NumberByIndex s (opened_in handle) index (media t))
     (λ a. Answers (number_numbers a) places r after) places r after
 
 -- ---- the three together

@@ -8,6 +8,7 @@ use hand::hand;
 use host_opened::handle_in;
 use host_samples::hand_sample_answer;
 use host_times::hand_number_answer;
+use refusals::code;
 use sample_index::{NUMBERS, checkpoints_of, index_into, number_by_index, sample_by_index};
 
 // Fills the index by a handle: in one place how many numbers it has.
@@ -21,7 +22,8 @@ pub fn hand_index(lent: &[u8], handle: &[u64], index: &mut [u64], places: &mut [
         return 16;
     }
     let h = handle_in(handle);
-    let refused = index_into(lent, h, index);
+    let filled = index_into(lent, h, index);
+    let refused = code(&filled);
     if refused != 0 {
         return hand(refused, &[0u64], places);
     }

@@ -8,11 +8,12 @@ use lib.IntN.{ℤ}
 use Rattle.structure.specs.declared.source.Source.{Source}
 use Rattle.movie.specs.Rooms.{refused_with}
 use Rattle.movie.proofs.Answers.{gives}
+use Rattle.movie.proofs.Numbered.{else_low, room_low}
+use Rattle.questions.proofs.Numbered.{ask_low}
 use Rattle.movie_times.specs.Entries.{edits_asked, edits_refusal, edits_count, edits_numbers}
-use Rattle.movie_times.specs.declared.entries.EditsAnswer.TheVariants as edits
 use Rattle.hand.proofs.Answered.{judged}
 use Rattle.host_movie.specs.Numbers.{of_edits}
 
 pub edits_judged : (s : List ℕ) (w : Source) (id : ℕ) (room : List ℤ) → of_edits s w id room ≡ judged (edits_refusal s w id room) (length (edits_asked s id) ∷ [])
-unfolding edits_numbers
-edits_judged s w id room = (gives edits_numbers (refused_with 1) edits.Refused (λ r. refl) (edits_count s id) (edits_refusal s w id room) _ refl).numbers
+unfolding edits_numbers edits_refusal
+edits_judged s w id room = (gives edits_numbers (refused_with 1) (λ e. refl) (edits_count s id) (edits_refusal s w id room) _ (else_low _ _ (ask_low s w id) (room_low _ room)) refl).numbers

@@ -7,9 +7,10 @@ ghost use Rattle.movie_times.specs.Entries.{edit_numbers, edits_asked};
 ghost use Rattle.host_movie.specs.Numbers.{of_movie, of_edits};
 
 use hand::{hand, or_short};
-use movie_times::entries::{EditsAnswer, stored_edits};
-use movie_times::header::{MovieAnswer, movie_header};
+use movie_times::entries::stored_edits;
+use movie_times::header::movie_header;
 use questions::ask_refusal;
+use refusals::code;
 use structure::source::Source;
 
 // The movie's time scale and the duration that it states, in two places.
@@ -17,8 +18,8 @@ pub fn hand_movie(lent: &[u8], source: Source, places: &mut [u64]) -> u32
     ensures { Answers (of_movie lent.now source) places.old result places.new }
 {
     match movie_header(lent, source) {
-        MovieAnswer::Movie(scale, duration) => hand(0, &[scale as u64, duration as u64], places),
-        MovieAnswer::Refused(r) => hand(r, &[0, 0], places),
+        Ok(times) => hand(0, &[times.scale as u64, times.duration as u64], places),
+        Err(e) => hand(u32::from(e), &[0, 0], places),
     }
 }
 
@@ -27,10 +28,11 @@ pub fn hand_edits(lent: &[u8], source: Source, id: u32, room: &mut [i64], places
     ensures { Fills (of_edits lent.now source id room.old) places.old (edit_numbers (edits_asked lent.now id)) room.old result places.new room.new }
 {
     if places.len() < 1 {
-        return or_short(ask_refusal(lent, source, id));
+        let asked = ask_refusal(lent, source, id);
+        return or_short(code(&asked));
     }
     match stored_edits(lent, source, id, room) {
-        EditsAnswer::Entries(n) => hand(0, &[n as u64], places),
-        EditsAnswer::Refused(r) => hand(r, &[0], places),
+        Ok(n) => hand(0, &[n as u64], places),
+        Err(e) => hand(u32::from(e), &[0], places),
     }
 }

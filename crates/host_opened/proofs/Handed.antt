@@ -11,37 +11,38 @@ use lib.Dec.{ltb}
 use lib.ListN.{length, get_or, drop}
 use Rattle.structure.specs.declared.source.Source.{Source}
 use Rattle.questions.specs.declared.samples.Sample.{Sample}
-use Rattle.questions.specs.declared.samples.SampleAnswer.{SampleAnswer}
-use Rattle.questions.specs.declared.samples.SampleAnswer.TheVariants as sample
+use Rattle.std.specs.Prelude.{Result, Ok, Err}
+use Rattle.refusals.specs.Refusals.{number, code}
+use Rattle.refusals.specs.declared.Refusal.{Refusal}
+use Rattle.refusals.proofs.Numbers.{ok_one}
+use Rattle.movie.proofs.Refused.{not_both}
 use Rattle.structure.proofs.Callers.{none_else}
 use Rattle.movie.specs.Rooms.{no_room, filled_room, room_after}
 use Rattle.hand.specs.Places.{Hands}
-use Rattle.opened.specs.Opened.{open_number, HandleOf, OpenAnswers, Opens, SampleBy}
+use Rattle.opened.specs.Opened.{HandleOf, OpenAnswers, Opens, SampleBy}
 use Rattle.opened.specs.declared.Opened.{Opened}
-use Rattle.opened.specs.declared.Opening.{Opening}
-use Rattle.opened.specs.declared.Opening.TheVariants.{Track, Refused}
 use Rattle.host_opened.specs.Handle.{opened_numbers, opened_in, HandsHandle}
 use Rattle.host_opened.specs.Hands.{open_values, HandsOpening, HandsBy, SameByHandle}
 
 -- ---- opening
 
-pub opened_track : (s : List ℕ) (w : Source) (id : ℕ) (places : List ℕ) (r : ℕ) (after : List ℕ) (o : Opening) (h : Opened) → OpenAnswers s w id o → o ≡ Track h → HandsHandle h places r after
+pub opened_track : (s : List ℕ) (w : Source) (id : ℕ) (places : List ℕ) (r : ℕ) (after : List ℕ) (o : Result Opened Refusal) (h : Opened) → OpenAnswers s w id o → o ≡ Ok h → HandsHandle h places r after
     → HandsOpening s w id places r after
 unfolding open_values
 opened_track s w id places r after o h a e d = record {
-  opening = Track h;
+  opening = Ok h;
   opens = rw e at a;
   handed = d.handed;
-  again = λ g q l. let z : h ≡ g = cc in d.again l ∙ z;
+  again = λ g q l. d.again l ∙ ok_one q;
 }
 
-pub opened_refused : (s : List ℕ) (w : Source) (id : ℕ) (places : List ℕ) (r : ℕ) (after : List ℕ) (o : Opening) (k : ℕ) → OpenAnswers s w id o → o ≡ Refused k
-    → Hands k (open_values (Refused k)) places r after → HandsOpening s w id places r after
+pub opened_refused : (s : List ℕ) (w : Source) (id : ℕ) (places : List ℕ) (r : ℕ) (after : List ℕ) (o : Result Opened Refusal) (k : Refusal) → OpenAnswers s w id o → o ≡ Err k
+    → Hands (number k) (open_values (Err k)) places r after → HandsOpening s w id places r after
 opened_refused s w id places r after o k a e d = record {
-  opening = Refused k;
+  opening = Err k;
   opens = rw e at a;
   handed = d;
-  again = λ g q l. let z : ◌≡◌ {A = ℕ} 0 1 = cc in absurd (omega arith);
+  again = λ g q l. not_both _ k g refl q;
 }
 
 -- ---- by a handle
@@ -54,7 +55,7 @@ module _ {X Y : Type 0} (handle : List ℕ) (Promise Handed : X → Type 0) (pla
   handle_whole h a p d = record { short = λ l. absurd (omega arith); answered = λ l. record { answer = a; promise = p; handed = d } }
 
 -- the numbers of a sample by a handle are low
-pub sample_low : (s ns : List ℕ) (h : Opened) (n : ℕ) (a : SampleAnswer) → h ≡ opened_in ns → SampleBy s h n a → (x : Sample) → a ≡ sample.Found x
+pub sample_low : (s ns : List ℕ) (h : Opened) (n : ℕ) (a : Result Sample Refusal) → h ≡ opened_in ns → SampleBy s h n a → (x : Sample) → a ≡ Ok x
     → (x.decode < 2 ^ 63) × (x.chunk < 2 ^ 63) × (x.offset < 2 ^ 63)
 unfolding opened_in
 sample_low s ns h n a f b x e =
@@ -69,7 +70,7 @@ room_enough true e = absurd (omega arith)
 room_enough false e = refl
 
 module _ (s : List ℕ) (w : Source) (id : ℕ) (places : List ℕ) (r : ℕ) (after : List ℕ) (d : HandsOpening s w id places r after) (z : r ≡ 0) where
-  judged : (open_number d.opening ≡ 0) × (no_room (open_values d.opening) places ≡ 0)
+  judged : (code d.opening ≡ 0) × (no_room (open_values d.opening) places ≡ 0)
   judged = none_else _ _ (sym d.handed.result ∙ z)
 
   found : HandleOf s w id d.opening

@@ -1,35 +1,35 @@
 -- What opening a track, and the questions by a handle, hand to a caller in another language.
-use Rattle.std.specs.Prelude.{ℕ, ◌≤◌, ◌<◌, ◌≡◌, List, length, replicate, ℤ}
+use Rattle.std.specs.Prelude.{ℕ, ◌≤◌, ◌<◌, ◌≡◌, List, length, replicate, ℤ, Option, Result, Ok, Err}
 use Rattle.structure.specs.declared.source.Source.{Source}
 use Rattle.questions.specs.Samples.{sample_numbers}
-use Rattle.questions.specs.declared.samples.SampleAnswer.{SampleAnswer}
+use Rattle.questions.specs.declared.samples.Sample.{Sample}
 use Rattle.time_questions.specs.Times.{number_numbers, time_numbers}
-use Rattle.time_questions.specs.declared.NumberAnswer.{NumberAnswer}
-use Rattle.time_questions.specs.declared.TimeAnswer.{TimeAnswer}
+use Rattle.time_questions.specs.declared.Numbered.{Numbered}
+use Rattle.edits.specs.declared.MediaTime.{MediaTime}
+use Rattle.refusals.specs.Refusals.{code}
+use Rattle.refusals.specs.declared.Refusal.{Refusal}
 use Rattle.hand.specs.Places.{Hands, Answers, SignedAnswers}
 use Rattle.hand.specs.Times.{media, movie}
 use Rattle.host_samples.specs.Numbers.{of_sample}
 use Rattle.host_times.specs.Numbers.{of_sample_at, of_media_time}
-use Rattle.opened.specs.Opened.{open_number, OpenAnswers, SampleBy, NumberBy, TimeBy}
+use Rattle.opened.specs.Opened.{OpenAnswers, SampleBy, NumberBy, TimeBy}
 use Rattle.opened.specs.declared.Opened.{Opened}
-use Rattle.opened.specs.declared.Opening.{Opening}
-use Rattle.opened.specs.declared.Opening.TheVariants.{Track, Refused}
 use Rattle.host_opened.specs.Handle.{opened_numbers, opened_in}
 
 -- ---- opening
 
 -- "Numbers returned with a refusal are all 0"
-unfoldable pub open_values : Opening → List ℕ
-open_values (Track h) = opened_numbers h
-open_values (Refused r) = replicate 19 0
+unfoldable pub open_values : Result Opened Refusal → List ℕ
+open_values (Ok h) = opened_numbers h
+open_values (Err e) = replicate 19 0
 
 -- the promise of `hand_opening`: an answer that keeps the promise of `Opened::of`, its refusal and its values
 pub record HandsOpening (s : List ℕ) (w : Source) (id : ℕ) (handle : List ℕ) (r : ℕ) (after : List ℕ) : Type 0 where
-  pub opening : Opening
+  pub opening : Result Opened Refusal
   pub opens : OpenAnswers s w id opening
-  pub handed : Hands (open_number opening) (open_values opening) handle r after
+  pub handed : Hands (code opening) (open_values opening) handle r after
   -- what then stands in the places is the handle
-  pub again : (h : Opened) → opening ≡ Track h → 19 ≤ length handle → opened_in after ≡ h
+  pub again : (h : Opened) → opening ≡ Ok h → 19 ≤ length handle → opened_in after ≡ h
 
 -- ---- by a handle
 
@@ -47,15 +47,15 @@ pub record HandsBy {X Y : Type 0} (handle : List ℕ) (Promise Handed : X → Ty
 -- the promises of the three functions
 abbrev pub HandsSample : List ℕ → List ℕ → ℕ → List ℤ → ℕ → List ℤ → Type 0
 HandsSample s handle n places r after =
-    HandsBy {X = SampleAnswer} handle (SampleBy s (opened_in handle) n) (λ a. SignedAnswers (sample_numbers a) places r after) places r after
+    HandsBy {X = Result Sample Refusal} handle (SampleBy s (opened_in handle) n) (λ a. SignedAnswers (sample_numbers a) places r after) places r after
 
 abbrev pub HandsNumber : List ℕ → List ℕ → ℕ → List ℕ → ℕ → List ℕ → Type 0
 HandsNumber s handle t places r after =
-    HandsBy {X = NumberAnswer} handle (NumberBy s (opened_in handle) (media t)) (λ a. Answers (number_numbers a) places r after) places r after
+    HandsBy {X = Result Numbered Refusal} handle (NumberBy s (opened_in handle) (media t)) (λ a. Answers (number_numbers a) places r after) places r after
 
 abbrev pub HandsTime : List ℕ → List ℕ → ℕ → List ℕ → ℕ → List ℕ → Type 0
 HandsTime s handle t places r after =
-    HandsBy {X = TimeAnswer} handle (TimeBy s (opened_in handle) (movie t)) (λ a. Answers (time_numbers a) places r after) places r after
+    HandsBy {X = Result (Option MediaTime) Refusal} handle (TimeBy s (opened_in handle) (movie t)) (λ a. Answers (time_numbers a) places r after) places r after
 
 -- ---- the two together
 

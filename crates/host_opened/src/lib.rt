@@ -9,7 +9,7 @@ use edits::{MediaTime, MovieTime};
 use hand::hand;
 use host_samples::hand_sample_answer;
 use host_times::{hand_number_answer, hand_time_answer};
-use opened::{Opened, Opening};
+use opened::Opened;
 use structure::source::Source;
 use table_numbers::{low_at, part_at, tables_at};
 
@@ -75,8 +75,8 @@ pub fn hand_opening(lent: &[u8], source: Source, id: u32, handle: &mut [u64]) ->
     ensures { HandsOpening lent.now source id handle.old result handle.new }
 {
     match Opened::of(lent, source, id) {
-        Opening::Track(h) => hand_handle(h, handle),
-        Opening::Refused(r) => hand(r, &[0u64; 19], handle),
+        Ok(h) => hand_handle(h, handle),
+        Err(e) => hand(u32::from(e), &[0u64; 19], handle),
     }
 }
 

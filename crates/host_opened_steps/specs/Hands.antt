@@ -1,7 +1,8 @@
 -- What a start by a handle hands to a caller in another language.
-use Rattle.std.specs.Prelude.{ℕ, List}
+use Rattle.std.specs.Prelude.{ℕ, List, Result}
 use Rattle.structure.specs.declared.source.Source.{Source}
-use Rattle.stepping.specs.declared.Start.{Start}
+use Rattle.stepping.specs.declared.Stepper.{Stepper}
+use Rattle.refusals.specs.declared.Refusal.{Refusal}
 use Rattle.opened_steps.specs.Steps.{StartBy}
 use Rattle.host_opened.specs.Handle.{opened_in}
 use Rattle.host_opened.specs.Hands.{HandsBy}
@@ -11,7 +12,7 @@ use Rattle.host_step_starts.specs.Hands.{StartHanded, HandsStart}
 -- of `start_by`, its refusal and its values
 abbrev pub HandsStartBy : List ℕ → List ℕ → ℕ → List ℕ → ℕ → List ℕ → Type 0
 HandsStartBy s handle n stepper r after =
-    HandsBy {X = Start} handle (StartBy s (opened_in handle) n) (λ a. StartHanded a stepper r after) stepper r after
+    HandsBy {X = Result Stepper Refusal} handle (StartBy s (opened_in handle) n) (λ a. StartHanded a stepper r after) stepper r after
 
 -- by a handle in these places a start hands over what it does without one
 abbrev pub SameStart : List ℕ → Source → ℕ → List ℕ → Type 0

@@ -10,17 +10,17 @@ use Rattle.structure.specs.declared.source.Source.{Source}
 use Rattle.structure.specs.Rows.{or_else}
 use Rattle.movie.specs.Rooms.{no_room, refused_with}
 use Rattle.movie.proofs.Answers.{gives}
+use Rattle.movie.proofs.Numbered.{else_low, room_low}
 use Rattle.pairs.specs.Pairs.{flat}
 use Rattle.pairs.specs.Walks.{lengths_of}
 use Rattle.stretch.specs.Stretches.{stretch_numbers}
 use Rattle.stretch.specs.Said.{pairs_answer}
-use Rattle.stretch.specs.declared.StretchAnswer.TheVariants.{Refused}
 use Rattle.hand.specs.Places.{Fills}
 use Rattle.hand.specs.Times.{media}
 use Rattle.hand.proofs.Answered.{judged}
 use Rattle.opened.specs.declared.Opened.{Opened}
 use Rattle.opened_stretches.specs.Stretches.{by_refusal, by_pairs}
-use Rattle.opened_stretches.proofs.Answers.{by_pairs_same, by_answer_same}
+use Rattle.opened_stretches.proofs.Answers.{by_low, by_pairs_same, by_answer_same}
 use Rattle.host_opened.specs.Handle.{opened_in}
 use Rattle.host_opened.specs.Hands.{HandsOpening}
 use Rattle.host_opened.proofs.Handed.{long, opening_opens}
@@ -33,7 +33,7 @@ pub by_judged : (s : List ℕ) (h : Opened) (a b : ℕ) (room : List ℕ)
 unfolding stretch_numbers
 by_judged s h a b room =
     let qs = by_pairs s h (media a) (media b) in
-    (gives stretch_numbers (refused_with 2) Refused (λ r. refl) (pairs_answer qs) (or_else (by_refusal s h (media a) (media b)) (no_room (flat qs) room)) _ refl).numbers
+    (gives stretch_numbers (refused_with 2) (λ e. refl) (pairs_answer qs) (or_else (by_refusal s h (media a) (media b)) (no_room (flat qs) room)) _ (else_low _ _ (by_low s h (media a) (media b)) (room_low _ room)) refl).numbers
 
 module _ (s handle : List ℕ) (a b : ℕ) (room places : List ℕ) (r : ℕ) (filled after : List ℕ) where
   pub stretch_short : length handle < 19 → r ≡ 16 → filled ≡ room → after ≡ places → HandsStretch s handle a b room places r filled after

@@ -7,7 +7,7 @@ use edits::MediaTime;
 use hand::{hand, or_short};
 use host_opened::{NUMBERS, handle_in};
 use opened_stretches::{refusal_by, stretch_by};
-use stretch::StretchAnswer;
+use refusals::code;
 
 // The stretch from a to b by a handle: a pair (offset, length) for each chunk touched in the room, and in two places how many pairs and the total of bytes.
 pub fn hand_opened_stretch(
@@ -25,10 +25,11 @@ pub fn hand_opened_stretch(
     }
     let h = handle_in(handle);
     if places.len() < 2 {
-        return or_short(refusal_by(lent, h, MediaTime(a), MediaTime(b)));
+        let asked = refusal_by(lent, h, MediaTime(a), MediaTime(b));
+        return or_short(code(&asked));
     }
     match stretch_by(lent, h, MediaTime(a), MediaTime(b), room) {
-        StretchAnswer::Pairs(n, bytes) => hand(0, &[n as u64, bytes], places),
-        StretchAnswer::Refused(r) => hand(r, &[0, 0], places),
+        Ok(totals) => hand(0, &[totals.pairs as u64, totals.bytes], places),
+        Err(e) => hand(u32::from(e), &[0, 0], places),
     }
 }

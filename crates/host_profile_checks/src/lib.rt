@@ -5,7 +5,7 @@ ghost use Rattle.hand.specs.Places.{Answers};
 ghost use Rattle.host_profile_checks.specs.Numbers.{of_profile_check};
 
 use hand::hand;
-use profile_checks::{ProfileCheckAnswer, check_profile};
+use profile_checks::{ProfileCheck, check_profile};
 use structure::source::Source;
 
 // In one place 0 where the profile is true, else the place of the first record at fault, from 1.
@@ -13,8 +13,8 @@ pub fn hand_check_profile(lent: &[u8], source: Source, id: u32, places: &mut [u6
     ensures { Answers (of_profile_check lent.now source id) places.old result places.new }
 {
     match check_profile(lent, source, id) {
-        ProfileCheckAnswer::Yes => hand(0, &[0], places),
-        ProfileCheckAnswer::Fault(place) => hand(0, &[place as u64], places),
-        ProfileCheckAnswer::Refused(r) => hand(r, &[0], places),
+        Ok(ProfileCheck::Yes) => hand(0, &[0], places),
+        Ok(ProfileCheck::Fault(place)) => hand(0, &[place as u64], places),
+        Err(e) => hand(u32::from(e), &[0], places),
     }
 }

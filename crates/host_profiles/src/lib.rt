@@ -6,7 +6,8 @@ ghost use Rattle.hand.specs.Places.{Fills};
 ghost use Rattle.host_profiles.specs.Numbers.{of_profile};
 
 use hand::{hand, or_short};
-use profiles::{ProfileAnswer, id_refusal, stored_profile};
+use profiles::{id_refusal, stored_profile};
+use refusals::code;
 use structure::source::Source;
 
 // The stored profile of a track, or for ID 0 of the movie: three numbers for each record in the room, and in one place how many records.
@@ -20,10 +21,11 @@ pub fn hand_profile(
     ensures { Fills (of_profile lent.now source id room.old) places.old (profile_numbers lent.now id) room.old result places.new room.new }
 {
     if places.len() < 1 {
-        return or_short(id_refusal(lent, source, id));
+        let asked = id_refusal(lent, source, id);
+        return or_short(code(&asked));
     }
     match stored_profile(lent, source, id, room) {
-        ProfileAnswer::Records(n) => hand(0, &[n as u64], places),
-        ProfileAnswer::Refused(r) => hand(r, &[0], places),
+        Ok(n) => hand(0, &[n as u64], places),
+        Err(e) => hand(u32::from(e), &[0], places),
     }
 }

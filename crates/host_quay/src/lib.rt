@@ -5,7 +5,7 @@ ghost use Rattle.hand.specs.Places.{Answers};
 ghost use Rattle.host_quay.specs.Numbers.{of_quay};
 
 use hand::hand;
-use quay::{QuayAnswer, check_quay};
+use quay::check_quay;
 use structure::source::Source;
 
 // The lowest rule that the film breaks and the ID of the first track that breaks it, in two places; the ID is 0 for the first rule.
@@ -14,8 +14,8 @@ pub fn hand_quay(lent: &[u8], source: Source, places: &mut [u64]) -> u32
     ensures { Answers (of_quay lent.now source) places.old result places.new }
 {
     match check_quay(lent, source) {
-        QuayAnswer::Yes => hand(0, &[0, 0], places),
-        QuayAnswer::Breaks(rule, id) => hand(0, &[rule as u64, id as u64], places),
-        QuayAnswer::Refused(r) => hand(r, &[0, 0], places),
+        Ok(None) => hand(0, &[0, 0], places),
+        Ok(Some(breach)) => hand(0, &[breach.rule as u64, breach.track as u64], places),
+        Err(e) => hand(u32::from(e), &[0, 0], places),
     }
 }

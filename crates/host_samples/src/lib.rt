@@ -5,19 +5,20 @@ ghost use Rattle.hand.specs.Places.{Answers, SignedAnswers};
 ghost use Rattle.questions.specs.Samples.{sample_numbers};
 ghost use Rattle.host_samples.specs.Numbers.{Signable, of_sample, of_sample_bytes};
 
-use hand::{hand, hand_signed};
-use questions::samples::{SampleAnswer, sample_by_number};
+use hand::hand;
+use questions::samples::{Sample, sample_by_number};
+use refusals::Refusal;
 use structure::source::Source;
 
 // The values of an answer in eight places: decode time, duration, composition time, sync (1 or 0), description ID, chunk, offset, size.
-pub fn hand_sample_answer(answer: SampleAnswer, places: &mut [i64]) -> u32
+pub fn hand_sample_answer(answer: Result<Sample, Refusal>, places: &mut [i64]) -> u32
     requires { Signable answer }
     ensures { SignedAnswers (sample_numbers answer) places.old result places.new }
 {
     match answer {
-        SampleAnswer::Found(s) => {
+        Ok(s) => {
             let sync = s.sync as i64;
-            hand_signed(
+            hand(
                 0,
                 &[
                     s.decode as i64,
@@ -32,7 +33,7 @@ pub fn hand_sample_answer(answer: SampleAnswer, places: &mut [i64]) -> u32
                 places,
             )
         }
-        SampleAnswer::Refused(r) => hand_signed(r, &[0i64; 8], places),
+        Err(e) => hand(u32::from(e), &[0i64; 8], places),
     }
 }
 
@@ -48,7 +49,7 @@ pub fn hand_sample_bytes(file: &[u8], id: u32, n: u32, places: &mut [u64]) -> u3
     ensures { Answers (of_sample_bytes file.now id n) places.old result places.new }
 {
     match sample_by_number(file, Source::whole(), id, n) {
-        SampleAnswer::Found(s) => hand(0, &[s.offset, s.size as u64], places),
-        SampleAnswer::Refused(r) => hand(r, &[0, 0], places),
+        Ok(s) => hand(0, &[s.offset, s.size as u64], places),
+        Err(e) => hand(u32::from(e), &[0, 0], places),
     }
 }

@@ -7,7 +7,7 @@ ghost use Rattle.hand.specs.Places.{Fills};
 ghost use Rattle.host_slips.specs.Numbers.{of_slip_reading, pairs_of, outcome_refusal};
 
 use hand::{hand, or_short};
-use slip::{SlipRead, read_slip};
+use slip::{SlipError, read_slip};
 
 // Whether bytes are a slip: 0, or 17.
 fn slip_refusal(bytes: &[u8]) -> u32
@@ -15,9 +15,9 @@ fn slip_refusal(bytes: &[u8]) -> u32
 {
     let mut none = [0u32; 0];
     match read_slip(bytes, &mut none) {
-        SlipRead::Accepted(_) => 0,
-        SlipRead::Malformed(_) => 17,
-        SlipRead::NoRoom => 0,
+        Ok(_) => 0,
+        Err(SlipError::Malformed(_)) => 17,
+        Err(SlipError::NoRoom) => 0,
     }
 }
 
@@ -29,8 +29,8 @@ pub fn hand_read_slip(bytes: &[u8], room: &mut [u32], places: &mut [u64]) -> u32
         return or_short(slip_refusal(bytes));
     }
     match read_slip(bytes, room) {
-        SlipRead::Accepted(h) => hand(0, &[h.id, h.scale, h.a, h.b, h.pairs, 0], places),
-        SlipRead::Malformed(place) => hand(17, &[0, 0, 0, 0, 0, place as u64], places),
-        SlipRead::NoRoom => hand(16, &[0u64; 6], places),
+        Ok(h) => hand(0, &[h.id, h.scale, h.a, h.b, h.pairs, 0], places),
+        Err(SlipError::Malformed(place)) => hand(17, &[0, 0, 0, 0, 0, place as u64], places),
+        Err(SlipError::NoRoom) => hand(16, &[0u64; 6], places),
     }
 }

@@ -5,16 +5,17 @@ ghost use Rattle.host_step_starts.specs.Hands.{StartHanded, HandsStart};
 
 use hand::hand;
 use position_numbers::hand_position;
-use stepping::{Start, Stepper};
+use refusals::Refusal;
+use stepping::Stepper;
 use structure::source::Source;
 
 // Puts the numbers of a position, or zeros with a refusal, into the first 29 places.
-pub fn hand_start(start: Start, stepper: &mut [u64]) -> u32
+pub fn hand_start(start: Result<Stepper, Refusal>, stepper: &mut [u64]) -> u32
     ensures { StartHanded start stepper.old result stepper.new }
 {
     match start {
-        Start::At(p) => hand_position(p, stepper),
-        Start::Refused(r) => hand(r, &[0u64; 29], stepper),
+        Ok(p) => hand_position(p, stepper),
+        Err(e) => hand(u32::from(e), &[0u64; 29], stepper),
     }
 }
 

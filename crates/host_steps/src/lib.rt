@@ -4,7 +4,7 @@
 ghost use Rattle.std.specs.Prelude.{◌≤◌, length};
 ghost use Rattle.host_steps.specs.Hands.{Advanced, HandsStep, HandsSteps};
 
-use hand::hand_signed;
+use hand::hand;
 use position_numbers::{NUMBERS, hand_position, position_in};
 use steps_into::{SAMPLE, steps_into};
 
@@ -41,7 +41,7 @@ pub fn hand_sample_step(lent: &[u8], stepper: &mut [u64], places: &mut [i64]) ->
     }
     let n = advance(lent, stepper, &mut places[1..9], 1);
     if n == 0 {
-        return hand_signed(0, &[0i64; 9], places);
+        return hand(0, &[0i64; 9], places);
     }
     places[0] = 1;
     0

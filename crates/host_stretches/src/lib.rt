@@ -10,7 +10,8 @@ ghost use Rattle.host_stretches.specs.Numbers.{of_stretch};
 
 use edits::MediaTime;
 use hand::{hand, or_short};
-use stretch::{StretchAnswer, span_refusal, stretch_of};
+use refusals::code;
+use stretch::{span_refusal, stretch_of};
 use structure::source::Source;
 
 // The stretch of a track from a to b: a pair (offset, length) for each chunk touched in the room, and in two places how many pairs and the total of bytes.
@@ -26,10 +27,11 @@ pub fn hand_stretch(
 {
     if places.len() < 2 {
         let source = Source::whole();
-        return or_short(span_refusal(file, source, id, MediaTime(a), MediaTime(b)));
+        let asked = span_refusal(file, source, id, MediaTime(a), MediaTime(b));
+        return or_short(code(&asked));
     }
     match stretch_of(file, id, MediaTime(a), MediaTime(b), room) {
-        StretchAnswer::Pairs(n, bytes) => hand(0, &[n as u64, bytes], places),
-        StretchAnswer::Refused(r) => hand(r, &[0, 0], places),
+        Ok(totals) => hand(0, &[totals.pairs as u64, totals.bytes], places),
+        Err(e) => hand(u32::from(e), &[0, 0], places),
     }
 }

@@ -7,16 +7,17 @@ ghost use Rattle.host_times.specs.Numbers.{of_sample_at, of_media_time};
 
 use edits::{MediaTime, MovieTime};
 use hand::hand;
+use refusals::Refusal;
 use structure::source::Source;
-use time_questions::{NumberAnswer, TimeAnswer, media_time_of, sample_at_time};
+use time_questions::{Numbered, media_time_of, sample_at_time};
 
 // The values of an answer in two places: the sample's number and the position of its entry in stts.
-pub fn hand_number_answer(answer: NumberAnswer, places: &mut [u64]) -> u32
+pub fn hand_number_answer(answer: Result<Numbered, Refusal>, places: &mut [u64]) -> u32
     ensures { Answers (number_numbers answer) places.old result places.new }
 {
     match answer {
-        NumberAnswer::Number(n, entry) => hand(0, &[n as u64, entry as u64], places),
-        NumberAnswer::Refused(r) => hand(r, &[0, 0], places),
+        Ok(found) => hand(0, &[found.sample as u64, found.entry as u64], places),
+        Err(e) => hand(u32::from(e), &[0, 0], places),
     }
 }
 
@@ -28,13 +29,13 @@ pub fn hand_sample_at(lent: &[u8], source: Source, id: u32, t: u32, places: &mut
 }
 
 // The values of an answer in two places: 1 and the media time, or 0 and 0 where nothing is shown.
-pub fn hand_time_answer(answer: TimeAnswer, places: &mut [u64]) -> u32
+pub fn hand_time_answer(answer: Result<Option<MediaTime>, Refusal>, places: &mut [u64]) -> u32
     ensures { Answers (time_numbers answer) places.old result places.new }
 {
     match answer {
-        TimeAnswer::Shown(m) => hand(0, &[1, m.0 as u64], places),
-        TimeAnswer::NothingShown => hand(0, &[0, 0], places),
-        TimeAnswer::NotMapped(r) => hand(r, &[0, 0], places),
+        Ok(Some(m)) => hand(0, &[1, m.0 as u64], places),
+        Ok(None) => hand(0, &[0, 0], places),
+        Err(refusal) => hand(u32::from(refusal), &[0, 0], places),
     }
 }
 

@@ -9,7 +9,8 @@ ghost use Rattle.host_stretches.specs.Numbers.{of_stretch};
 
 use edits::MediaTime;
 use hand::{hand, or_short};
-use stretch::{StretchAnswer, span_refusal, stretch_wide};
+use refusals::code;
+use stretch::{span_refusal, stretch_wide};
 use structure::source::Source;
 
 // The stretch of a track from a to b: a pair (offset, length) for each chunk touched in the room, and in two places how many pairs and the total of bytes.
@@ -25,10 +26,11 @@ pub fn hand_wide_stretch(
     ensures { Fills (of_stretch lent.now source id a b room.old) places.old (flat (stretch_pairs lent.now id (media a) (media b))) room.old result places.new room.new }
 {
     if places.len() < 2 {
-        return or_short(span_refusal(lent, source, id, MediaTime(a), MediaTime(b)));
+        let asked = span_refusal(lent, source, id, MediaTime(a), MediaTime(b));
+        return or_short(code(&asked));
     }
     match stretch_wide(lent, source, id, MediaTime(a), MediaTime(b), room) {
-        StretchAnswer::Pairs(n, bytes) => hand(0, &[n as u64, bytes], places),
-        StretchAnswer::Refused(r) => hand(r, &[0, 0], places),
+        Ok(totals) => hand(0, &[totals.pairs as u64, totals.bytes], places),
+        Err(e) => hand(u32::from(e), &[0, 0], places),
     }
 }

@@ -8,7 +8,8 @@ ghost use Rattle.host_written_slips.specs.Numbers.{of_slip_writing};
 
 use edits::MediaTime;
 use hand::{hand, or_short};
-use slip_writing::{SlipAnswer, write_slip_of};
+use refusals::code;
+use slip_writing::write_slip_of;
 use stretch::span_refusal;
 use structure::source::Source;
 
@@ -26,10 +27,11 @@ pub fn hand_written_slip(
 {
     if places.len() < 1 {
         let strict = source.strictly();
-        return or_short(span_refusal(lent, strict, id, MediaTime(a), MediaTime(b)));
+        let asked = span_refusal(lent, strict, id, MediaTime(a), MediaTime(b));
+        return or_short(code(&asked));
     }
     match write_slip_of(lent, source, id, MediaTime(a), MediaTime(b), out) {
-        SlipAnswer::Written(n) => hand(0, &[n as u64], places),
-        SlipAnswer::Refused(r) => hand(r, &[0], places),
+        Ok(n) => hand(0, &[n as u64], places),
+        Err(e) => hand(u32::from(e), &[0], places),
     }
 }

@@ -3,7 +3,7 @@ use Rattle.std.specs.Prelude.{ℕ, List, Bool, not, ◌&&◌, ◌||◌, length, 
 use Rattle.bigendian.specs.BigEndian.{u32_at}
 use Rattle.atoms.specs.Kinds.{moov, stsd, vide}
 use Rattle.atoms.specs.Tree.{everywhere}
-use Rattle.leaves.specs.declared.LeafRule.TheVariants.{Version, Size}
+use Rattle.leaves.specs.Leaves.{Version, Size}
 use Rattle.leaves.specs.Leaves.{holds_entries, sized_entries, leaves_ok}
 use Rattle.structure.specs.Track.{subtype_of, table_of, profile_of}
 use Rattle.structure.specs.Movie.{movie_profile}

@@ -7,8 +7,11 @@ use Rattle.atoms.specs.Atoms.{kind_of, atoms}
 use Rattle.atoms.specs.Tree.{all}
 use Rattle.leaves.specs.declared.Form.{Form}
 use Rattle.leaves.specs.declared.Form.TheVariants.{Skipped, Exactly, AtLeast, Entries, Sizes, Sized}
-use Rattle.leaves.specs.declared.LeafRule.{LeafRule}
-use Rattle.leaves.specs.declared.LeafRule.TheVariants.{Version, Size}
+
+-- what is asked of a read leaf
+pub data LeafRule : Type 0 where
+  Version : LeafRule
+  Size : LeafRule
 
 -- an atom is a read leaf only in the parent that it belongs to; anywhere else it is skipped
 abbrev pub in_parent : Bool → Form → Form

@@ -1,15 +1,15 @@
 // The read leaves of a movie: which atoms they are, their version and their size.
 #![tactic(auto)]
 
-ghost use Rattle.std.specs.Prelude.{◌≡◌, cond, ◌≤◌, length};
-ghost use Rattle.leaves.specs.Leaves.{form_of, skipped, version_ok, holds_entries, size_entry, filled_with, sized_entries, size_ok, leaf_ok};
+ghost use Rattle.std.specs.Prelude.{◌≡◌, ◌≤◌, length};
+ghost use Rattle.leaves.specs.Leaves.{Size, Version, form_of, holds_entries, size_entry, filled_with, sized_entries, size_ok, leaf_ok};
 
 use atoms::kinds;
 use bigendian::{byte_at, u32_at};
 
 // How an atom's size is judged: not at all, an atom that is skipped; a number of bytes; 16 bytes and entries of one width;
 // stsz; 16 bytes and entries that state their own size, at least so many bytes each.
-#[derive(Clone, Copy)]
+#[derive(Clone, Copy, Debug, PartialEq, Eq)]
 pub enum Form {
     Skipped,
     Exactly(usize),
@@ -19,61 +19,36 @@ pub enum Form {
     Sized(usize),
 }
 
-// What is asked of a read leaf.
-#[derive(Clone, Copy)]
-pub enum LeafRule {
-    Version,
-    Size,
-}
-
-fn in_parent(there: bool, f: Form) -> Form
-    ensures { result ≡ cond there f Form.Skipped }
-{
-    if there { f } else { Form::Skipped }
-}
-
 // The form of an atom of that kind in that parent; `wide` is true in a moov alone, where co64 is read.
+#[tactic(auto, unfolding(crate::specs::Leaves::form_of))]
 pub fn form_of(parent: u32, kind: u32, wide: bool) -> Form
     ensures { result ≡ form_of wide parent kind }
 {
-    match kind {
-        kinds::MVHD => in_parent(parent == kinds::MOOV, Form::Exactly(108)),
-        kinds::TKHD => in_parent(parent == kinds::TRAK, Form::Exactly(92)),
-        kinds::MDHD => in_parent(parent == kinds::MDIA, Form::Exactly(32)),
-        kinds::HDLR => in_parent(parent == kinds::MDIA, Form::AtLeast(32)),
-        kinds::ELST => in_parent(parent == kinds::EDTS, Form::Entries(12)),
-        kinds::STTS | kinds::CTTS => in_parent(parent == kinds::STBL, Form::Entries(8)),
-        kinds::STSC => in_parent(parent == kinds::STBL, Form::Entries(12)),
-        kinds::STSZ => in_parent(parent == kinds::STBL, Form::Sizes),
-        kinds::STCO | kinds::STSS => in_parent(parent == kinds::STBL, Form::Entries(4)),
-        kinds::CO64 => in_parent(wide, in_parent(parent == kinds::STBL, Form::Entries(8))),
-        kinds::STSD => in_parent(parent == kinds::STBL, Form::Sized(16)),
-        kinds::DREF => in_parent(parent == kinds::DINF, Form::Sized(12)),
+    match (parent, kind) {
+        (kinds::MOOV, kinds::MVHD) => Form::Exactly(108),
+        (kinds::TRAK, kinds::TKHD) => Form::Exactly(92),
+        (kinds::MDIA, kinds::MDHD) => Form::Exactly(32),
+        (kinds::MDIA, kinds::HDLR) => Form::AtLeast(32),
+        (kinds::EDTS, kinds::ELST) => Form::Entries(12),
+        (kinds::STBL, kinds::STTS | kinds::CTTS) => Form::Entries(8),
+        (kinds::STBL, kinds::STSC) => Form::Entries(12),
+        (kinds::STBL, kinds::STSZ) => Form::Sizes,
+        (kinds::STBL, kinds::STCO | kinds::STSS) => Form::Entries(4),
+        (kinds::STBL, kinds::CO64) if wide => Form::Entries(8),
+        (kinds::STBL, kinds::STSD) => Form::Sized(16),
+        (kinds::DINF, kinds::DREF) => Form::Sized(12),
         _ => Form::Skipped,
     }
 }
 
-fn is_skipped(f: Form) -> bool
-    ensures { result ≡ skipped f }
+// Whether the first byte of a read leaf's body is 0, or the body is empty.
+#[tactic(auto, unfolding(crate::specs::Leaves::leaf_ok, crate::specs::Leaves::version_ok, crate::specs::Leaves::skipped))]
+pub fn version_ok(f: Form, atom: &[u8]) -> bool
+    ensures { result ≡ leaf_ok Version f atom.now }
 {
     match f {
         Form::Skipped => true,
-        Form::Exactly(_) => false,
-        Form::AtLeast(_) => false,
-        Form::Entries(_) => false,
-        Form::Sizes => false,
-        Form::Sized(_) => false,
-    }
-}
-
-// Whether the first byte of a read leaf's body is 0, or the body is empty.
-fn version_ok(f: Form, atom: &[u8]) -> bool
-    ensures { result ≡ version_ok f atom.now }
-{
-    if is_skipped(f) {
-        true
-    } else {
-        byte_at(atom, 8) == 0
+        _ => byte_at(atom, 8) == 0,
     }
 }
 
@@ -85,6 +60,7 @@ pub fn holds_entries(atom: &[u8], head: u32, width: u32, n: u32) -> bool
 }
 
 // The size of the entry that s begins with; 0 where it is below `least` or passes the end.
+#[tactic(auto, unfolding(crate::specs::Leaves::size_entry, atoms::specs::Pieces::fitting))]
 pub fn entry_size(s: &[u8], least: usize) -> usize
     ensures value { result ≡ size_entry least s.now }
     ensures upper_bound { result ≤ length s.now }
@@ -117,6 +93,7 @@ fn filled_with(s: &[u8], least: usize, n: u32) -> bool
 }
 
 // Whether the entries that an atom counts, at least so many bytes each, fill it exactly after its first 16 bytes.
+#[tactic(auto, unfolding(crate::specs::Leaves::sized_entries))]
 pub fn has_sized_entries(atom: &[u8], least: usize) -> bool
     ensures { result ≡ sized_entries least atom.now }
 {
@@ -128,6 +105,7 @@ pub fn has_sized_entries(atom: &[u8], least: usize) -> bool
 }
 
 // The rule of stsz: the sizes stand there only if the common size is 0.
+#[tactic(auto, unfolding(crate::specs::Leaves::size_ok))]
 fn sizes_ok(atom: &[u8]) -> bool
     ensures { result ≡ size_ok Form.Sizes atom.now }
 {
@@ -139,8 +117,9 @@ fn sizes_ok(atom: &[u8]) -> bool
 }
 
 // Whether an atom of that form has its size.
-fn size_ok(f: Form, atom: &[u8]) -> bool
-    ensures { result ≡ size_ok f atom.now }
+#[tactic(auto, unfolding(crate::specs::Leaves::leaf_ok, crate::specs::Leaves::size_ok))]
+pub fn size_ok(f: Form, atom: &[u8]) -> bool
+    ensures { result ≡ leaf_ok Size f atom.now }
 {
     match f {
         Form::Skipped => true,
@@ -149,15 +128,5 @@ fn size_ok(f: Form, atom: &[u8]) -> bool
         Form::Entries(w) => holds_entries(atom, 16, w, u32_at(atom, 12)),
         Form::Sizes => sizes_ok(atom),
         Form::Sized(n) => has_sized_entries(atom, n),
-    }
-}
-
-// Whether the rule holds of an atom of that form.
-pub fn leaf_ok(rule: LeafRule, f: Form, atom: &[u8]) -> bool
-    ensures { result ≡ leaf_ok rule f atom.now }
-{
-    match rule {
-        LeafRule::Version => version_ok(f, atom),
-        LeafRule::Size => size_ok(f, atom),
     }
 }

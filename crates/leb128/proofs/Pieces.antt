@@ -12,8 +12,9 @@ use lib.ListN.{length, drop, get_or, length-drop}
 use lib.Seq.{get_or-drop, drop-drop}
 use borrow.Author.Tests.{ltb-true, ltb-false, leb-true, leb-false, lt-ltb, le-ltb, le-leb, lt-leb}
 use Rattle.leb128.specs.Numbers.{groups_in, groups, value, onto, cut, same, written, unended, cut_short}
-use Rattle.leb128.specs.Reading.{limit, Reading, good, broken, short, after, number, read_of, read_at}
-use Rattle.leb128.specs.declared.number.NumberRead.TheVariants.{Good, Broken, Short}
+use Rattle.leb128.specs.Reading.{limit, Reading, good, broken, short, after, number, read_of, read_at, found}
+use Rattle.std.specs.Prelude.{Err}
+use Rattle.leb128.specs.declared.number.NumberFault.TheVariants.{Broken, Short}
 use Rattle.leb128.proofs.Readings.{read_good, read_next}
 use Rattle.leb128.proofs.Groups.{groups_some, number_written, number_groups}
 use Rattle.lists.proofs.Booleans.{and_both, and_false}
@@ -172,7 +173,7 @@ module _ (k top : ℕ) (pos : 0 < top) (t : top ≤ 128) (nine : k ≤ 9) (w : l
   by r e = ap (read_of (length bs) at) e
 
   -- a good one: past its piece
-  pub piece_good : (n next : ℕ) → read_at k top bs at ≡ Good n next
+  pub piece_good : (n next : ℕ) → read_at k top bs at ≡ found n next
       → (p : List ℕ) × (cut (drop at bs) ≡ p ∷ cut (drop next bs)) × IsNumber k (limit k top) p n × (next ≡ at + length p) × (next ≤ length bs)
   unfolding written groups is_short
   piece_good n next e =
@@ -190,7 +191,7 @@ module _ (k top : ℕ) (pos : 0 < top) (t : top ≤ 128) (nine : k ≤ 9) (w : l
       )
 
   -- a broken one: its piece is none so written, and none that is cut short
-  pub piece_broken : (q : ℕ) → read_at k top bs at ≡ Broken q
+  pub piece_broken : (q : ℕ) → read_at k top bs at ≡ Err (Broken q)
       → (p : List ℕ) × (ps : List (List ℕ)) × (cut (drop at bs) ≡ p ∷ ps) × (cut_short k p ≡ false) × (written (limit k top) p ≡ false) × (q ≡ at)
   unfolding read_of is_short
   piece_broken q e = go (number k top (drop at bs)) refl
@@ -215,7 +216,7 @@ module _ (k top : ℕ) (pos : 0 < top) (t : top ≤ 128) (nine : k ≤ 9) (w : l
       go short f = let u = sym (by short f) ∙ e in let z : ◌≡◌ {A = ℕ} 0 1 = cc in absurd (omega arith)
 
   -- one that is cut short: there is no piece, or it is the last
-  pub piece_short : (q : ℕ) → read_at k top bs at ≡ Short q → at ≤ length bs
+  pub piece_short : (q : ℕ) → read_at k top bs at ≡ Err (Short q) → at ≤ length bs
       → (q ≡ length bs)
       × (((cut (drop at bs) ≡ []) × (at ≡ length bs)) ⊎ ((p : List ℕ) × (ps : List (List ℕ)) × (cut (drop at bs) ≡ p ∷ ps) × (cut_short k p ≡ true) × (at + length p ≡ length bs)))
   unfolding read_of is_short cut_short

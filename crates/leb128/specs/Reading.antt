@@ -1,8 +1,9 @@
 -- Reading one number at a place, and where reading stops: past a good number, on a broken one's first byte, at the end for one cut short.
 -- Over the width: at most k + 1 groups, and the last of k + 1 groups below top. `limit 4 16` is 2 ^ 32, `limit 9 2` is 2 ^ 64.
-use Rattle.std.specs.Prelude.{Bool, cond, List, [], ◌∷◌, ℕ, zero, suc, ◌+◌, ◌-◌, ◌*◌, ltb, eqb, length, drop}
-use Rattle.leb128.specs.declared.number.NumberRead.{NumberRead}
-use Rattle.leb128.specs.declared.number.NumberRead.TheVariants.{Good, Broken, Short}
+use Rattle.std.specs.Prelude.{Bool, cond, List, [], ◌∷◌, ℕ, zero, suc, ◌+◌, ◌-◌, ◌*◌, ltb, eqb, length, drop, Result, Ok, Err}
+use Rattle.leb128.specs.declared.number.Number.{Number}
+use Rattle.leb128.specs.declared.number.NumberFault.{NumberFault}
+use Rattle.leb128.specs.declared.number.NumberFault.TheVariants.{Broken, Short}
 
 -- how many numbers k + 1 groups write, if the last is below top
 unfoldable pub limit : ℕ → ℕ → ℕ
@@ -27,10 +28,22 @@ number k top [] = short
 number zero top (b ∷ bs) = cond (ltb b top) (good b 1) broken
 number (suc k) top (b ∷ bs) = cond (ltb b 128) (good b 1) (after b (number k top bs))
 
+-- what the reader answers of a place: a number and the place past it, or why none stands there
+abbrev pub NumberRead : Type 0
+NumberRead = Result Number NumberFault
+
+abbrev pub found : ℕ → ℕ → NumberRead
+found n next = Ok (record { value = n; next = next })
+
+-- the place that a fault is charged to
+abbrev pub place_of : NumberFault → ℕ
+place_of (Broken p) = p
+place_of (Short end) = end
+
 unfoldable pub read_of : ℕ → ℕ → Reading → NumberRead
-read_of end at (good n len) = Good n (at + len)
-read_of end at broken = Broken at
-read_of end at short = Short end
+read_of end at (good n len) = found n (at + len)
+read_of end at broken = Err (Broken at)
+read_of end at short = Err (Short end)
 
 -- the number at a place
 unfoldable pub read_at : ℕ → ℕ → List ℕ → ℕ → NumberRead

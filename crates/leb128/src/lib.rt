@@ -4,5 +4,5 @@
 pub mod number;
 pub mod write;
 
-pub use number::{NumberRead, number_at};
+pub use number::{Number, NumberFault, number_at};
 pub use write::{number_len, put_number, store_number};

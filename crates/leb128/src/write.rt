@@ -52,16 +52,13 @@ pub fn store_number(out: &mut [u8], at: usize, n: u64) -> usize
     p + 1
 }
 
-// Writes a number at a place and answers the place past it; where it does not fit, leaves the bytes as they are and answers the place itself.
-pub fn put_number(out: &mut [u8], at: usize, n: u64) -> usize
+// Writes a number at a place and answers the place past it; where it does not fit, leaves the bytes as they are.
+pub fn put_number(out: &mut [u8], at: usize, n: u64) -> Option<usize>
     ensures { (result ≡ past_put out.old at (groups n)) × (out.new ≡ put_at out.old at (groups n)) }
 {
-    let len = number_len(n);
-    if out.len() < len {
-        return at;
+    let end = at.checked_add(number_len(n))?;
+    if out.len() < end {
+        return None;
     }
-    if out.len() - len < at {
-        return at;
-    }
-    store_number(out, at, n)
+    Some(store_number(out, at, n))
 }

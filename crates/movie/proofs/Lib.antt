@@ -4,3 +4,5 @@ pub mod Tables
 pub mod Accepted
 pub mod Strict
 pub mod Answers
+pub mod Refused
+pub mod Numbered

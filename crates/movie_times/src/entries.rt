@@ -6,7 +6,8 @@ ghost use Rattle.movie_times.specs.Entries.{edit_numbers, StoresEdits};
 
 use bigendian::{after, i32_at, u32_at};
 use places::part_of;
-use questions::Ask;
+use questions::Asked;
+use refusals::Refusal;
 use structure::source::Source;
 
 // How many numbers the answer has for an entry.
@@ -39,29 +40,24 @@ fn put_edits(part: &[u8], room: &mut [i64])
     }
 }
 
-// The answer of `stored_edits`: how many entries; or the number of a refusal.
-#[derive(Clone, Copy)]
-pub enum EditsAnswer {
-    Entries(usize),
-    Refused(u32),
-}
-
-// The edit list of a track: duration, media time (-1 where nothing is shown) and rate of each entry, in the first places of the room. A
-// refusal leaves the room as it is.
-pub fn stored_edits(lent: &[u8], source: Source, id: u32, room: &mut [i64]) -> EditsAnswer
+// The edit list of a track: duration, media time (-1 where nothing is shown) and rate of each entry, in the first places of the room; answers
+// how many entries. A refusal leaves the room as it is.
+pub fn stored_edits(
+    lent: &[u8],
+    source: Source,
+    id: u32,
+    room: &mut [i64],
+) -> Result<usize, Refusal>
     ensures { StoresEdits lent.now source id room.old result room.new }
 {
-    let ask = Ask::of(lent, source, id);
-    if ask.refusal != 0 {
-        return EditsAnswer::Refused(ask.refusal);
-    }
-    let trak = ask.trak;
+    let asked = Asked::of(lent, source, id)?;
+    let trak = asked.trak;
     let p = trak.parts;
     let part = after(part_of(part_of(lent, trak.body), p.elst), 16);
     let n = part.len() / 12;
     if room.len() / ENTRY < n {
-        return EditsAnswer::Refused(16);
+        return Err(Refusal::NoRoom);
     }
     put_edits(part, room);
-    EditsAnswer::Entries(n)
+    Ok(n)
 }

@@ -3,26 +3,25 @@
 #![tactic(auto)]
 
 mod rooms;
-mod show;
 
 use program_input::{
     Argument, MOST_FILM, MOST_NAME, argument_at, name_given, open_named, read_full,
 };
+use refusals::code;
 use std::io;
 use std::rt::Files;
 use structure::source::Source;
 
 fn lines(rt: &impl Print, name: &[u8], film: &[u8]) -> io::Result<()> {
-    let number = movie::refusal(film, Source::whole());
+    let refusal = movie::refusal(film, Source::whole());
     let strict = movie::refusal(film, Source::whole().strictly());
-    show::text(rt, name)?;
-    show::field(rt, b": ", number)?;
-    show::field(rt, b", strictly ", strict)?;
-    if number != 0 {
+    rt.write_all(name)?;
+    print!(rt; ": {}, strictly {}", code(&refusal), code(&strict))?;
+    if refusal.is_err() {
         rooms::of_refused(rt, film)?;
-        show::text(rt, b"\n")
+        println!(rt)
     } else {
-        show::text(rt, b"\n")?;
+        println!(rt)?;
         rooms::of_accepted(rt, film)
     }
 }
@@ -31,8 +30,7 @@ fn lines(rt: &impl Print, name: &[u8], film: &[u8]) -> io::Result<()> {
 fn read(rt: &impl Print, reader: &mut impl io::Read, name: &[u8]) -> io::Result<()> {
     let mut room = [0u8; MOST_FILM];
     let count = read_full(reader, &mut room);
-    let film = &room[..count];
-    lines(rt, name, film)
+    lines(rt, name, &room[..count])
 }
 
 fn film(rt: &(impl Files + Print + Eprint), argument: Argument) -> io::Result<()> {

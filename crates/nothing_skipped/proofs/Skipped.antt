@@ -25,13 +25,13 @@ use Rattle.questions.specs.Asked.{ask_refusal, track_asked}
 use Rattle.questions.specs.Samples.{sample_of, sample_answer}
 use Rattle.time_questions.specs.Times.{mapped_in, mapped_of, to_answer, at_answer, at_entry, map_answer}
 use Rattle.questions.specs.declared.samples.Sample.{Sample}
-use Rattle.questions.specs.declared.samples.SampleAnswer.TheVariants.{Found}
-use Rattle.time_questions.specs.declared.NumberAnswer.TheVariants.{Number}
-use Rattle.time_questions.specs.declared.TimeAnswer.TheVariants.{Shown}
 use Rattle.questions.proofs.Asking.{asked}
 use Rattle.theorems.proofs.Answers.{found_known, at_is, at_known}
 use Rattle.nothing_skipped.specs.Shown.{no_entry, entries_of, entry_at, start_at, Inside, Met, MetBetween, OfTrack, NothingSkipped}
 use Rattle.nothing_skipped.proofs.Rising.{Hits, hits_widths}
+use Rattle.std.specs.Prelude.{Option, Some, Result, Ok}
+use Rattle.refusals.specs.declared.Refusal.{Refusal}
+use Rattle.time_questions.specs.declared.Numbered.{Numbered}
 
 module _ (s : List ℕ) (w : Source) (id : ℕ) (e : ask_refusal s w id ≡ 0) where
   abbrev scale : ℕ
@@ -92,12 +92,12 @@ module _ (s : List ℕ) (w : Source) (id : ℕ) (e : ask_refusal s w id ≡ 0) w
     below =
         omega (arith, place_is, media_below scale movie (total_in (track_asked s id)) (elst_of (track_asked s id)) some_list (record { 0 = t }) no_entry right in_total i.first (here ∙ i.shows))
 
-    shown : map_answer s w id (record { 0 = t }) ≡ Shown (record { 0 = place_at (start_at s id k) i.first t })
+    shown : map_answer s w id (record { 0 = t }) ≡ Ok (Some (record { 0 = place_at (start_at s id k) i.first t }))
     unfolding mapped_of mapped_in to_answer
     shown =
         rw e
         (ap to_answer (media_shown scale movie (total_in (track_asked s id)) (elst_of (track_asked s id)) some_list (record { 0 = t }) no_entry right in_total i.first (here ∙ i.shows))
-        ∙ ap (λ (x : ℕ). Shown (record { 0 = x })) place_is)
+        ∙ ap (λ (x : ℕ). Ok (Some (record { 0 = x }))) place_is)
 
     -- the sample met is the one that holds the place
     met_here : (n : ℕ) → n ≡ suc (holder times (place_at (start_at s id k) i.first t)) → Met s w id t n
@@ -105,7 +105,7 @@ module _ (s : List ℕ) (w : Source) (id : ℕ) (e : ask_refusal s w id ≡ 0) w
       media = record { 0 = place_at (start_at s id k) i.first t };
       shown = shown;
       entry = at_entry s id (record { 0 = place_at (start_at s id k) i.first t });
-      named = at_is s w id e _ below ∙ ap (λ (x : ℕ). Number x (at_entry s id (record { 0 = place_at (start_at s id k) i.first t }))) (sym q);
+      named = at_is s w id e _ below ∙ ap (λ (x : ℕ). Ok (record { sample = x; entry = at_entry s id (record { 0 = place_at (start_at s id k) i.first t }) })) (sym q);
     }
 
     met_is : (n : ℕ) → Met s w id t n → n ≡ suc (holder times (place_at (start_at s id k) i.first t))

@@ -1,6 +1,6 @@
 -- Document 02, Ask 14, "Nothing skipped in an edited film", of the answers that movie time to media time, sample at media time and sample n give. k
 -- counts the entries of an edit list from 0, t, u and v are movie times, n, p and j are sample numbers.
-use Rattle.std.specs.Prelude.{ℕ, suc, ◌≤◌, ◌<◌, ◌≡◌, List, ℤ, pos, negsuc, get_or}
+use Rattle.std.specs.Prelude.{ℕ, suc, ◌≤◌, ◌<◌, ◌≡◌, List, ℤ, pos, negsuc, get_or, Option, Some, Result, Ok}
 use Rattle.lists.specs.Lists.{before}
 use Rattle.edits.specs.Edits.{edits, durations_of}
 use Rattle.edits.specs.declared.Edit.{Edit}
@@ -12,9 +12,8 @@ use Rattle.questions.specs.Asked.{ask_refusal, track_asked}
 use Rattle.questions.specs.Samples.{sample_answer}
 use Rattle.time_questions.specs.Times.{at_answer, map_answer}
 use Rattle.questions.specs.declared.samples.Sample.{Sample}
-use Rattle.questions.specs.declared.samples.SampleAnswer.TheVariants.{Found}
-use Rattle.time_questions.specs.declared.NumberAnswer.TheVariants.{Number}
-use Rattle.time_questions.specs.declared.TimeAnswer.TheVariants.{Shown}
+use Rattle.refusals.specs.declared.Refusal.{Refusal}
+use Rattle.time_questions.specs.declared.Numbered.{Numbered}
 
 -- the entries of the edit list of the track that is asked; past the last one there is none that shows media
 abbrev pub no_entry : Edit
@@ -40,9 +39,9 @@ pub record Inside (s : List ℕ) (id k t : ℕ) : Type 0 where
 -- "the sample numbers met": n is met at t, where t shows a media time, and the sample at that media time is n
 pub record Met (s : List ℕ) (w : Source) (id t n : ℕ) : Type 0 where
   pub media : MediaTime
-  pub shown : map_answer s w id (record { 0 = t }) ≡ Shown media
+  pub shown : map_answer s w id (record { 0 = t }) ≡ Ok (Some media)
   pub entry : ℕ
-  pub named : at_answer s w id media ≡ Number n entry
+  pub named : at_answer s w id media ≡ Ok (record { sample = n; entry = entry })
 
 -- j is met at a time of the entry k, from t to u
 pub record MetBetween (s : List ℕ) (w : Source) (id k t u j : ℕ) : Type 0 where
@@ -61,7 +60,7 @@ pub record OfTrack (s : List ℕ) (w : Source) (id : ℕ) : Type 0 where
   pub none_passed : scale_of (track_asked s id) ≤ movie_scale (moov_of s)
       → (k t u n p j : ℕ) (x : Sample) → Inside s id k t → Inside s id k u → t ≤ u → Met s w id t n
       → Met s w id u p → n ≤ j → j ≤ p
-      → sample_answer s w id j ≡ Found x → 0 < x.duration → MetBetween s w id k t u j
+      → sample_answer s w id j ≡ Ok x → 0 < x.duration → MetBetween s w id k t u j
 
 -- of every track of a film that is not refused
 abbrev pub NothingSkipped : List ℕ → Source → Type 0

@@ -1,74 +1,67 @@
 // The values of numbers that stand one after the other, stored in lent room.
 #![tactic(auto)]
 
-ghost use Rattle.std.specs.Prelude.{◌≡◌, ◌++◌, ◌≤◌, length, drop};
+ghost use Rattle.std.specs.Prelude.{◌≡◌, ◌++◌, ◌≤◌, ◌<◌, ℕ, Bool, true, false, length, drop, map};
+ghost use Rattle.leb128.specs.Reading.{limit, more_of, top_of, read_at};
 ghost use Rattle.number_values.specs.Values.{value_of, next_of, values_from};
 
-use leb128::{NumberRead, number_at};
-use quick_numbers::quick_at;
+use leb128::Number;
+use quick_numbers::read_number;
 
-// The value that was read, or 0.
-fn value_of(r: NumberRead) -> u64
-    ensures { result ≡ value_of r }
-{
-    match r {
-        NumberRead::Good(n, _) => n,
-        NumberRead::Broken(_) => 0,
-        NumberRead::Short(_) => 0,
+// A number as room holds it. Room of 64-bit numbers takes wide ones too, of 2^32 or more.
+pub trait RoomNumber: Copy {
+    ghost WIDE: { Bool };
+
+    const WIDE: bool;
+
+    ghost stored: { ℕ → Self };
+
+    fn store(value: u64) -> Self
+        requires { value < limit (more_of WIDE) (top_of WIDE) }
+        ensures { result ≡ stored value };
+}
+
+impl RoomNumber for u32 {
+    ghost WIDE = { false };
+
+    const WIDE: bool = false;
+
+    ghost stored = { λ n. n };
+
+    fn store(value: u64) -> u32 {
+        value as u32
     }
 }
 
-// The place past what was read at a place.
-fn next_of(at: usize, r: NumberRead) -> usize
-    ensures { result ≡ next_of at r }
-{
-    match r {
-        NumberRead::Good(_, next) => next,
-        NumberRead::Broken(_) => at,
-        NumberRead::Short(_) => at,
+impl RoomNumber for u64 {
+    ghost WIDE = { true };
+
+    const WIDE: bool = true;
+
+    ghost stored = { λ n. n };
+
+    fn store(value: u64) -> u64 {
+        value
     }
 }
 
-// Stores the values of n numbers below 2^32 from a place in the first places of the room.
-pub fn fill_numbers(bytes: &[u8], at: usize, room: &mut [u32], n: usize)
+// The number at a place; 0 and the place itself where there is none.
+fn number_or_zero(bytes: &[u8], at: usize, wide: bool) -> Number
+    ensures value { result.value ≡ value_of (read_at (more_of wide) (top_of wide) bytes.now at) }
+    ensures next { result.next ≡ next_of at (read_at (more_of wide) (top_of wide) bytes.now at) }
+{
+    read_number(bytes, at, wide).unwrap_or(Number { value: 0, next: at })
+}
+
+// Stores the values of n numbers from a place on in the first places of the room.
+pub fn fill<T: RoomNumber>(bytes: &[u8], at: usize, room: &mut [T], n: usize)
     requires { n ≤ length room.old }
-    ensures { room.new ≡ values_from 4 16 bytes.now n at ++ drop n room.old }
+    ensures { room.new ≡ map T.stored (values_from (more_of T.WIDE) (top_of T.WIDE) bytes.now n at) ++ drop n room.old }
 {
-    let mut j = 0;
     let mut p = at;
-    while j < n {
-        let q = quick_at(bytes, p);
-        if 0 < q.len {
-            room[j] = q.value as u32;
-            p += q.len;
-            j += 1;
-            continue;
-        }
-        let r = number_at(bytes, p, false);
-        room[j] = value_of(r) as u32;
-        p = next_of(p, r);
-        j += 1;
-    }
-}
-
-// The same of numbers below 2^64.
-pub fn fill_wide(bytes: &[u8], at: usize, room: &mut [u64], n: usize)
-    requires { n ≤ length room.old }
-    ensures { room.new ≡ values_from 9 2 bytes.now n at ++ drop n room.old }
-{
-    let mut j = 0;
-    let mut p = at;
-    while j < n {
-        let q = quick_at(bytes, p);
-        if 0 < q.len {
-            room[j] = q.value;
-            p += q.len;
-            j += 1;
-            continue;
-        }
-        let r = number_at(bytes, p, true);
-        room[j] = value_of(r);
-        p = next_of(p, r);
-        j += 1;
+    for j in 0..n {
+        let number = number_or_zero(bytes, p, T::WIDE);
+        room[j] = T::store(number.value);
+        p = number.next;
     }
 }

@@ -16,28 +16,30 @@ use Rattle.places.specs.declared.Part.{Part}
 use Rattle.places.specs.declared.tables.Tables.{Tables}
 use Rattle.questions.specs.Asked.{ask_refusal, track_asked}
 use Rattle.questions.specs.Said.{sample_said}
-use Rattle.questions.specs.declared.samples.SampleAnswer.{SampleAnswer}
+use Rattle.questions.specs.declared.samples.Sample.{Sample}
 use Rattle.questions.proofs.Said.{said_samples, said_15, said_few}
 use Rattle.time_questions.specs.Said.{number_said}
 use Rattle.time_questions.specs.Times.{to_answer}
-use Rattle.time_questions.specs.declared.NumberAnswer.{NumberAnswer}
-use Rattle.time_questions.specs.declared.TimeAnswer.{TimeAnswer}
+use Rattle.time_questions.specs.declared.Numbered.{Numbered}
+use Rattle.std.specs.Prelude.{Option, Result, Ok, Err}
+use Rattle.refusals.specs.Refusals.{number}
+use Rattle.refusals.specs.declared.Refusal.{Refusal}
+use Rattle.refusals.proofs.Numbers.{err_refused}
+use Rattle.movie.proofs.Refused.{not_zero}
 use Rattle.time_questions.proofs.Mapping.{number_samples, number_15, number_few, is_mapped, time_15, time_low}
 use Rattle.opened.specs.Opened.{OpenAnswers, SampleBy, NumberBy, TimeBy}
 use Rattle.opened.specs.declared.Opened.{Opened}
-use Rattle.opened.specs.declared.Opening.TheVariants.{Track, Refused}
 
 -- ---- opening
 
-pub open_refused : (s : List ℕ) (w : Source) (id r : ℕ) → r ≡ ask_refusal s w id → (r ≡ 0 → ⊥) → OpenAnswers s w id (Refused r)
-open_refused s w id r e z = record { number = e; refused = λ y. ap Refused e; opened = λ y. absurd (z (e ∙ y)) }
+pub open_refused : (s : List ℕ) (w : Source) (id : ℕ) (e : Refusal) → ask_refusal s w id ≡ number e → OpenAnswers s w id (Err e)
+open_refused s w id e h = record { number = sym h; refused = λ y. rw h (err_refused e); opened = λ y. absurd (not_zero _ e h y) }
 
-pub open_track : (s t z o k m : List ℕ) (w : Source) (id r : ℕ) (p : Tables) (l : Part) (samples chunks scale movie total : ℕ) → r ≡ ask_refusal s w id → r ≡ 0 → t ≡ track_asked s id
+pub open_track : (s t z o k m : List ℕ) (w : Source) (id : ℕ) (p : Tables) (l : Part) (samples chunks scale movie total : ℕ) → ask_refusal s w id ≡ 0 → t ≡ track_asked s id
     → AreTables s t p → part_in s l ≡ elst_of t → k ≡ t → z ≡ part_in s p.stsz → o ≡ part_in s p.offsets → m ≡ moov_of s
     → samples ≡ u32_at z 16 → chunks ≡ u32_at o 12 → scale ≡ scale_of k → movie ≡ movie_scale m → total ≡ total_in k
-    → OpenAnswers s w id (Track (record { tables = p; elst = l; samples = samples; chunks = chunks; scale = scale; movie = movie; total = total }))
-open_track s t z o k m w id r p l samples chunks scale movie total e y d a f g b c n h1 h2 h3 h4 h5 =
-    let q = sym e ∙ y in
+    → OpenAnswers s w id (Ok (record { tables = p; elst = l; samples = samples; chunks = chunks; scale = scale; movie = movie; total = total }))
+open_track s t z o k m w id p l samples chunks scale movie total q d a f g b c n h1 h2 h3 h4 h5 =
     record {
       number = sym q;
       refused = λ i. absurd (i q);
@@ -59,7 +61,7 @@ open_track s t z o k m w id r p l samples chunks scale movie total e y d a f g b
 
 -- ---- by a handle
 
-pub by_sample : (s : List ℕ) (h : Opened) (n : ℕ) (a y c z o k : List ℕ) (r : SampleAnswer) → a ≡ part_in s h.tables.stts → y ≡ part_in s h.tables.ctts → c ≡ part_in s h.tables.stsc
+pub by_sample : (s : List ℕ) (h : Opened) (n : ℕ) (a y c z o k : List ℕ) (r : Result Sample Refusal) → a ≡ part_in s h.tables.stts → y ≡ part_in s h.tables.ctts → c ≡ part_in s h.tables.stsc
     → z ≡ part_in s h.tables.stsz → o ≡ part_in s h.tables.offsets → k ≡ part_in s h.tables.stss → r ≡ sample_said a y c z o k h.samples h.chunks n → SampleBy s h n r
 by_sample s h n a y c z o k r ea ey ec ez eo ek e =
     record {
@@ -72,20 +74,20 @@ by_sample s h n a y c z o k r ea ey ec ez eo ek e =
       low = λ x q. let g = said_few a y c z o k h.samples h.chunks n x (sym e ∙ q) in (g.2, g.3, g.4);
     }
 
-pub by_number : (s : List ℕ) (h : Opened) (t : MediaTime) (a : List ℕ) (r : NumberAnswer) → a ≡ part_in s h.tables.stts → r ≡ number_said a h.samples t → NumberBy s h t r
+pub by_number : (s : List ℕ) (h : Opened) (t : MediaTime) (a : List ℕ) (r : Result Numbered Refusal) → a ≡ part_in s h.tables.stts → r ≡ number_said a h.samples t → NumberBy s h t r
 by_number s h t a r ea e =
     record {
       right = λ w id b. rw (e, ea ∙ b.tables.stts, b.samples) (number_samples s w id t b.asked);
       said = e ∙ rw ea;
       elsewhere = λ i q. number_15 a h.samples t i (sym e ∙ q);
-      few = λ n k q. number_few a h.samples t n k (sym e ∙ q);
+      few = λ n q. number_few a h.samples t n (sym e ∙ q);
     }
 
-pub by_time : (s : List ℕ) (h : Opened) (t : MovieTime) (l : List ℕ) (r : TimeAnswer) → l ≡ part_in s h.elst → r ≡ to_answer (media_at h.scale h.movie h.total l t) → TimeBy s h t r
+pub by_time : (s : List ℕ) (h : Opened) (t : MovieTime) (l : List ℕ) (r : Result (Option MediaTime) Refusal) → l ≡ part_in s h.elst → r ≡ to_answer (media_at h.scale h.movie h.total l t) → TimeBy s h t r
 by_time s h t l r el e =
     record {
       right = λ w id b.
-          is_mapped s (moov_of s) (track_asked s id) l w id t (ask_refusal s w id) h.movie h.scale h.total refl b.asked refl refl b.movie (el ∙ b.elst) b.scale b.total r e;
+          is_mapped s (moov_of s) (track_asked s id) l w id t h.movie h.scale h.total b.asked refl refl b.movie (el ∙ b.elst) b.scale b.total r e;
       said = e ∙ rw el;
       elsewhere = λ i q. time_15 _ i (sym e ∙ q);
       low = λ m q. time_low h.scale h.movie h.total m l t (sym e ∙ q);

@@ -7,10 +7,11 @@ use bigendian::u32_at;
 use edits::{MediaTime, MovieTime};
 use places::tables::{Tables, tables_in};
 use places::{Part, part_of, part_within};
-use questions::Ask;
-use questions::samples::{SampleAnswer, sample_of};
+use questions::Asked;
+use questions::samples::{Sample, sample_of};
+use refusals::Refusal;
 use structure::source::Source;
-use time_questions::{NumberAnswer, TimeAnswer, media_time_in, sample_number_in};
+use time_questions::{Numbered, media_time_in, sample_number_in};
 use track::{media_total, scale_in};
 
 // The sample tables of the track and its edit list, the numbers of its samples and chunks, the media's and the movie's time scale, and the total of the
@@ -26,42 +27,32 @@ pub struct Opened {
     pub total: u32,
 }
 
-// The answer of `Opened::of`: the handle; or the number of a refusal.
-#[derive(Clone, Copy)]
-pub enum Opening {
-    Track(Opened),
-    Refused(u32),
-}
-
 impl Opened {
     // A track by its ID. The film is judged here, and not again by the handle.
-    pub fn of(lent: &[u8], source: Source, id: u32) -> Opening
+    pub fn of(lent: &[u8], source: Source, id: u32) -> Result<Opened, Refusal>
         ensures { OpenAnswers lent.now source id result }
     {
-        let ask = Ask::of(lent, source, id);
-        if ask.refusal != 0 {
-            return Opening::Refused(ask.refusal);
-        }
-        let trak = ask.trak;
+        let asked = Asked::of(lent, source, id)?;
+        let trak = asked.trak;
         let place = trak.body;
         let parts = trak.parts;
         let tables = tables_in(lent, place, parts);
         let stsz = tables.stsz;
         let offsets = tables.offsets;
         let body = part_of(lent, place);
-        Opening::Track(Opened {
+        Ok(Opened {
             tables,
             elst: part_within(lent, place, parts.elst),
             samples: u32_at(part_of(lent, stsz), 16),
             chunks: u32_at(part_of(lent, offsets), 12),
             scale: scale_in(body, parts),
-            movie: ask.movie,
+            movie: asked.movie,
             total: media_total(body, parts),
         })
     }
 
     // Sample n of the track, numbered from 1.
-    pub fn sample(self, lent: &[u8], n: u32) -> SampleAnswer
+    pub fn sample(self, lent: &[u8], n: u32) -> Result<Sample, Refusal>
         ensures { SampleBy lent.now self n result }
     {
         let tables = self.tables;
@@ -85,7 +76,7 @@ impl Opened {
     }
 
     // The sample whose media times hold t.
-    pub fn sample_at(self, lent: &[u8], t: MediaTime) -> NumberAnswer
+    pub fn sample_at(self, lent: &[u8], t: MediaTime) -> Result<Numbered, Refusal>
         ensures { NumberBy lent.now self t result }
     {
         let tables = self.tables;
@@ -93,8 +84,8 @@ impl Opened {
         sample_number_in(part_of(lent, stts), self.samples, t)
     }
 
-    // The media time that a movie time shows.
-    pub fn media_time(self, lent: &[u8], t: MovieTime) -> TimeAnswer
+    // The media time that a movie time shows, if any.
+    pub fn media_time(self, lent: &[u8], t: MovieTime) -> Result<Option<MediaTime>, Refusal>
         ensures { TimeBy lent.now self t result }
     {
         let elst = self.elst;

@@ -6,12 +6,13 @@ use mathlib.Core.List.{List}
 use Rattle.position_seeks.specs.Seeks.{sought_moving}
 use Rattle.stepping.specs.Parts.{start_said}
 use Rattle.stepping.specs.declared.Stepper.{Stepper}
-use Rattle.stepping.specs.declared.Start.{Start}
+use Rattle.std.specs.Prelude.{Result}
+use Rattle.refusals.specs.declared.Refusal.{Refusal}
 use Rattle.stepping.proofs.Started.{start_15, start_few, said_starts}
 use Rattle.opened.specs.declared.Opened.{Opened}
 use Rattle.opened_steps.specs.Steps.{StartBy}
 
-pub by_start : (s : List ℕ) (h : Opened) (n : ℕ) (r : Start) → r ≡ start_said s h.tables h.samples n → StartBy s h n r
+pub by_start : (s : List ℕ) (h : Opened) (n : ℕ) (r : Result Stepper Refusal) → r ≡ start_said s h.tables h.samples n → StartBy s h n r
 unfolding sought_moving
 by_start s h n r e =
     record {

@@ -4,11 +4,12 @@
 ghost use Rattle.opened_steps.specs.Steps.{StartBy};
 
 use opened::Opened;
-use stepping::Start;
+use refusals::Refusal;
+use stepping::Stepper;
 use stepping::parts::start_in;
 
 // Before sample n of the track, numbered from 1.
-pub fn start_by(lent: &[u8], h: Opened, n: u32) -> Start
+pub fn start_by(lent: &[u8], h: Opened, n: u32) -> Result<Stepper, Refusal>
     ensures { StartBy lent.now h n result }
 {
     let tables = h.tables;

@@ -1,6 +1,6 @@
 -- The stretch by a handle, from what the tables at its places say.
 -- Assumes nothing.
-use Prim.Native.Nat.{ℕ}
+use Prim.Native.Nat.{ℕ, ◌≤◌}
 use mathlib.Core.Path.{◌≡◌, refl, sym, ◌∙◌}
 use mathlib.Core.Bool.{Bool, true, false, cond}
 use mathlib.Core.List.{List}
@@ -18,23 +18,41 @@ use Rattle.edits.specs.declared.MediaTime.{MediaTime}
 use Rattle.places.specs.Places.{part_in}
 use Rattle.stretch.specs.Stretches.{span_refusal, first_in, past_in, pairs_in, stretch_pairs, stretch_answer, stretch_numbers, Stretches}
 use Rattle.stretch.specs.Said.{is_stretch, said_refusal, said_pairs, pairs_answer, PutsPairs, StretchSaid}
-use Rattle.stretch.specs.declared.StretchAnswer.{StretchAnswer}
-use Rattle.stretch.specs.declared.StretchAnswer.TheVariants.{Refused}
+use Rattle.stretch.specs.declared.StretchTotals.{StretchTotals}
+use Rattle.std.specs.Prelude.{Result, Ok, Err}
+use Rattle.refusals.specs.Refusals.{refused}
+use Rattle.refusals.specs.declared.Refusal.{Refusal}
+use Rattle.refusals.specs.declared.Refusal.TheVariants.{Outside, NoRoom}
 use Rattle.stretch.proofs.Saying.{said_stretches, said_span}
 use Rattle.opened.specs.Opened.{Opens}
 use Rattle.opened.specs.declared.Opened.{Opened}
 use Rattle.opened_stretches.specs.Stretches.{by_refusal, by_pairs, by_answer, RefusalBy, StretchBy}
 
 -- the refusals are 15 and 16
-only : (x y : Bool) (answer : StretchAnswer) (k : ℕ) → given (or_else (cond x 0 15) (cond y 16 0)) answer Refused ≡ Refused k → (answer ≡ Refused k → ⊥) → (k ≡ 15 → ⊥) → k ≡ 16
+only : (x y : Bool) (answer : Result StretchTotals Refusal) (k : Refusal) → given (or_else (cond x 0 15) (cond y 16 0)) answer refused ≡ Err k → (answer ≡ Err k → ⊥)
+    → (k ≡ Outside → ⊥) → k ≡ NoRoom
 unfolding or_else
 only true true answer k e n h = cc
 only true false answer k e n h = absurd (n e)
-only false y answer k e n h = let z : k ≡ 15 = cc in absurd (h z)
+only false y answer k e n h = let z : k ≡ Outside = cc in absurd (h z)
+
+low : (x y : Bool) → or_else (cond x 0 15) (cond y 16 0) ≤ 21
+unfolding or_else
+low true true = omega arith
+low true false = omega arith
+low false y = omega arith
+
+pub by_low : (s : List ℕ) (h : Opened) (a b : MediaTime) → by_refusal s h a b ≤ 21
+unfolding by_refusal said_refusal
+by_low s h a b = go (is_stretch (part_in s h.tables.stts) (part_in s h.tables.stsc) (part_in s h.tables.stsz) (part_in s h.tables.offsets) h.samples h.chunks a b)
+  where
+    go : (x : Bool) → cond x 0 15 ≤ 21
+    go true = omega arith
+    go false = omega arith
 
 -- of the film and track that it was opened in
 module _ (s : List ℕ) (h : Opened) (a b : MediaTime) (w : Source) (id : ℕ) (g : Opens s w id h) where
-  by_right : (room : List ℕ) (r : StretchAnswer) (after : List ℕ) → PutsPairs (by_refusal s h a b) (by_pairs s h a b) room r after → Stretches s w id a b room r after
+  by_right : (room : List ℕ) (r : Result StretchTotals Refusal) (after : List ℕ) → PutsPairs (by_refusal s h a b) (by_pairs s h a b) room r after → Stretches s w id a b room r after
   unfolding by_refusal by_pairs
   by_right room r after p =
       let t = g.tables in
@@ -49,10 +67,11 @@ module _ (s : List ℕ) (h : Opened) (a b : MediaTime) (w : Source) (id : ℕ) (
   by_pairs_same = let t = g.tables in rw (t.stts, t.stsc, t.stsz, t.offsets, g.chunks)
 
   pub by_answer_same : (room : List ℕ) → by_answer s h a b room ≡ stretch_answer s w id a b room
-  unfolding stretch_numbers
+  unfolding stretch_numbers by_refusal said_refusal no_room
   by_answer_same room =
       let qs = by_pairs s h a b in
-      (by_right room (by_answer s h a b room) _ (puts stretch_numbers (refused_with 2) Refused (λ j. refl) (pairs_answer qs) (flat qs) room (or_else (by_refusal s h a b) (no_room (flat qs) room)) _ _ refl refl)).answer
+      (by_right room (by_answer s h a b room) _
+      (puts stretch_numbers (refused_with 2) (λ j. refl) (pairs_answer qs) (flat qs) room (or_else (by_refusal s h a b) (no_room (flat qs) room)) _ _ (low _ _) refl refl)).answer
 
 -- from what the code has
 module _ (s : List ℕ) (h : Opened) (a b : MediaTime) (d c z o : List ℕ) (ed : d ≡ part_in s h.tables.stts) (ec : c ≡ part_in s h.tables.stsc) (ez : z ≡ part_in s h.tables.stsz)
@@ -63,7 +82,7 @@ module _ (s : List ℕ) (h : Opened) (a b : MediaTime) (d c z o : List ℕ) (ed 
       let q : r ≡ by_refusal s h a b = e ∙ rw (ed, ec, ez, eo) in
       record { right = λ w id g. q ∙ by_refusal_same s h a b w id g; said = q }
 
-  pub by_stretch : (room : List ℕ) (r : StretchAnswer) (after : List ℕ) → StretchSaid d c z o h.samples h.chunks a b room r after → StretchBy s h a b room r after
+  pub by_stretch : (room : List ℕ) (r : Result StretchTotals Refusal) (after : List ℕ) → StretchSaid d c z o h.samples h.chunks a b room r after → StretchBy s h a b room r after
   unfolding by_refusal by_pairs no_room said_refusal
   by_stretch room r after p =
       let q : PutsPairs (by_refusal s h a b) (by_pairs s h a b) room r after = rw (← ed, ← ec, ← ez, ← eo) p in

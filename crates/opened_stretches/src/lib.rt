@@ -1,25 +1,26 @@
 // A stretch by the handle of a track: the film is not judged again, and no atoms are walked over.
 #![tactic(auto)]
 
+ghost use Rattle.refusals.specs.Refusals.{code};
 ghost use Rattle.opened_stretches.specs.Stretches.{RefusalBy, StretchBy};
 
 use edits::MediaTime;
 use opened::Opened;
 use places::part_of;
-use spans::Asked;
-use stretch::StretchAnswer;
+use refusals::Refusal;
+use stretch::StretchTotals;
 use stretch::tables::{asked_of, stretch_in};
 
-// The refusal of a stretch by a handle before the room is looked at: 15; 0 where there is none.
-pub fn refusal_by(lent: &[u8], h: Opened, a: MediaTime, b: MediaTime) -> u32
-    ensures { RefusalBy lent.now h a b result }
+// The refusal of a stretch by a handle before the room is looked at: that it lies outside.
+pub fn refusal_by(lent: &[u8], h: Opened, a: MediaTime, b: MediaTime) -> Result<(), Refusal>
+    ensures { RefusalBy lent.now h a b (code result) }
 {
     let tables = h.tables;
     let stts = tables.stts;
     let stsc = tables.stsc;
     let stsz = tables.stsz;
     let offsets = tables.offsets;
-    let asked = asked_of(
+    asked_of(
         part_of(lent, stts),
         part_of(lent, stsc),
         part_of(lent, stsz),
@@ -28,11 +29,8 @@ pub fn refusal_by(lent: &[u8], h: Opened, a: MediaTime, b: MediaTime) -> u32
         h.chunks,
         a,
         b,
-    );
-    match asked {
-        Asked::Samples(_) => 0,
-        Asked::Refused(r) => r,
-    }
+    )?;
+    Ok(())
 }
 
 // The stretch from a to b by a handle: a pair (offset, length) for each chunk touched, in the first places of the room. A refusal leaves the room as it is.
@@ -42,7 +40,7 @@ pub fn stretch_by(
     a: MediaTime,
     b: MediaTime,
     room: &mut [u64],
-) -> StretchAnswer
+) -> Result<StretchTotals, Refusal>
     ensures { StretchBy lent.now h a b room.old result room.new }
 {
     let tables = h.tables;

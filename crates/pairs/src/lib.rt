@@ -5,7 +5,7 @@
 
 pub mod listed;
 
-ghost use Rattle.std.specs.Prelude.{◌≡◌, ◌||◌, eqb, leb, ◌+◌, ◌*◌, ◌-◌, ◌≤◌, ◌<◌, ◌^◌, min, max, length, get_or, take, drop};
+ghost use Rattle.std.specs.Prelude.{◌≡◌, ◌||◌, eqb, leb, ◌+◌, ◌*◌, ◌-◌, ◌≤◌, ◌<◌, ◌^◌, length, get_or, take, drop};
 ghost use Rattle.bigendian.specs.BigEndian.{u32_at};
 ghost use Rattle.words.specs.Words.{numbers_in, words_in, sizes, width_of, offset_width, chunk_offsets};
 ghost use Rattle.chunks.specs.Chunks.{per_chunk};
@@ -15,7 +15,7 @@ ghost use Rattle.pairs.specs.Walks.{count_between, chunks_to, StartsAt, place_pa
 
 use bigendian::{after, u32_at};
 use chunks::{ChunkCursor, pass, ready, seek};
-use words::{bytes_between, chunk_offset, first_sum, is_long, number_in};
+use words::{bytes_between, chunk_offset, first_sum, is_long, number_in, width_of};
 
 // A range of bytes of the file.
 #[derive(Clone, Copy)]
@@ -30,18 +30,6 @@ pub struct ChunkPosition {
     pub cursor: ChunkCursor,
     pub chunk: u64,
     pub begin: u64,
-}
-
-fn smaller(a: u64, b: u64) -> u64
-    ensures { result ≡ min a b }
-{
-    if a < b { a } else { b }
-}
-
-fn larger(a: u32, b: u32) -> u32
-    ensures { result ≡ max a b }
-{
-    if a < b { b } else { a }
 }
 
 // Before the chunk of the sample with an index.
@@ -88,8 +76,8 @@ pub fn pair_at(stsz: &[u8], offsets: &[u8], p: ChunkPosition, from: u32, stop: u
     let c = p.cursor;
     let per = c.per;
     let begin = p.begin;
-    let end = smaller(stop as u64, begin + per as u64) as u32;
-    let first = larger(from, begin as u32);
+    let end = (stop as u64).min(begin + per as u64) as u32;
+    let first = from.max(begin as u32);
     let before = bytes_before(stsz, begin as u32, first);
     Pair {
         offset: chunk_offset(offsets, p.chunk) + before,
@@ -135,8 +123,7 @@ fn whole_end(stsz: &[u8], stop: u32) -> u32
     if u32_at(stsz, 12) == 0 {
         return stop;
     }
-    let samples = u32_at(stsz, 16);
-    if samples < stop { samples } else { stop }
+    u32_at(stsz, 16).min(stop)
 }
 
 // How many of `count` chunks, with `per` samples each, end by the sample `end`. There is a division only where they don't all.
@@ -155,13 +142,6 @@ fn whole_chunks(count: u64, per: u32, begin: u64, end: u32) -> u64
         return count;
     }
     samples / each
-}
-
-// How many bytes an offset has.
-pub fn width_of(long: bool) -> usize
-    ensures { result ≡ width_of long }
-{
-    if long { 8 } else { 4 }
 }
 
 // How many offsets a table has.

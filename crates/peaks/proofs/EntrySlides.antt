@@ -1,5 +1,6 @@
 -- The window slid on entry by entry: the sample at its tail leaves it and the one at its head enters it, turn by turn.
 -- Assumes nothing.
+use Rattle.std.specs.Prelude.{Option, Some}
 use Prim.Native.Nat.{ℕ, suc, ◌+◌, ◌-◌, ◌*◌, ◌^◌, ◌≤◌, ◌<◌}
 use mathlib.Core.Path.{◌≡◌, refl, sym, ap, ◌∙◌}
 use mathlib.Core.List.{List}
@@ -8,7 +9,6 @@ use lib.ListN.{length, get_or, drop, length-drop}
 use lib.Seq.{drop-drop}
 use Rattle.bigendian.specs.BigEndian.{u32_at}
 use Rattle.rates.specs.Rates.{rate_of}
-use Rattle.rates.specs.declared.Feature.TheVariants as features
 use Rattle.runs.specs.Runs.{per_sample}
 use Rattle.runs.specs.Cursors.{readied_run, past_run}
 use Rattle.runs.specs.declared.cursor.RunCursor.{RunCursor}
@@ -19,8 +19,6 @@ use Rattle.windows.specs.Windows.{Timed}
 use Rattle.windows.specs.declared.Window.{Window}
 use Rattle.windows.specs.declared.RatedRun.{RatedRun}
 use Rattle.peaks.specs.declared.EntrySlide.{EntrySlide}
-use Rattle.windows.specs.declared.Best.{Best}
-use Rattle.windows.specs.declared.Best.TheVariants.{Run}
 use Rattle.windows.specs.Windows.{Slides, rated_run, better, best_from}
 use Rattle.peaks.specs.Slides.{Absorbs, Skips}
 use Rattle.peaks.specs.EntrySlides.{window_at, HasEntries, MayStand}
@@ -66,7 +64,7 @@ module _ (s : ℕ) (t z : List ℕ) (k : Timed s (per_sample t) (sizes z)) where
         rw (sym (next_entry t w.head b q m v)) (slides_grown s t z k.some_scale _ x into d (omega (arith, b)) i f)
 
   -- to the window of the next sample, its run being no higher than the best one
-  pub skips_next : (x : Best) (w u v : Window) → Skips s t z x w u → Slides s t z v → s ≤ v.span → Absorbs s x v → v.first ≡ u.first + 1 → Skips s t z x w v
+  pub skips_next : (x : Option RatedRun) (w u v : Window) → Skips s t z x w u → Slides s t z v → s ≤ v.span → Absorbs s x v → v.first ≡ u.first + 1 → Skips s t z x w v
   skips_next x w u v g h r a f =
       let rest = best_from s (suc u.first) (drop (suc u.first) (per_sample t)) (drop (suc u.first) (sizes z)) in
       let e : suc u.first ≡ v.first = omega (arith, f) in
@@ -79,14 +77,14 @@ module _ (s : ℕ) (t z : List ℕ) (k : Timed s (per_sample t) (sizes z)) where
             g.kept
             ∙ ap (better x) (peak_here s (per_sample t) (sizes z) u.first u.stop u.span u.bytes k.some_scale g.slides.run g.reaches)
             ∙ sym (better_assoc x (rated_run s u.first (u.stop - u.first) u.bytes u.span) rest)
-            ∙ ap (λ (y : Best). better y rest) g.absorbs
+            ∙ ap (λ (y : Option RatedRun). better y rest) g.absorbs
             ∙ ap (λ (i : ℕ). better x (best_from s i (drop i (per_sample t)) (drop i (sizes z)))) e;
       }
 
 -- ---- what the loop keeps: the window has skipped to where it stands, and the parts lie ahead of it
 
 pub record Enters (s : ℕ) (t z : List ℕ) (b : RatedRun) (w : Window) (tt hh oo ii : List ℕ) (x : EntrySlide) : Type 0 where
-  pub skips : Skips s t z (Run b) w (window_at w x)
+  pub skips : Skips s t z (Some b) w (window_at w x)
   pub tails : tt ≡ drop (w.tail.at + x.moved * 8) t
   pub heads : hh ≡ drop (w.head.at + x.moved * 8) t
   pub outs : oo ≡ drop ((w.first + x.moved) * 4) (drop 20 z)
@@ -115,7 +113,7 @@ module _ (s : ℕ) (t z : List ℕ) (k : Timed s (per_sample t) (sizes z)) (b : 
         bytes = l i;
       }
 
-  pub enters_start : (tt hh part oo ii : List ℕ) → Skips s t z (Run b) w w → tt ≡ drop w.tail.at t → hh ≡ drop w.head.at t → part ≡ drop 20 z
+  pub enters_start : (tt hh part oo ii : List ℕ) → Skips s t z (Some b) w w → tt ≡ drop w.tail.at t → hh ≡ drop w.head.at t → part ≡ drop 20 z
       → oo ≡ drop (w.first * 4) part → ii ≡ drop (w.stop * 4) part → Enters s t z b w tt hh oo ii start
   enters_start tt hh part oo ii q a c p d e =
       let f : w.tail.at + 0 * 8 ≡ w.tail.at = omega arith in
@@ -210,7 +208,7 @@ module _ (s : ℕ) (t z : List ℕ) (k : Timed s (per_sample t) (sizes z)) (b : 
             rw turned_window
             (slides_next s t z k here e.skips.slides e.skips.reaches refl refl into out (q ∙ size_in.0) (r ∙ size_out) f e.tails e.heads (some_entries l) l u v y)
 
-        pub enters_next : rate_of (8 * b.bytes * s) b.span ≡ features.Value b.rate → s ≤ x.span - x.out + x.into
+        pub enters_next : rate_of (8 * b.bytes * s) b.span ≡ Some b.rate → s ≤ x.span - x.out + x.into
             → (x.entered + into - (x.left + out)) * b.span ≤ b.bytes * (x.span - x.out + x.into)
             → Enters s t z b w (drop 8 tt) (drop 8 hh) (drop 4 oo) (drop 4 ii) turned
         enters_next a c d =
@@ -223,7 +221,7 @@ module _ (s : ℕ) (t z : List ℕ) (k : Timed s (per_sample t) (sizes z)) (b : 
             let fits = span_fits s t z k (window_at w turned) turned_slides in
             let kept = better_kept s b i (w.stop + (x.moved + 1) - i) (x.entered + into - (x.left + out)) (x.span - x.out + x.into) a (omega (arith, c, k.some_scale)) fits d in
             record {
-              skips = skips_next s t z k (Run b) w here (window_at w turned) e.skips turned_slides c kept n;
+              skips = skips_next s t z k (Some b) w here (window_at w turned) e.skips turned_slides c kept n;
               tails = ap (drop 8) e.tails ∙ drop-drop 8 (w.tail.at + x.moved * 8) t ∙ ap (λ (j : ℕ). drop j t) tail_at;
               heads = ap (drop 8) e.heads ∙ drop-drop 8 (w.head.at + x.moved * 8) t ∙ ap (λ (j : ℕ). drop j t) head_at;
               outs = ap (drop 4) e.outs ∙ drop-drop 4 ((w.first + x.moved) * 4) (drop 20 z) ∙ ap (λ (j : ℕ). drop j (drop 20 z)) out_at;

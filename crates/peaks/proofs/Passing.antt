@@ -1,5 +1,6 @@
 -- What the pass keeps of the best run so far, step by step, and what it has at its end.
 -- Assumes nothing.
+use Rattle.std.specs.Prelude.{Option}
 use Prim.Native.Nat.{ℕ, suc, ◌+◌, ◌-◌, ◌≤◌, ◌<◌}
 use mathlib.Core.Path.{◌≡◌, refl, sym, ap, ◌∙◌}
 use mathlib.Core.List.{List}
@@ -14,14 +15,14 @@ use Rattle.runs.specs.Runs.{per_sample}
 use Rattle.words.specs.Words.{sizes}
 use Rattle.windows.specs.Windows.{Timed}
 use Rattle.windows.specs.declared.Window.{Window}
-use Rattle.windows.specs.declared.Best.{Best}
 use Rattle.windows.specs.Windows.{Reaches, rated_run, better, no_run, best_from, best_of, IsRated, Raises}
 use Rattle.peaks.specs.Slides.{Absorbs, Skips}
 use Rattle.windows.proofs.Bests.{better_assoc, better_same, better_none, better_again}
 use Rattle.windows.proofs.Sliding.{peak_here, peak_end}
+use Rattle.windows.specs.declared.RatedRun.{RatedRun}
 
 -- the run of the window is then no higher
-pub raised_absorbs : (s : ℕ) (x : Best) (w : Window) (y : Best) → Raises s x w y → Absorbs s y w
+pub raised_absorbs : (s : ℕ) (x : Option RatedRun) (w : Window) (y : Option RatedRun) → Raises s x w y → Absorbs s y w
 raised_absorbs s x w y r =
     let here = rated_run s w.first (w.stop - w.first) w.bytes w.span in
     rw r.kept (better_assoc x here here ∙ ap (better x) (better_same here))
@@ -29,7 +30,7 @@ raised_absorbs s x w y r =
 -- ---- the pass
 
 -- the window of a sample, and the best of the runs before it; with those from it on, it is the best of all
-pub record Passes (s : ℕ) (t z : List ℕ) (x : Best) (w : Window) : Type 0 where
+pub record Passes (s : ℕ) (t z : List ℕ) (x : Option RatedRun) (w : Window) : Type 0 where
   pub reaches : Reaches s t z w.first w
   pub rated : IsRated s x
   pub kept : better x (best_from s w.first (drop w.first (per_sample t)) (drop w.first (sizes z))) ≡ best_of s (per_sample t) (sizes z)
@@ -54,7 +55,7 @@ module _ (s : ℕ) (t z : List ℕ) (k : Timed s (per_sample t) (sizes z)) where
         rw (h.from, le-ltb (sum (per_sample t)) s q)
 
   -- the first window: it has the run of sample 1, or the whole track
-  pub pass_start : (x : Best) (w : Window) → Reaches s t z 0 w → x ≡ rated_run s w.first (w.stop - w.first) w.bytes w.span → IsRated s x → Passes s t z x w
+  pub pass_start : (x : Option RatedRun) (w : Window) → Reaches s t z 0 w → x ≡ rated_run s w.first (w.stop - w.first) w.bytes w.span → IsRated s x → Passes s t z x w
   pass_start x w h e r = record {
     reaches = record { slides = h.slides; from = refl; all = h.all };
     rated = r;
@@ -67,14 +68,14 @@ module _ (s : ℕ) (t z : List ℕ) (k : Timed s (per_sample t) (sizes z)) where
           let m : s ≤ w.span = omega arith in
           let u = peak_here s (per_sample t) (sizes z) w.first w.stop w.span w.bytes k.some_scale h.slides.run m in
           let b = best_from s (suc w.first) (drop (suc w.first) (per_sample t)) (drop (suc w.first) (sizes z)) in
-          let v : best_from s w.first (drop w.first (per_sample t)) (drop w.first (sizes z)) ≡ better x b = u ∙ ap (λ (y : Best). better y b) (sym e) in
+          let v : best_from s w.first (drop w.first (per_sample t)) (drop w.first (sizes z)) ≡ better x b = u ∙ ap (λ (y : Option RatedRun). better y b) (sym e) in
           ap (better x) v ∙ better_again x b ∙ sym v ∙ from_start w h m
     ];
   }
 
-  module _ (x : Best) (w : Window) (h : Passes s t z x w) where
+  module _ (x : Option RatedRun) (w : Window) (h : Passes s t z x w) where
     -- to the window of a later sample, no run between them being higher than the best
-    pub pass_next : s ≤ w.span → (y : Best) (u v : Window) → Raises s x w y → Skips s t z y w u → Reaches s t z (u.first + 1) v → Passes s t z y v
+    pub pass_next : s ≤ w.span → (y : Option RatedRun) (u v : Window) → Raises s x w y → Skips s t z y w u → Reaches s t z (u.first + 1) v → Passes s t z y v
     pass_next l y u v r g q =
         let i = w.first in
         let e : v.first ≡ suc u.first = q.from ∙ add-one u.first in
@@ -91,7 +92,7 @@ module _ (s : ℕ) (t z : List ℕ) (k : Timed s (per_sample t) (sizes z)) where
           rated = r.rated;
           kept =
               rw e
-              (sym (ap (λ (f : Best). better f after) g.absorbs)
+              (sym (ap (λ (f : Option RatedRun). better f after) g.absorbs)
               ∙ better_assoc y (rated_run s u.first (u.stop - u.first) u.bytes u.span) after
               ∙ ap (better y) (sym b)
               ∙ sym g.kept

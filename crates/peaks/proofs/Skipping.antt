@@ -1,5 +1,6 @@
 -- From a window to the one that it slides to: each between them is the shortest run of its sample, and no higher than the best run.
 -- Assumes nothing.
+use Rattle.std.specs.Prelude.{Option, Some}
 use Prim.Native.Nat.{ℕ, zero, suc, ◌+◌, ◌-◌, ◌*◌, ◌≤◌, ◌<◌}
 use mathlib.Core.Path.{◌≡◌, refl, sym, ap, ◌∙◌}
 use mathlib.Core.List.{List}
@@ -11,7 +12,6 @@ use Rattle.lists.specs.Lists.{before, expand}
 use Rattle.lists.proofs.Laws.{before_in, length_run}
 use Rattle.lists.proofs.Places.{before_mono, before_drop}
 use Rattle.rates.specs.Rates.{rate_of}
-use Rattle.rates.specs.declared.Feature.TheVariants as features
 use Rattle.runs.specs.Runs.{runs_in, per_sample}
 use Rattle.runs.specs.Cursors.{run_ahead, readied_run, past_run}
 use Rattle.runs.specs.declared.cursor.RunCursor.{RunCursor}
@@ -20,8 +20,6 @@ use Rattle.words.specs.Words.{sizes}
 use Rattle.windows.specs.declared.Window.{Window}
 use Rattle.windows.specs.declared.RatedRun.{RatedRun}
 use Rattle.peaks.specs.declared.Slide.{Slide}
-use Rattle.windows.specs.declared.Best.{Best}
-use Rattle.windows.specs.declared.Best.TheVariants.{Run}
 use Rattle.windows.specs.Windows.{Timed}
 use Rattle.windows.specs.Windows.{Sliding, Before, Slides, rated_run, better, best_from}
 use Rattle.peaks.specs.Slides.{MaySlide, Slid, Levels, slid_by, Absorbs, Skips}
@@ -88,19 +86,19 @@ module _ (s : ℕ) (t z : List ℕ) (k : Timed s (per_sample t) (sizes z)) (w : 
           short = λ q. omega (arith, ap (before (per_sample t)) d, h.run.times, l.short m, suc-mul i w.tail.each, suc-mul i w.head.each);
         }
 
-    module _ (b : RatedRun) (a : rate_of (8 * b.bytes * s) b.span ≡ features.Value b.rate) (c : most * b.span ≤ b.bytes * w.span) where
+    module _ (b : RatedRun) (a : rate_of (8 * b.bytes * s) b.span ≡ Some b.rate) (c : most * b.span ≤ b.bytes * w.span) where
       absorbed : (i y : ℕ) → i ≤ x.moved → before (sizes z) (w.first + i) + y ≡ before (sizes z) (w.stop + i)
-          → better (Run b) (rated_run s (w.first + i) (w.stop + i - (w.first + i)) y w.span) ≡ Run b
+          → better (Some b) (rated_run s (w.first + i) (w.stop + i - (w.first + i)) y w.span) ≡ Some b
       absorbed i y g e =
           let q : y ≤ most = omega (arith, o.low i g) in
           let v = mul-le-mul_right b.span q in
           better_kept s b (w.first + i) (w.stop + i - (w.first + i)) y w.span a (omega (arith, k.some_scale)) (span_fits s t z k w h) (omega arith)
 
-      kept : (i : ℕ) → i ≤ x.moved → better (Run b) (best_from s w.first (drop w.first (per_sample t)) (drop w.first (sizes z)))
-          ≡ better (Run b) (best_from s (w.first + i) (drop (w.first + i) (per_sample t)) (drop (w.first + i) (sizes z)))
+      kept : (i : ℕ) → i ≤ x.moved → better (Some b) (best_from s w.first (drop w.first (per_sample t)) (drop w.first (sizes z)))
+          ≡ better (Some b) (best_from s (w.first + i) (drop (w.first + i) (per_sample t)) (drop (w.first + i) (sizes z)))
       kept zero g =
           let e : w.first ≡ w.first + 0 = omega arith in
-          ap (λ (f : ℕ). better (Run b) (best_from s f (drop f (per_sample t)) (drop f (sizes z)))) e
+          ap (λ (f : ℕ). better (Some b) (best_from s f (drop f (per_sample t)) (drop f (sizes z)))) e
       kept (suc i) g =
           let m : before (sizes z) (w.first + i) ≤ before (sizes z) (w.stop + i) = before_mono (sizes z) (w.first + i) (w.stop + i) (omega (arith, h.run.order)) in
           let y = before (sizes z) (w.stop + i) - before (sizes z) (w.first + i) in
@@ -110,12 +108,12 @@ module _ (s : ℕ) (t z : List ℕ) (k : Timed s (per_sample t) (sizes z)) (w : 
           let d : suc (w.first + i) ≡ w.first + suc i = omega arith in
           let rest = best_from s (suc (w.first + i)) (drop (suc (w.first + i)) (per_sample t)) (drop (suc (w.first + i)) (sizes z)) in
           kept i (omega arith)
-          ∙ ap (better (Run b)) u
-          ∙ sym (better_assoc (Run b) (rated_run s (w.first + i) (w.stop + i - (w.first + i)) y w.span) rest)
-          ∙ ap (λ (f : Best). better f rest) (absorbed i y (omega arith) e)
-          ∙ ap (λ (f : ℕ). better (Run b) (best_from s f (drop f (per_sample t)) (drop f (sizes z)))) d
+          ∙ ap (better (Some b)) u
+          ∙ sym (better_assoc (Some b) (rated_run s (w.first + i) (w.stop + i - (w.first + i)) y w.span) rest)
+          ∙ ap (λ (f : Option RatedRun). better f rest) (absorbed i y (omega arith) e)
+          ∙ ap (λ (f : ℕ). better (Some b) (best_from s f (drop f (per_sample t)) (drop f (sizes z)))) d
 
-      pub skips : Skips s t z (Run b) w (slid_by t x w)
+      pub skips : Skips s t z (Some b) w (slid_by t x w)
       skips = record {
         slides = record {
           tail = run_moved t w.first w.tail h.tail x.moved (omega (arith, o.within, l.tails));
@@ -131,5 +129,5 @@ module _ (s : ℕ) (t z : List ℕ) (k : Timed s (per_sample t) (sizes z)) (w : 
       }
 
 -- a window that stays
-pub skips_none : (s : ℕ) (t z : List ℕ) (x : Best) (w : Window) → Slides s t z w → s ≤ w.span → Absorbs s x w → Skips s t z x w w
+pub skips_none : (s : ℕ) (t z : List ℕ) (x : Option RatedRun) (w : Window) → Slides s t z w → s ≤ w.span → Absorbs s x w → Skips s t z x w w
 skips_none s t z x w h r a = record { slides = h; reaches = r; absorbs = a; later = omega arith; kept = refl }

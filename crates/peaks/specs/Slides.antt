@@ -1,17 +1,15 @@
 -- The window slid on over samples of one duration at both ends: it lasts as long as before, and the runs that are passed over are no higher than
 -- the best. This need not be believed: it is between the crate's own functions.
-use Rattle.std.specs.Prelude.{ℕ, suc, ◌+◌, ◌-◌, ◌*◌, ◌≤◌, ◌<◌, ◌≡◌, List, length, drop}
+use Rattle.std.specs.Prelude.{ℕ, suc, ◌+◌, ◌-◌, ◌*◌, ◌≤◌, ◌<◌, ◌≡◌, List, length, drop, Option, Some, None}
 use Rattle.lists.specs.Lists.{before}
 use Rattle.runs.specs.Runs.{per_sample}
 use Rattle.runs.specs.Cursors.{readied_run, past_run}
 use Rattle.words.specs.Words.{sizes}
 use Rattle.windows.specs.declared.Window.{Window}
-use Rattle.windows.specs.declared.Best.TheVariants as best
 use Rattle.peaks.specs.declared.Slide.{Slide}
 use Rattle.peaks.specs.declared.Peak.{Peak}
-use Rattle.peaks.specs.declared.Peak.TheVariants as peaks
-use Rattle.windows.specs.declared.Best.{Best}
 use Rattle.windows.specs.Windows.{Slides, rated_run, better, best_from}
+use Rattle.windows.specs.declared.RatedRun.{RatedRun}
 
 -- sizes ts that leave a window at its tail and hs that enter it at its head: none leaves that is not in it
 pub record Stays (ts hs : List ℕ) (bytes most : ℕ) : Type 0 where
@@ -60,11 +58,11 @@ slid_by t x w =
     }
 
 -- the run of a window is no higher than the best one
-abbrev pub Absorbs : ℕ → Best → Window → Type 0
+abbrev pub Absorbs : ℕ → Option RatedRun → Window → Type 0
 Absorbs s x w = better x (rated_run s w.first (w.stop - w.first) w.bytes w.span) ≡ x
 
 -- from one window to a later one no run is higher than the best one
-pub record Skips (s : ℕ) (t z : List ℕ) (x : Best) (w r : Window) : Type 0 where
+pub record Skips (s : ℕ) (t z : List ℕ) (x : Option RatedRun) (w r : Window) : Type 0 where
   pub slides : Slides s t z r
   pub reaches : s ≤ r.span
   pub absorbs : Absorbs s x r
@@ -74,6 +72,6 @@ pub record Skips (s : ℕ) (t z : List ℕ) (x : Best) (w r : Window) : Type 0 w
 
 -- ---- the best run as the answer
 
-abbrev pub to_peak : Best → Peak
-to_peak (best.Run b) = peaks.Highest b.rate b.first b.count
-to_peak best.NotComputed = peaks.NotComputed
+abbrev pub to_peak : Option RatedRun → Option Peak
+to_peak (Some b) = Some (record { rate = b.rate; first = b.first; count = b.count })
+to_peak None = None

@@ -2,11 +2,10 @@
 // as they stand in the file and never expanded.
 #![tactic(auto)]
 
-ghost use Rattle.std.specs.Prelude.{◌≡◌, true, ◌+◌, ◌-◌, ◌*◌, ◌≤◌, ◌<◌, length};
+ghost use Rattle.std.specs.Prelude.{◌≡◌, true, ◌+◌, ◌-◌, ◌*◌, ◌≤◌, ◌<◌, length, Some};
 ghost use Rattle.runs.specs.Runs.{per_sample};
 ghost use Rattle.words.specs.Words.{words_in, sizes};
 ghost use Rattle.windows.specs.Windows.{Timed, Slides, IsRated};
-ghost use Rattle.windows.specs.declared.Best.TheVariants.{Run};
 ghost use Rattle.peaks.specs.Peaks.{peak_in};
 ghost use Rattle.peaks.specs.Slides.{Stays, SlidOver, MaySlide, Slid, Levels, slid_by, Absorbs, Skips, to_peak};
 ghost use Rattle.peaks.specs.EntrySlides.{window_at, HasEntries, MayStand};
@@ -14,15 +13,16 @@ ghost use Rattle.peaks.specs.EntrySlides.{window_at, HasEntries, MayStand};
 use bigendian::{after, u32_at, whole32};
 use runs::cursor::{RunCursor, run_pass, run_ready};
 use windows::{
-    Best, RatedRun, Window, are_single, extended, is_no_higher_run, next_window, raised, rated,
+    RatedRun, Window, are_single, extended, is_no_higher_run, next_window, raised, rated,
     start_window,
 };
 
-// The highest rate, the number of the first sample whose run has it, from 1, and how many samples that run has; or that it cannot be computed.
+// The highest rate, the number of the first sample whose run has it, from 1, and how many samples that run has.
 #[derive(Clone, Copy)]
-pub enum Peak {
-    Highest { rate: u32, first: u32, count: u32 },
-    NotComputed,
+pub struct Peak {
+    pub rate: u32,
+    pub first: u32,
+    pub count: u32,
 }
 
 // How far a window slides, and its bytes there.
@@ -190,8 +190,8 @@ fn window_at(w: Window, x: EntrySlide) -> Window
 
 // The window slid on entry by entry, while it keeps its number of samples and is no higher than the best run.
 fn slide_entries(stts: &[u8], stsz: &[u8], w: Window, best: RatedRun, scale: u32) -> Window
-    requires { Slides scale stts.now stsz.now w × Timed scale (per_sample stts.now) (sizes stsz.now) × (scale ≤ w.span) × IsRated scale (Run best) × Absorbs scale (Run best) w × HasEntries stts.now stsz.now w }
-    ensures { Skips scale stts.now stsz.now (Run best) w result }
+    requires { Slides scale stts.now stsz.now w × Timed scale (per_sample stts.now) (sizes stsz.now) × (scale ≤ w.span) × IsRated scale (Some best) × Absorbs scale (Some best) w × HasEntries stts.now stsz.now w }
+    ensures { Skips scale stts.now stsz.now (Some best) w result }
 {
     let tail = w.tail;
     let head = w.head;
@@ -240,11 +240,11 @@ fn slide_entries(stts: &[u8], stsz: &[u8], w: Window, best: RatedRun, scale: u32
 }
 
 // The window slid on, by entries of one sample or in long runs of one duration, while it is no higher than the best run.
-fn slid(stts: &[u8], stsz: &[u8], w: Window, best: Best, scale: u32) -> Window
+fn slid(stts: &[u8], stsz: &[u8], w: Window, best: Option<RatedRun>, scale: u32) -> Window
     requires { Slides scale stts.now stsz.now w × Timed scale (per_sample stts.now) (sizes stsz.now) × (scale ≤ w.span) × IsRated scale best × Absorbs scale best w }
     ensures { Skips scale stts.now stsz.now best w result }
 {
-    let Best::Run(b) = best else {
+    let Some(b) = best else {
         return w;
     };
     if has_entries(stts, stsz, w) {
@@ -265,21 +265,19 @@ fn slid(stts: &[u8], stsz: &[u8], w: Window, best: Best, scale: u32) -> Window
     )
 }
 
-fn to_peak(best: Best) -> Peak
+fn to_peak(best: Option<RatedRun>) -> Option<Peak>
     ensures { result ≡ to_peak best }
 {
-    match best {
-        Best::Run(b) => Peak::Highest {
-            rate: b.rate,
-            first: b.first,
-            count: b.count,
-        },
-        Best::NotComputed => Peak::NotComputed,
-    }
+    let b = best?;
+    Some(Peak {
+        rate: b.rate,
+        first: b.first,
+        count: b.count,
+    })
 }
 
-// The peak of a track, by its tables and its time scale. Where no run lasts a second, the first window has the whole track.
-pub fn peak_of(stts: &[u8], stsz: &[u8], scale: u32) -> Peak
+// The peak of a track, by its tables and its time scale, where it can be computed. Where no run lasts a second, the first window has the whole track.
+pub fn peak_of(stts: &[u8], stsz: &[u8], scale: u32) -> Option<Peak>
     requires { Timed scale (per_sample stts.now) (sizes stsz.now) }
     ensures { result ≡ peak_in scale (per_sample stts.now) (sizes stsz.now) }
 {

@@ -3,6 +3,7 @@
 use Prim.Native.Nat.{ℕ, suc, ◌+◌, ◌-◌, ◌≤◌, ◌<◌, ◌^◌, min}
 use mathlib.Core.Path.{◌≡◌, refl, sym, ap, ◌∙◌}
 use mathlib.Core.List.{List, []}
+use Rattle.std.specs.Prelude.{Some, None}
 use native.Mathlib.Omega.{arith}
 use native.Mathlib.Decide.{ℕ_discrete, dec_lt}
 use mathlib.Core.Bool.{Bool, true, false, ◌&&◌}
@@ -13,8 +14,8 @@ use Rattle.lists.specs.Lists.{sum, before, holder, Holds}
 use Rattle.lists.proofs.Places.{before_suc, before_all, holder_holds, holder_only, holds_below}
 use Rattle.words.specs.Words.{sizes, chunk_offsets}
 use Rattle.chunks.specs.Chunks.{per_chunk, description_ids, offset_of}
-use Rattle.chunks.specs.Computed.{located_in, located_offset}
-use Rattle.chunks.specs.Cursors.{ahead, Valid, Stands, readied, past, sought}
+use Rattle.chunks.specs.Computed.{located_offset}
+use Rattle.chunks.specs.Cursors.{ahead, Valid, readied, past, sought}
 use Rattle.chunks.specs.declared.ChunkCursor.{ChunkCursor}
 use Rattle.chunks.specs.declared.Located.{Located}
 use Rattle.chunks.specs.declared.Sought.{Sought}
@@ -23,7 +24,6 @@ use Rattle.chunks.proofs.Dealt.{first_chunk, first_offset, next_offset}
 use Rattle.chunks.proofs.Finding.{Finds, finds, located_some, offset_located}
 use Rattle.positions.specs.Dealing.{DealtAt, begun, readied_dealt, may_deal, ahead_of, past_dealt, sought_dealt}
 use Rattle.positions.specs.declared.dealt.Dealt.{Dealt}
-use Rattle.positions.specs.declared.dealt.Ahead.TheVariants.{At, End}
 
 -- ---- what the code makes
 
@@ -56,13 +56,13 @@ module _ (stsc o : List ℕ) (chunks : ℕ) (d : Dealt) where
 -- whether a sample lies ahead
 
 module _ (d : Dealt) where
-  pub none_ahead : d.rest ≡ 0 → End ≡ ahead_of d
+  pub none_ahead : d.rest ≡ 0 → None ≡ ahead_of d
   none_ahead z = rw (le-ltb 0 d.rest (omega arith))
 
-  pub too_high : 9223372036854775807 < d.offset → End ≡ ahead_of d
+  pub too_high : 9223372036854775807 < d.offset → None ≡ ahead_of d
   too_high h = let e : may_deal d ≡ false = rw (le-ltb d.offset 9223372036854775808 (omega arith)) (and_false (ltb 0 d.rest)) in rw e
 
-  pub some_ahead : (d.rest ≡ 0 → ⊥) → d.offset ≤ 9223372036854775807 → At d ≡ ahead_of d
+  pub some_ahead : (d.rest ≡ 0 → ⊥) → d.offset ≤ 9223372036854775807 → Some d ≡ ahead_of d
   some_ahead z h = rw (lt-ltb 0 d.rest (omega arith), lt-ltb d.offset 9223372036854775808 (omega arith))
 
 -- ---- the place of a sample

@@ -1,20 +1,19 @@
 -- The places in all tables: what is read before a sample changes nothing that lies ahead, and past the sample each place stands before the next one.
 -- Assumes nothing.
-use Prim.Native.Nat.{ℕ, suc, ◌+◌, ◌-◌, ◌≤◌, ◌<◌, ◌^◌}
-use mathlib.Core.Path.{◌≡◌, refl, sym, ap, ◌∙◌}
-use mathlib.Core.Bool.{Bool, true, false, cond, ◌&&◌}
-use mathlib.Core.List.{List}
+use Prim.Native.Nat.{ℕ, suc, ◌+◌, ◌≤◌, ◌<◌, ◌^◌}
+use mathlib.Core.Path.{◌≡◌, refl, sym, ◌∙◌}
+use mathlib.Core.Bool.{Bool, true, false, cond}
+use Rattle.std.specs.Prelude.{Some, None}
 use native.Mathlib.Omega.{arith}
 use borrow.Author.Tests.{lt-ltb, le-ltb, ltb-true}
 use lib.Dec.{ltb}
-use lib.IntN.{ℤ}
-use lib.ListN.{length, get_or, drop}
+use lib.ListN.{get_or}
 use Rattle.bigendian.specs.BigEndian.{u32_at}
 use Rattle.lists.specs.Lists.{sum, before, holder}
 use Rattle.lists.proofs.Booleans.{and_left, and_right}
 use Rattle.lists.proofs.Places.{before_suc, before_le}
 use Rattle.runs.specs.Runs.{per_sample, composition_offset}
-use Rattle.runs.specs.Cursors.{RunStands, readied_run}
+use Rattle.runs.specs.Cursors.{readied_run}
 use Rattle.runs.specs.declared.cursor.RunCursor.{RunCursor}
 use Rattle.runs.proofs.Cursors.{run_same}
 use Rattle.words.specs.Words.{sizes, chunk_offsets, syncs, listed}
@@ -24,9 +23,7 @@ use Rattle.positions.specs.Syncs.{sync_place, sync_step}
 use Rattle.positions.specs.Dealing.{DealtAt, may_deal, ahead_of}
 use Rattle.positions.specs.Moving.{Bytes, StandsAt, Agrees, readied_moving, may_move, to_move, past_moving}
 use Rattle.positions.specs.declared.dealt.Dealt.{Dealt}
-use Rattle.positions.specs.declared.dealt.Ahead.TheVariants as dealing
 use Rattle.positions.specs.declared.moving.Moving.{Moving}
-use Rattle.positions.specs.declared.moving.Readied.TheVariants.{At, End}
 use Rattle.positions.specs.declared.sync.SyncStep.{SyncStep}
 use Rattle.positions.proofs.Runs.{run_sought, run_some, run_each, run_shift, run_moves}
 use Rattle.positions.proofs.Syncs.{sync_sought, sync_moves}
@@ -43,38 +40,38 @@ module _ (m : Moving) where
   pub may_if : 0 < m.dealt.rest → m.dealt.offset < 2 ^ 63 → m.decode < 4294967296 → may_move m ≡ true
   may_if a b c = rw (lt-ltb 0 m.dealt.rest a, lt-ltb m.dealt.offset 9223372036854775808 b, lt-ltb m.decode 4294967296 c)
 
-  pub too_late : 4294967295 < m.decode → End ≡ to_move m
+  pub too_late : 4294967295 < m.decode → None ≡ to_move m
   too_late h = rw (le-ltb m.decode 4294967296 (omega arith))
 
-  not_dealt : (b : Bool) → cond b (dealing.At m.dealt) dealing.End ≡ dealing.End → End ≡ cond b (At m) End
+  not_dealt : (b : Bool) → cond b (Some m.dealt) None ≡ None → None ≡ cond b (Some m) None
   not_dealt true c = let z : ◌≡◌ {A = ℕ} 0 1 = cc in absurd (omega arith)
   not_dealt false c = refl
 
-  pub none_dealt : m.decode ≤ 4294967295 → ahead_of m.dealt ≡ dealing.End → End ≡ to_move m
+  pub none_dealt : m.decode ≤ 4294967295 → ahead_of m.dealt ≡ None → None ≡ to_move m
   none_dealt h e = rw (lt-ltb m.decode 4294967296 (omega arith)) (not_dealt (may_deal m.dealt) e)
 
-  some_dealt : (b : Bool) (d : Dealt) → cond b (dealing.At m.dealt) dealing.End ≡ dealing.At d → (b ≡ true) × (m.dealt ≡ d)
+  some_dealt : (b : Bool) (d : Dealt) → cond b (Some m.dealt) None ≡ Some d → (b ≡ true) × (m.dealt ≡ d)
   some_dealt true d c = let z : m.dealt ≡ d = cc in (refl, z)
   some_dealt false d c = let z : ◌≡◌ {A = ℕ} 0 1 = cc in absurd (omega arith)
 
-  pub dealt_at : (d : Dealt) → m.decode ≤ 4294967295 → ahead_of m.dealt ≡ dealing.At d → (At m ≡ to_move m) × (m.dealt ≡ d)
+  pub dealt_at : (d : Dealt) → m.decode ≤ 4294967295 → ahead_of m.dealt ≡ Some d → (Some m ≡ to_move m) × (m.dealt ≡ d)
   dealt_at d h e =
       let w = some_dealt (may_deal m.dealt) d e in
       (rw (lt-ltb m.decode 4294967296 (omega arith), w.0), w.1)
 
   -- what came of them
-  ended : (b : Bool) → cond b (At m) End ≡ End → b ≡ false
+  ended : (b : Bool) → cond b (Some m) None ≡ None → b ≡ false
   ended true c = let z : ◌≡◌ {A = ℕ} 0 1 = cc in absurd (omega arith)
   ended false c = refl
 
-  pub may_not : to_move m ≡ End → may_move m ≡ false
+  pub may_not : to_move m ≡ None → may_move m ≡ false
   may_not e = ended (may_move m) e
 
-  came_to : (b : Bool) (n : Moving) → cond b (At m) End ≡ At n → (b ≡ true) × (m ≡ n)
+  came_to : (b : Bool) (n : Moving) → cond b (Some m) None ≡ Some n → (b ≡ true) × (m ≡ n)
   came_to true n c = let z : m ≡ n = cc in (refl, z)
   came_to false n c = let z : ◌≡◌ {A = ℕ} 0 1 = cc in absurd (omega arith)
 
-  pub may_so : (n : Moving) → to_move m ≡ At n → (may_move m ≡ true) × (m ≡ n)
+  pub may_so : (n : Moving) → to_move m ≡ Some n → (may_move m ≡ true) × (m ≡ n)
   may_so n e = came_to (may_move m) n e
 
 -- ---- before a sample

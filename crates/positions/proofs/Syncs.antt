@@ -1,6 +1,6 @@
 -- The place in stss: what the search keeps, and what a step past a sample keeps.
 -- Assumes nothing.
-use Prim.Native.Nat.{ℕ, zero, suc, ◌+◌, ◌*◌, ◌≤◌, ◌<◌}
+use Prim.Native.Nat.{ℕ, suc, ◌+◌, ◌*◌, ◌≤◌, ◌<◌}
 use mathlib.Core.Path.{◌≡◌, refl, sym, ap, ◌∙◌}
 use mathlib.Core.Bool.{Bool, true, false, cond}
 use mathlib.Core.List.{List, [], ◌∷◌}
@@ -14,7 +14,7 @@ use Rattle.bigendian.specs.BigEndian.{u32_at}
 use Rattle.lists.proofs.Booleans.{cond_both}
 use Rattle.words.specs.Words.{words_in, syncs, strictly_rising, syncs_agree, listed, is_sync}
 use Rattle.words.proofs.Turns.{syncs_in, words_none, words_next, words_drop}
-use Rattle.words.proofs.Syncs.{agree_in, sync_absent, sync_in}
+use Rattle.words.proofs.Syncs.{agree_in}
 use Rattle.positions.specs.Syncs.{SyncAt, not_above, sync_place, sync_step_in, sync_step}
 use Rattle.positions.specs.declared.sync.SyncStep.{SyncStep}
 

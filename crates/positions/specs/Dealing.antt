@@ -1,5 +1,5 @@
 -- A place in the chunks before a sample.
-use Rattle.std.specs.Prelude.{ℕ, suc, ◌+◌, ◌-◌, ◌<◌, min, ◌≡◌, Bool, cond, ◌&&◌, List, get_or, ltb, leb, eqb}
+use Rattle.std.specs.Prelude.{ℕ, suc, ◌+◌, ◌-◌, ◌<◌, min, ◌≡◌, Bool, cond, ◌&&◌, Option, Some, None, List, get_or, ltb, leb, eqb}
 use Rattle.bigendian.specs.BigEndian.{u32_at}
 use Rattle.atoms.specs.Atoms.{kind_of}
 use Rattle.atoms.specs.Kinds.{co64}
@@ -11,8 +11,6 @@ use Rattle.chunks.specs.Cursors.{Valid, readied, past, sought}
 use Rattle.chunks.specs.declared.Located.{Located}
 use Rattle.positions.specs.declared.dealt.Dealt.{Dealt}
 use Rattle.positions.specs.declared.dealt.OffsetHead.{OffsetHead}
-use Rattle.positions.specs.declared.dealt.Ahead.{Ahead}
-use Rattle.positions.specs.declared.dealt.Ahead.TheVariants.{At, End}
 
 -- before the sample with index k, by stsc with that many chunks, the chunks' offsets cs and the samples' sizes zs: the cursor stands before the next
 -- chunk, and the chunks begun have `rest` samples from k on; if there is one, it is the sample itself, in the last chunk begun
@@ -47,8 +45,8 @@ readied_dealt stsc offsets chunks d = cond (eqb d.rest 0) (begun stsc offsets ch
 abbrev pub may_deal : Dealt → Bool
 may_deal d = ltb 0 d.rest && ltb d.offset 9223372036854775808
 
-abbrev pub ahead_of : Dealt → Ahead
-ahead_of d = cond (may_deal d) (At d) End
+abbrev pub ahead_of : Dealt → Option Dealt
+ahead_of d = cond (may_deal d) (Some d) None
 
 abbrev pub past_dealt : ℕ → Dealt → Dealt
 past_dealt size d = record { cursor = d.cursor; chunk = d.chunk; rest = d.rest - 1; offset = d.offset + size }

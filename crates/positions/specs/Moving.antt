@@ -1,5 +1,5 @@
 -- The places in all tables of a track before one of its samples.
-use Rattle.std.specs.Prelude.{ℕ, ◌+◌, ◌-◌, ◌<◌, ◌^◌, ◌≡◌, Bool, true, cond, ◌&&◌, List, length, get_or, drop, ltb}
+use Rattle.std.specs.Prelude.{ℕ, ◌+◌, ◌<◌, ◌^◌, ◌≡◌, Bool, true, cond, ◌&&◌, Option, Some, None, List, length, get_or, drop, ltb}
 use Rattle.bigendian.specs.BigEndian.{u32_at}
 use Rattle.lists.specs.Lists.{sum, before}
 use Rattle.runs.specs.Runs.{per_sample}
@@ -9,8 +9,6 @@ use Rattle.chunks.specs.Chunks.{per_chunk, offset_of}
 use Rattle.positions.specs.Dealing.{DealtAt, readied_dealt, may_deal, past_dealt}
 use Rattle.positions.specs.Syncs.{SyncAt}
 use Rattle.positions.specs.declared.moving.Moving.{Moving}
-use Rattle.positions.specs.declared.moving.Readied.{Readied}
-use Rattle.positions.specs.declared.moving.Readied.TheVariants.{At, End}
 
 -- the sample tables of a track, as their bytes
 pub record Bytes : Type 0 where
@@ -57,8 +55,8 @@ abbrev pub may_move : Moving → Bool
 may_move m = ltb m.decode 4294967296 && may_deal m.dealt
 
 -- places with the entries read, where they may be moved
-abbrev pub to_move : Moving → Readied
-to_move m = cond (may_move m) (At m) End
+abbrev pub to_move : Moving → Option Moving
+to_move m = cond (may_move m) (Some m) None
 
 abbrev pub past_moving : ℕ → ℕ → Moving → Moving
 past_moving size sync m =

@@ -35,33 +35,27 @@ pub fn offset_head(offsets: &[u8]) -> OffsetHead
     }
 }
 
-// The place of a sample in a chunk begun; no more where there is none, or where its offset could not grow.
-#[derive(Clone, Copy)]
-pub enum Ahead {
-    At(Dealt),
-    End,
-}
-
-// The next chunk begun, where the last one has no sample left. What ends the steps is told before a cursor is moved: so no two are held at once.
-fn begin(stsc: &[u8], offsets: &[u8], head: OffsetHead, d: Dealt) -> Ahead
+// The next chunk begun, where the last one has no sample left; none where there is none, or where its offset could not grow. What ends the steps is told
+// before a cursor is moved: so no two are held at once.
+fn begin(stsc: &[u8], offsets: &[u8], head: OffsetHead, d: Dealt) -> Option<Dealt>
     requires { (head.long ≡ eqb (kind_of offsets.now) co64) × (d.rest ≡ 0) }
     ensures { result ≡ ahead_of (begun stsc.now offsets.now head.chunks d) }
 {
     let chunk = d.chunk;
     if head.chunks <= chunk {
-        return Ahead::End;
+        return None;
     }
     let offset = number_in(after(offsets, HEAD), head.long, chunk as usize);
     if 9223372036854775807 < offset {
-        return Ahead::End;
+        return None;
     }
     let old = d.cursor;
     let c = ready(stsc, head.chunks, old);
     if c.per == 0 {
-        return Ahead::End;
+        return None;
     }
     let cursor = pass(c, 1);
-    Ahead::At(Dealt {
+    Some(Dealt {
         cursor,
         chunk: chunk + 1,
         rest: c.per,
@@ -69,8 +63,8 @@ fn begin(stsc: &[u8], offsets: &[u8], head: OffsetHead, d: Dealt) -> Ahead
     })
 }
 
-// At a sample: where the chunk begun has none left, the next one is begun.
-pub(crate) fn dealt_ready(stsc: &[u8], offsets: &[u8], head: OffsetHead, d: Dealt) -> Ahead
+// At a sample: where the chunk begun has none left, the next one is begun. None where no sample lies ahead, or where its offset could not grow.
+pub(crate) fn dealt_ready(stsc: &[u8], offsets: &[u8], head: OffsetHead, d: Dealt) -> Option<Dealt>
     requires { head.long ≡ eqb (kind_of offsets.now) co64 }
     ensures { result ≡ ahead_of (readied_dealt stsc.now offsets.now head.chunks d) }
 {
@@ -78,9 +72,9 @@ pub(crate) fn dealt_ready(stsc: &[u8], offsets: &[u8], head: OffsetHead, d: Deal
         return begin(stsc, offsets, head, d);
     }
     if 9223372036854775807 < d.offset {
-        return Ahead::End;
+        return None;
     }
-    Ahead::At(d)
+    Some(d)
 }
 
 // Past a sample of that size.
@@ -101,10 +95,7 @@ pub(crate) fn dealt_pass(d: Dealt, size: u32) -> Dealt
 fn begun_with(chunk: u64, chunks: u32) -> u32
     ensures { result ≡ min (chunk + 1) chunks }
 {
-    if chunk < chunks as u64 {
-        return chunk as u32 + 1;
-    }
-    chunks
+    chunk.saturating_add(1).min(chunks as u64) as u32
 }
 
 // Before the sample with an index, whatever the tables say of it.

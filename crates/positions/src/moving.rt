@@ -3,7 +3,7 @@ ghost use Rattle.std.specs.Prelude.{◌≡◌, true, ◌<◌};
 ghost use Rattle.positions.specs.Dealing.{offset_head};
 ghost use Rattle.positions.specs.Moving.{readied_moving, to_move, may_move, past_moving};
 
-use super::dealt::{Ahead, Dealt, OffsetHead, dealt_pass, dealt_ready};
+use super::dealt::{Dealt, OffsetHead, dealt_pass, dealt_ready};
 use runs::cursor::{RunCursor, run_pass, run_ready};
 
 // The sample's index and decode time, and its places in stts, ctts, the chunks and stss.
@@ -26,14 +26,8 @@ impl Moving {
     pub const WORD: usize = words::WORD;
 }
 
-// The places with the entries read that the sample needs; no more where none lies ahead, or where its offset or decode time could not grow. Of a position
+// The places with the entries read that the sample needs; none where no sample lies ahead, or where its offset or decode time could not grow. Of a position
 // that stands in its own film that is so past the last sample alone.
-#[derive(Clone, Copy)]
-pub enum Readied {
-    At(Moving),
-    End,
-}
-
 pub fn read_entries(
     stts: &[u8],
     ctts: &[u8],
@@ -41,22 +35,20 @@ pub fn read_entries(
     offsets: &[u8],
     head: OffsetHead,
     m: Moving,
-) -> Readied
+) -> Option<Moving>
     requires { head ≡ offset_head offsets.now }
     ensures { result ≡ to_move (readied_moving stts.now ctts.now stsc.now offsets.now m) }
 {
     if 4294967295 < m.decode {
-        return Readied::End;
+        return None;
     }
     let d = m.dealt;
-    let Ahead::At(dealt) = dealt_ready(stsc, offsets, head, d) else {
-        return Readied::End;
-    };
+    let dealt = dealt_ready(stsc, offsets, head, d)?;
     let t = m.times;
     let c = m.shifts;
     let times = run_ready(stts, t);
     let shifts = run_ready(ctts, c);
-    Readied::At(Moving {
+    Some(Moving {
         index: m.index,
         decode: m.decode,
         times,

@@ -34,11 +34,7 @@ pub fn run_seek(table: &[u8], index: u32) -> RunCursor
 fn signed(n: u32) -> i64
     ensures { (result ≡ signed32 n) × (mag result < 2 ^ 31) }
 {
-    if n < 2147483648 {
-        n as i64
-    } else {
-        n as i64 - 4294967296
-    }
+    i64::from(n.cast_signed())
 }
 
 // The composition offset of the sample at which a cursor of ctts stands; 0 where none lies ahead.

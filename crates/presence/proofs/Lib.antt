@@ -1,3 +1,2 @@
 pub mod And
-mod Offsets
 pub mod Counting

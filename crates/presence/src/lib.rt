@@ -7,7 +7,7 @@ ghost use Rattle.presence.specs.Counts.{one_more, nothing_counted, with_kind, of
 use atoms::kinds;
 
 // How many atoms of each kind there are among those seen of a body; 2 stands for two or more.
-#[derive(Clone, Copy)]
+#[derive(Clone, Copy, Debug, PartialEq, Eq)]
 pub struct Counts {
     pub moov: u8,
     pub mvhd: u8,
@@ -58,6 +58,7 @@ pub fn nothing_counted() -> Counts
     }
 }
 
+#[tactic(auto, unfolding(crate::specs::Counts::one_more))]
 fn one_more(n: u8) -> u8
     ensures { result ≡ one_more n }
 {
@@ -65,6 +66,7 @@ fn one_more(n: u8) -> u8
 }
 
 // The counts with one atom of that kind more.
+#[tactic(auto, unfolding(crate::specs::Counts::with_kind, crate::specs::Counts::bump))]
 pub fn with_kind(counts: Counts, kind: u32) -> Counts
     ensures { result ≡ with_kind counts kind }
 {
@@ -95,7 +97,7 @@ pub fn with_kind(counts: Counts, kind: u32) -> Counts
     c
 }
 
-// `&&` of two answers that are both had: code without a branch is shorter to prove.
+// `&&` of two answers that are both had.
 pub fn both(a: bool, b: bool) -> bool
     ensures { result ≡ (a && b) }
 {
@@ -103,16 +105,17 @@ pub fn both(a: bool, b: bool) -> bool
 }
 
 // Whether the body of a parent, all its atoms counted, has the atoms that it must have, and none too often.
+#[tactic(auto, unfolding(crate::specs::Counts::present_by))]
 pub fn has_its_atoms(c: Counts, parent: u32, wide: bool) -> bool
     ensures { result ≡ present_by wide parent c }
 {
     match parent {
         kinds::FILE => c.moov == 1,
         kinds::MOOV => c.mvhd == 1,
-        kinds::TRAK => both(both(c.tkhd == 1, c.mdia == 1), c.edts <= 1),
+        kinds::TRAK => c.tkhd == 1 && c.mdia == 1 && c.edts <= 1,
         kinds::EDTS => c.elst == 1,
-        kinds::MDIA => both(both(c.mdhd == 1, c.hdlr == 1), c.minf == 1),
-        kinds::MINF => both(c.stbl == 1, c.dinf == 1),
+        kinds::MDIA => c.mdhd == 1 && c.hdlr == 1 && c.minf == 1,
+        kinds::MINF => c.stbl == 1 && c.dinf == 1,
         kinds::STBL => has_tables(c, wide),
         kinds::DINF => c.dref == 1,
         _ => true,
@@ -120,27 +123,27 @@ pub fn has_its_atoms(c: Counts, parent: u32, wide: bool) -> bool
 }
 
 // Whether stbl has one table of chunk offsets: stco, or where co64 may stand for it one of the two.
+#[tactic(auto, unfolding(crate::specs::Counts::offsets_by))]
 fn has_offsets(stco: u8, co64: u8, wide: bool) -> bool
     ensures { result ≡ offsets_by wide stco co64 }
 {
-    if !wide {
-        return stco == 1;
-    }
-    if stco == 0 {
-        co64 == 1
+    if wide {
+        u16::from(stco) + u16::from(co64) == 1
     } else {
-        both(stco == 1, co64 == 0)
+        stco == 1
     }
 }
 
 // The same of stbl.
+#[tactic(auto, unfolding(crate::specs::Counts::tables_by))]
 fn has_tables(c: Counts, wide: bool) -> bool
     ensures { result ≡ tables_by wide c }
 {
-    let a = both(c.stsd == 1, c.stts == 1);
-    let b = both(a, c.stsc == 1);
-    let d = both(b, c.stsz == 1);
-    let e = both(d, has_offsets(c.stco, c.co64, wide));
-    let f = both(e, c.ctts <= 1);
-    both(f, c.stss <= 1)
+    c.stsd == 1
+        && c.stts == 1
+        && c.stsc == 1
+        && c.stsz == 1
+        && has_offsets(c.stco, c.co64, wide)
+        && c.ctts <= 1
+        && c.stss <= 1
 }

@@ -1,5 +1,6 @@
 -- A profile is accepted exactly if it keeps the rules, and the fault of another is at the first record that breaks one.
 -- Assumes nothing.
+use Rattle.std.specs.Prelude.{Option, Some, None}
 use Prim.Native.Nat.{ℕ, zero, suc, ◌+◌, ◌/◌, ◌%◌, ◌≤◌, ◌<◌}
 use mathlib.Core.Path.{◌≡◌, refl, sym, ◌∙◌}
 use mathlib.Core.Bool.{Bool, true, false, not, ◌&&◌, ◌||◌}
@@ -12,8 +13,6 @@ use lib.ListN.{length, get_or}
 use Rattle.words.specs.Words.{listed}
 use Rattle.lists.proofs.Booleans.{or_left, or_right, or_neither}
 use Rattle.descriptions.specs.Descriptions.{format_of}
-use Rattle.rates.specs.declared.Feature.{Feature}
-use Rattle.rates.specs.declared.Feature.TheVariants.{Value, NotComputed}
 use Rattle.features.specs.Features.{tvsz, feature_of}
 use Rattle.track.specs.Track.{Track}
 use Rattle.feature_checks.specs.Records.{record_code, record_value, is_universal}
@@ -27,10 +26,10 @@ impossible e = let n : ◌≡◌ {A = ℕ} 0 1 = cc in absurd (omega arith)
 
 -- ---- a value and its feature
 
-high : (code value : ℕ) (f : Feature) → too_low code value f ≡ false → AtLeast code value f
+high : (code value : ℕ) (f : Option ℕ) → too_low code value f ≡ false → AtLeast code value f
 unfolding too_low
-high code value NotComputed h = impossible h
-high code value (Value v) h =
+high code value None h = impossible h
+high code value (Some v) h =
     record {
       feature = v;
       computed = refl;
@@ -41,14 +40,14 @@ high code value (Value v) h =
     }
 
 not_low : (code value v : ℕ) → ((code ≡ tvsz → ⊥) → v ≤ value) → (code ≡ tvsz → (v / 65536 ≤ value / 65536) × (v % 65536 ≤ value % 65536))
-    → too_low code value (Value v) ≡ false
+    → too_low code value (Some v) ≡ false
 unfolding too_low
 not_low code value v a b = elim (ℕ_discrete code tvsz) [
   | yes q ↦ rw (eq-eqb code tvsz q) (or_neither _ _ (le-ltb (value / 65536) (v / 65536) (b q).0) (le-ltb (value % 65536) (v % 65536) (b q).1))
   | no n ↦ rw (ne_eqb code tvsz n) (le-ltb value v (a n))
 ]
 
-reached : (code value : ℕ) (f : Feature) → AtLeast code value f → too_low code value f ≡ false
+reached : (code value : ℕ) (f : Option ℕ) → AtLeast code value f → too_low code value f ≡ false
 reached code value f a = rw a.computed (not_low code value a.feature a.enough a.halves)
 
 -- ---- no format is missing

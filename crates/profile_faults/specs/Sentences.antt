@@ -1,9 +1,7 @@
 -- What the fault of a stored profile says of its records, one by one.
-use Rattle.std.specs.Prelude.{ℕ, suc, ◌/◌, ◌%◌, ◌≤◌, ◌<◌, ◌≡◌, List, [], true, length, get_or}
+use Rattle.std.specs.Prelude.{ℕ, suc, ◌/◌, ◌%◌, ◌≤◌, ◌<◌, ◌≡◌, List, [], true, length, get_or, Option, Some}
 use Rattle.words.specs.Words.{listed}
 use Rattle.descriptions.specs.Descriptions.{format_of}
-use Rattle.rates.specs.declared.Feature.{Feature}
-use Rattle.rates.specs.declared.Feature.TheVariants.{Value}
 use Rattle.features.specs.Features.{tvsz, feature_of}
 use Rattle.track.specs.Track.{Track}
 use Rattle.profiles.specs.Profiles.{kept_of}
@@ -20,9 +18,9 @@ abbrev pub record_at : Track → ℕ → List ℕ
 record_at t i = get_or (records t) i []
 
 -- "at least the computed feature, tvsz at least in each half"; no value is where the feature "is refused 18"
-pub record AtLeast (code value : ℕ) (f : Feature) : Type 0 where
+pub record AtLeast (code value : ℕ) (f : Option ℕ) : Type 0 where
   pub feature : ℕ
-  pub computed : f ≡ Value feature
+  pub computed : f ≡ Some feature
   pub enough : (code ≡ tvsz → ⊥) → feature ≤ value
   pub halves : code ≡ tvsz → (feature / 65536 ≤ value / 65536) × (feature % 65536 ≤ value % 65536)
 

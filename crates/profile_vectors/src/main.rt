@@ -2,7 +2,7 @@
 // These and the lines are those that the reference in host/reference writes.
 #![tactic(auto)]
 
-use profile_checks::{ProfileCheckAnswer, check_profile};
+use profile_checks::{ProfileCheck, check_profile};
 use program_input::{
     Argument, MOST_FILM, MOST_NAME, argument_at, name_given, open_named, read_full,
 };
@@ -10,24 +10,13 @@ use std::io;
 use std::rt::Files;
 use structure::source::Source;
 
-fn text(rt: &impl Print, s: &[u8]) -> io::Result<()> {
-    rt.write_all(s)
-}
-
-// Words, and a number after them.
-fn field(rt: &impl Print, words: &[u8], n: u64) -> io::Result<()> {
-    text(rt, words)?;
-    print!(rt; "{n}")
-}
-
 fn line(rt: &impl Print, film: &[u8], id: u32) -> io::Result<()> {
-    field(rt, b"  ", id as u64)?;
+    print!(rt; "  {id}")?;
     match check_profile(film, Source::whole(), id) {
-        ProfileCheckAnswer::Yes => text(rt, b": yes")?,
-        ProfileCheckAnswer::Fault(place) => field(rt, b": record ", place as u64)?,
-        ProfileCheckAnswer::Refused(number) => field(rt, b": refused ", number as u64)?,
+        Ok(ProfileCheck::Yes) => println!(rt; ": yes"),
+        Ok(ProfileCheck::Fault(place)) => println!(rt; ": record {place}"),
+        Err(refusal) => println!(rt; ": refused {}", u32::from(refusal)),
     }
-    text(rt, b"\n")
 }
 
 fn lines(rt: &impl Print, film: &[u8]) -> io::Result<()> {
@@ -41,13 +30,12 @@ fn lines(rt: &impl Print, film: &[u8]) -> io::Result<()> {
 fn read_film(rt: &impl Print, reader: &mut impl io::Read) -> io::Result<()> {
     let mut room = [0u8; MOST_FILM];
     let count = read_full(reader, &mut room);
-    let film = &room[..count];
-    lines(rt, film)
+    lines(rt, &room[..count])
 }
 
 fn ask(rt: &(impl Files + Print + Eprint), name: &[u8]) -> io::Result<()> {
-    text(rt, name)?;
-    text(rt, b"\n")?;
+    rt.write_all(name)?;
+    println!(rt)?;
     let Some(mut file) = open_named(rt, name)? else {
         return Ok(());
     };

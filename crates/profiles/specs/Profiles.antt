@@ -1,5 +1,5 @@
 -- "Stored profile: part-ID, code and value of each record kept, in order; ID 0 asks for the movie's own; no profile gives none."
-use Rattle.std.specs.Prelude.{ℕ, List, [], ◌∷◌, cond, length, eqb}
+use Rattle.std.specs.Prelude.{ℕ, List, [], ◌∷◌, cond, length, eqb, Result, Ok, Err}
 use Rattle.bigendian.specs.BigEndian.{u32_at}
 use Rattle.lists.specs.Entries.{rows_of, entries}
 use Rattle.structure.specs.declared.source.Source.{Source}
@@ -10,8 +10,8 @@ use Rattle.movie.specs.Refusals.{film_refusal}
 use Rattle.movie.specs.Rooms.{no_room, refused_with}
 use Rattle.movie.specs.Answers.{given, Puts}
 use Rattle.questions.specs.Asked.{ask_refusal, track_asked}
-use Rattle.profiles.specs.declared.ProfileAnswer.{ProfileAnswer}
-use Rattle.profiles.specs.declared.ProfileAnswer.TheVariants.{Records, Refused}
+use Rattle.refusals.specs.Refusals.{number, refused}
+use Rattle.refusals.specs.declared.Refusal.{Refusal}
 
 -- "Records with code 0 are passed over", each record being "reserved, part-ID, feature code and value"
 unfoldable pub kept : List (List ℕ) → List (List ℕ)
@@ -47,18 +47,18 @@ unfoldable pub profile_refusal : List ℕ → Source → ℕ → List ℕ → �
 profile_refusal s w id room = or_else (id_refusal s w id) (no_room (profile_numbers s id) room)
 
 -- what is answered where nothing is refused: "the count of .. records .. is returned"
-abbrev pub profile_count : List ℕ → ℕ → ProfileAnswer
-profile_count s id = Records (length (kept_of (profile_asked s id)))
+abbrev pub profile_count : List ℕ → ℕ → Result ℕ Refusal
+profile_count s id = Ok (length (kept_of (profile_asked s id)))
 
-abbrev pub profile_answer : List ℕ → Source → ℕ → List ℕ → ProfileAnswer
-profile_answer s w id room = given (profile_refusal s w id room) (profile_count s id) Refused
+abbrev pub profile_answer : List ℕ → Source → ℕ → List ℕ → Result ℕ Refusal
+profile_answer s w id room = given (profile_refusal s w id room) (profile_count s id) refused
 
 -- document 01's number and value for each case of the answer
-unfoldable pub profile_answer_numbers : ProfileAnswer → List ℕ
-profile_answer_numbers (Records n) = 0 ∷ n ∷ []
-profile_answer_numbers (Refused r) = refused_with 1 r
+unfoldable pub profile_answer_numbers : Result ℕ Refusal → List ℕ
+profile_answer_numbers (Ok n) = 0 ∷ n ∷ []
+profile_answer_numbers (Err e) = refused_with 1 (number e)
 
 -- the promise of the question: the answer r, and the room after it
-abbrev pub Profiles : List ℕ → Source → ℕ → List ℕ → ProfileAnswer → List ℕ → Type 0
+abbrev pub Profiles : List ℕ → Source → ℕ → List ℕ → Result ℕ Refusal → List ℕ → Type 0
 Profiles s w id room r after =
-    Puts profile_answer_numbers (refused_with 1) Refused (profile_refusal s w id room) (profile_count s id) r (profile_numbers s id) room after
+    Puts profile_answer_numbers (refused_with 1) refused (profile_refusal s w id room) (profile_count s id) r (profile_numbers s id) room after

@@ -3,12 +3,14 @@
 
 ghost use Rattle.std.specs.Prelude.{◌≡◌, [], ◌∷◌, ◌+◌, ◌*◌, ◌≤◌, ◌<◌, ◌^◌, length};
 ghost use Rattle.std.proofs.lemmas.List.Edits.{sets};
+ghost use Rattle.refusals.specs.Refusals.{code};
 ghost use Rattle.profiles.specs.Asking.{AsksProfile};
 ghost use Rattle.profiles.specs.Profiles.{kept_of, record_numbers, id_refusal, Profiles};
 
 use bigendian::{after, u32_at};
 use places::{Part, part_of, part_within};
-use questions::Ask;
+use questions::Asked;
+use refusals::Refusal;
 use structure::source::Source;
 
 // How many numbers the answer has for a record.
@@ -55,63 +57,45 @@ fn put_records(profile: &[u8], room: &mut [u32])
     }
 }
 
-// The refusal before the room is looked at, and where there is none the profile that is asked for; empty where there is none.
-#[derive(Clone, Copy)]
-struct AskedProfile {
-    pub refusal: u32,
-    pub profile: Part,
-}
-
-// ID 0 asks for the movie's own profile, and no track has it.
-fn ask_profile(lent: &[u8], source: Source, id: u32) -> AskedProfile
+// The profile that is asked for; empty where there is none. ID 0 asks for the movie's own profile, and no track has it.
+fn ask_profile(lent: &[u8], source: Source, id: u32) -> Result<Part, Refusal>
     ensures { AsksProfile lent.now source id result }
 {
     if id == 0 {
-        let judged = movie::judge(lent, source);
-        let movie = judged.movie;
+        let movie = movie::judge(lent, source)?;
         let heads = movie.heads;
-        let profile = heads.profile;
-        return AskedProfile {
-            refusal: judged.refusal,
-            profile,
-        };
+        return Ok(heads.profile);
     }
-    let ask = Ask::of(lent, source, id);
-    let trak = ask.trak;
+    let asked = Asked::of(lent, source, id)?;
+    let trak = asked.trak;
     let parts = trak.parts;
-    AskedProfile {
-        refusal: ask.refusal,
-        profile: part_within(lent, trak.body, parts.profile),
-    }
+    Ok(part_within(lent, trak.body, parts.profile))
 }
 
-pub fn id_refusal(lent: &[u8], source: Source, id: u32) -> u32
-    ensures { result ≡ id_refusal lent.now source id }
+// The refusal before the room is looked at.
+pub fn id_refusal(lent: &[u8], source: Source, id: u32) -> Result<(), Refusal>
+    ensures { code result ≡ id_refusal lent.now source id }
 {
-    ask_profile(lent, source, id).refusal
+    ask_profile(lent, source, id)?;
+    Ok(())
 }
 
-// The answer of `stored_profile`: how many records; or the number of a refusal.
-#[derive(Clone, Copy)]
-pub enum ProfileAnswer {
-    Records(usize),
-    Refused(u32),
-}
-
-// The stored profile of a track, or for ID 0 of the movie: three numbers for each record kept, in the first places of the room. A refusal leaves the
-// room as it is.
-pub fn stored_profile(lent: &[u8], source: Source, id: u32, room: &mut [u32]) -> ProfileAnswer
+// The stored profile of a track, or for ID 0 of the movie: three numbers for each record kept, in the first places of the room; answers how many
+// records. A refusal leaves the room as it is.
+pub fn stored_profile(
+    lent: &[u8],
+    source: Source,
+    id: u32,
+    room: &mut [u32],
+) -> Result<usize, Refusal>
     ensures { Profiles lent.now source id room.old result room.new }
 {
-    let asked = ask_profile(lent, source, id);
-    if asked.refusal != 0 {
-        return ProfileAnswer::Refused(asked.refusal);
-    }
-    let profile = part_of(lent, asked.profile);
+    let part = ask_profile(lent, source, id)?;
+    let profile = part_of(lent, part);
     let n = kept_count(profile);
     if room.len() / RECORD < n {
-        return ProfileAnswer::Refused(16);
+        return Err(Refusal::NoRoom);
     }
     put_records(profile, room);
-    ProfileAnswer::Records(n)
+    Ok(n)
 }

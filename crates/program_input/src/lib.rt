@@ -7,7 +7,7 @@ ghost use Rattle.program_input.specs.Arguments.{name_of, IsShort};
 
 use std::env::FillError;
 use std::rt::{Env, Files};
-use std::{fs, io};
+use std::{fmt, fs, io};
 
 // The most bytes of a name that an argument gives.
 pub const MOST_NAME: usize = 4096;
@@ -15,24 +15,18 @@ pub const MOST_NAME: usize = 4096;
 // The most bytes of a film that the programs read, but for those with a bound of their own.
 pub const MOST_FILM: usize = 65536;
 
-// An argument: the bytes of a name, or that it has more of them than a name may have.
+// An argument has more bytes than a name may have.
 #[derive(Clone, Copy)]
-pub enum Argument<'a> {
-    Name(&'a [u8]),
-    TooLong,
-}
+pub struct TooLong;
 
-impl<'a> Argument<'a> {
-    // The name; no bytes where it is too long.
-    pub fn name(self) -> &'a [u8]
-        ensures { result.now ≡ name_of self.entry }
-    {
-        match self {
-            Argument::Name(bytes) => bytes,
-            Argument::TooLong => &[],
-        }
+impl fmt::Display for TooLong {
+    fn fmt<W: fmt::Write>(&self, f: &mut fmt::Formatter<W>) -> fmt::Result {
+        write!(f, "name: more than {MOST_NAME} bytes")
     }
 }
+
+// An argument: the bytes of the name that it gives.
+pub type Argument<'a> = Result<&'a [u8], TooLong>;
 
 // The argument of a number, in the room lent; none past the last. The program's own name has the number 0.
 pub fn argument_at<'a>(
@@ -43,8 +37,8 @@ pub fn argument_at<'a>(
     ensures { IfSome result IsShort }
 {
     match rt.arg(i, room) {
-        Ok(n) => Some(Argument::Name(&room[..n])),
-        Err(FillError::TooLong) => Some(Argument::TooLong),
+        Ok(n) => Some(Ok(&room[..n])),
+        Err(FillError::TooLong) => Some(Err(TooLong)),
         Err(FillError::NotPresent) => None,
     }
 }
@@ -52,12 +46,12 @@ pub fn argument_at<'a>(
 // The name that an argument gives. Where it is too long, a line on standard error says so.
 pub fn name_given<'a>(rt: &impl Eprint, argument: Argument<'a>) -> io::Result<Option<&'a [u8]>>
     ensures name { IfOk result (λ name. IfSome name (λ bytes. bytes.now ≡ name_of argument.entry)) }
-    ensures none { IfOk result (λ name. IsNone name ↔ (argument.entry ≡ Argument.TooLong)) }
+    ensures none { IfOk result (λ name. IsNone name ↔ IsErr argument.entry) }
 {
     match argument {
-        Argument::Name(bytes) => Ok(Some(bytes)),
-        Argument::TooLong => {
-            eprintln!(rt; "name: more than {MOST_NAME} bytes")?;
+        Ok(bytes) => Ok(Some(bytes)),
+        Err(too_long) => {
+            eprintln!(rt; "{too_long}")?;
             Ok(None)
         }
     }

@@ -31,15 +31,17 @@ use Rattle.movie.specs.Rooms.{refused_with}
 use Rattle.movie.specs.Traks.{FewTraks}
 use Rattle.movie.proofs.Traks.{few_traks}
 use Rattle.movie.proofs.Accepted.{Accepted, accepted}
-use Rattle.movie.proofs.Answers.{gives_refused, gives_answer}
+use Rattle.movie.proofs.Answers.{gives_err, gives_answer}
 use Rattle.feature_questions.proofs.Askable.{accepted_computable, accepted_averaged}
 use Rattle.quay_tracks.specs.Profile.{other_tracks, quay_rules}
 use Rattle.quay_tracks.specs.Judged.{Judgeable}
 use Rattle.quay.specs.Quay.{breaks, first_breaking, broken_rule, breaking_track, quay_verdict, quay_numbers, Checks}
 use Rattle.quay.specs.Walk.{AllJudgeable, IsBroken}
 use Rattle.quay.specs.declared.Broken.{Broken}
-use Rattle.quay.specs.declared.QuayAnswer.{QuayAnswer}
-use Rattle.quay.specs.declared.QuayAnswer.TheVariants.{Yes, Breaks, Refused}
+use Rattle.std.specs.Prelude.{Option, Some, None, Ok, Err}
+use Rattle.refusals.specs.Refusals.{number}
+use Rattle.refusals.specs.declared.Refusal.{Refusal}
+use Rattle.quay.specs.declared.Breach.{Breach}
 use Rattle.quay.proofs.Lowest.{quay_rise}
 
 -- ---- what an accepted track has
@@ -64,9 +66,9 @@ accepted_judgeable w scale len t a l = record {
 
 -- ---- the answers
 
-pub refused_film : (s : List ℕ) (w : Source) (r : ℕ) → r ≡ film_refusal s w → (r ≡ 0 → ⊥) → Checks s w (Refused r)
+pub refused_film : (s : List ℕ) (w : Source) (e : Refusal) → film_refusal s w ≡ number e → Checks s w (Err e)
 unfolding quay_numbers
-refused_film s w r e n = gives_refused quay_numbers (refused_with 2) Refused (λ k. refl) (quay_verdict s) (film_refusal s w) r (sym e) n
+refused_film s w e h = gives_err quay_numbers (refused_with 2) (λ k. refl) (Ok (quay_verdict s)) (film_refusal s w) e h
 
 -- no track has a condition of the first rule
 pub first_of_none : (movie : ℕ) (ts : List (List ℕ)) → first_breaking (quay_rules movie) 1 ts ≡ 0
@@ -82,25 +84,25 @@ pub later_rules : (m : List ℕ) → other_tracks m ≡ false → broken_rule m 
 unfolding broken_rule first quay_rules
 later_rules m e = by_tracks 0 (quay_rules (movie_scale m)) m (tracks_of m) (quay_rise (movie_scale m)) ∙ earlier_zero (of_whole (quay_rules (movie_scale m)) m) _ (rw e)
 
-module _ (s : List ℕ) (w : Source) (r : ℕ) (e : r ≡ film_refusal s w) (z : r ≡ 0) where
-  answered : (a : QuayAnswer) → a ≡ quay_verdict s → Checks s w a
+module _ (s : List ℕ) (w : Source) (z : film_refusal s w ≡ 0) where
+  answered : (a : Option Breach) → a ≡ quay_verdict s → Checks s w (Ok a)
   unfolding quay_numbers
-  answered a q = gives_answer quay_numbers (refused_with 2) Refused (λ k. refl) (quay_verdict s) (film_refusal s w) a (sym e ∙ z) q
+  answered a q = gives_answer quay_numbers (refused_with 2) (λ k. refl) (Ok (quay_verdict s)) (film_refusal s w) (Ok a) z (ap Ok q)
 
   pub checked_few : (q : Traks) → AreTraks s (tracks_of (moov_of s)) q → FewTraks s (tracks_of (moov_of s)) q
-  checked_few q a = few_traks s (tracks_of (moov_of s)) q a (accepted s w (sym e ∙ z)).movie.shape.few_tracks
+  checked_few q a = few_traks s (tracks_of (moov_of s)) q a (accepted s w z).movie.shape.few_tracks
 
   pub all_judgeable : (movie : ℕ) → movie ≡ movie_scale (moov_of s) → AllJudgeable movie (tracks_of (moov_of s))
   all_judgeable movie q i h =
-      let f = accepted s w (sym e ∙ z) in
+      let f = accepted s w z in
       let l : length (get_or (tracks_of (moov_of s)) i []) < 2 ^ 32 = rw (track-at (moov_of s) i) (omega (arith, track_short i s, f.shape.short)) in
       rw q (accepted_judgeable w (movie_scale (moov_of s)) (length_of w s) (get_or (tracks_of (moov_of s)) i []) (f.movie.tracks i h) l)
 
-  pub breaks_first : other_tracks (moov_of s) ≡ true → Checks s w (Breaks 1 0)
+  pub breaks_first : other_tracks (moov_of s) ≡ true → Checks s w (Ok (Some (record { rule = 1; track = 0 })))
   unfolding quay_verdict breaking_track
   breaks_first o =
       let f = first_rule (moov_of s) o in
-      answered (Breaks 1 0) (rw (f, first_of_none (movie_scale (moov_of s)) (tracks_of (moov_of s))))
+      answered (Some (record { rule = 1; track = 0 })) (rw (f, first_of_none (movie_scale (moov_of s)) (tracks_of (moov_of s))))
 
   module _ (o : other_tracks (moov_of s) ≡ false) (movie : ℕ) (q : movie ≡ movie_scale (moov_of s)) (b : Broken) (k : IsBroken movie (tracks_of (moov_of s)) b) where
     rule_is : b.rule ≡ broken_rule (moov_of s)
@@ -113,10 +115,10 @@ module _ (s : List ℕ) (w : Source) (r : ℕ) (e : r ≡ film_refusal s w) (z :
         ∙ ap (λ (n : ℕ). first_breaking (quay_rules n) (of_tracks (quay_rules n) (tracks_of (moov_of s))) (tracks_of (moov_of s))) q
         ∙ ap (λ (n : ℕ). first_breaking (quay_rules (movie_scale (moov_of s))) n (tracks_of (moov_of s))) (sym (later_rules (moov_of s) o))
 
-    pub keeps_all : b.rule ≡ 0 → Checks s w Yes
+    pub keeps_all : b.rule ≡ 0 → Checks s w (Ok None)
     unfolding quay_verdict
-    keeps_all y = answered Yes (rw (← rule_is, eq-eqb b.rule 0 y))
+    keeps_all y = answered None (rw (← rule_is, eq-eqb b.rule 0 y))
 
-    pub breaks_one : (b.rule ≡ 0 → ⊥) → Checks s w (Breaks b.rule b.id)
+    pub breaks_one : (b.rule ≡ 0 → ⊥) → Checks s w (Ok (Some (record { rule = b.rule; track = b.id })))
     unfolding quay_verdict
-    breaks_one y = answered (Breaks b.rule b.id) (rw (← rule_is, ne_eqb b.rule 0 y, track_is))
+    breaks_one y = answered (Some (record { rule = b.rule; track = b.id })) (rw (← rule_is, ne_eqb b.rule 0 y, track_is))

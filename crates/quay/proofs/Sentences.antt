@@ -1,5 +1,6 @@
 -- What the answer says, as sentences.
 -- Assumes nothing.
+use Rattle.std.specs.Prelude.{Option, Some, None}
 use Prim.Native.Nat.{ℕ, zero, suc, ◌+◌, ◌≤◌, ◌<◌}
 use mathlib.Core.Path.{◌≡◌, refl, sym, ap, ◌∙◌}
 use mathlib.Core.Logic.{◌⊎◌, inl, inr, ⊎_elim}
@@ -16,8 +17,6 @@ use Rattle.structure.specs.Movie.{moov_of, movie_scale, tracks_of}
 use Rattle.structure.specs.Rows.{Row, some, rank, ranks_rise}
 use Rattle.structure.specs.ByTracks.{of_track, of_tracks}
 use Rattle.structure.proofs.Callers.{Clear, clear, some_none}
-use Rattle.rates.specs.declared.Feature.{Feature}
-use Rattle.rates.specs.declared.Feature.TheVariants.{Value, NotComputed}
 use Rattle.track.specs.Track.{track_of}
 use Rattle.movie.specs.Refusals.{film_refusal}
 use Rattle.features.specs.Features.{vfps, feature_of}
@@ -28,7 +27,9 @@ use Rattle.quay_rules.specs.Rules.{too_fast}
 use Rattle.quay_tracks.specs.Profile.{other_tracks, too_many_frames, quay_rules}
 use Rattle.quay.specs.Quay.{breaks, first_breaking, broken_rule, breaking_track, quay_verdict}
 use Rattle.quay.specs.Sentences.{KeepsAll, FirstAt, Names, answered_too_fast, AnsweredExactly, QuayExactly}
-use Rattle.quay.specs.declared.QuayAnswer.TheVariants.{Yes, Breaks}
+use Rattle.std.specs.Prelude.{Option, Some, None, Result, Ok}
+use Rattle.refusals.specs.declared.Refusal.{Refusal}
+use Rattle.quay.specs.declared.Breach.{Breach}
 use Rattle.quay.proofs.Lowest.{own_broken, own_lowest, earlier_is, quay_rise}
 use Rattle.quay.proofs.Answers.{first_of_none, first_rule, later_rules}
 
@@ -67,16 +68,16 @@ none_if_keeps m k = later_rules m k.movie ∙ none_of_tracks 0 (quay_rules (movi
 
 -- a yes
 module _ (s : List ℕ) where
-  yes_if : KeepsAll (moov_of s) → quay_verdict s ≡ Yes
+  yes_if : KeepsAll (moov_of s) → quay_verdict s ≡ None
   unfolding quay_verdict
   yes_if k = rw (eq-eqb (broken_rule (moov_of s)) 0 (none_if_keeps (moov_of s) k))
 
-  yes_only : quay_verdict s ≡ Yes → KeepsAll (moov_of s)
+  yes_only : quay_verdict s ≡ None → KeepsAll (moov_of s)
   unfolding quay_verdict
   yes_only e = elim (ℕ_discrete (broken_rule (moov_of s)) 0) [
     | yes z ↦ keeps_if_none (moov_of s) z
     | no z ↦
-        let y : Breaks (broken_rule (moov_of s)) (breaking_track (moov_of s)) ≡ Yes = rw (ne_eqb (broken_rule (moov_of s)) 0 z) at e in
+        let y : ◌≡◌ {A = Option Breach} (Some (record { rule = broken_rule (moov_of s); track = breaking_track (moov_of s) })) None = rw (ne_eqb (broken_rule (moov_of s)) 0 z) at e in
         let w : ◌≡◌ {A = ℕ} 0 1 = cc in absurd (omega arith)
   ]
 
@@ -157,16 +158,19 @@ names m o z =
     }
 
 -- the first rule, with no track; or a later one, with the first track that breaks it
-broken_names : (s : List ℕ) (k id : ℕ) → quay_verdict s ≡ Breaks k id → ((k ≡ 1) × (id ≡ 0) × (other_tracks (moov_of s) ≡ true)) ⊎ Names (moov_of s) k id
+broken_names : (s : List ℕ) (k id : ℕ) → quay_verdict s ≡ Some (record { rule = k; track = id }) → ((k ≡ 1) × (id ≡ 0) × (other_tracks (moov_of s) ≡ true)) ⊎ Names (moov_of s) k id
 unfolding quay_verdict breaking_track
 broken_names s k id e = elim (ℕ_discrete (broken_rule (moov_of s)) 0) [
   | yes z ↦
-      let y : Yes ≡ Breaks k id = rw (eq-eqb (broken_rule (moov_of s)) 0 z) at e in
+      let y : ◌≡◌ {A = Option Breach} None (Some (record { rule = k; track = id })) = rw (eq-eqb (broken_rule (moov_of s)) 0 z) at e in
       let w : ◌≡◌ {A = ℕ} 0 1 = cc in absurd (omega arith)
   | no z ↦
-      let y : Breaks (broken_rule (moov_of s)) (breaking_track (moov_of s)) ≡ Breaks k id = rw (ne_eqb (broken_rule (moov_of s)) 0 z) at e in
-      let p : broken_rule (moov_of s) ≡ k = cc in
-      let q : breaking_track (moov_of s) ≡ id = cc in
+      let y : ◌≡◌ {A = Option Breach} (Some (record { rule = broken_rule (moov_of s); track = breaking_track (moov_of s) })) (Some (record { rule = k; track = id })) =
+      rw (ne_eqb (broken_rule (moov_of s)) 0 z) at e
+      in
+      let b : ◌≡◌ {A = Breach} (record { rule = broken_rule (moov_of s); track = breaking_track (moov_of s) }) (record { rule = k; track = id }) = cc in
+      let p = ap (λ (x : Breach). x.rule) b in
+      let q = ap (λ (x : Breach). x.track) b in
       by p q z (other_tracks (moov_of s)) refl
 ]
   where
@@ -179,21 +183,25 @@ broken_names s k id e = elim (ℕ_discrete (broken_rule (moov_of s)) 0) [
 
 -- ---- the ninth rule and the question for vfps
 
-too-fast : (f : Feature) → too_fast f ≡ answered_too_fast (to_value f)
+too-fast : (f : Option ℕ) → too_fast f ≡ answered_too_fast (to_value f)
 unfolding too_fast answered_too_fast to_value
-too-fast (Value v) = refl
-too-fast NotComputed = refl
+too-fast (Some v) = refl
+too-fast None = refl
 
 ninth_breaks : (movie : ℕ) (t : List ℕ) → breaks (quay_rules movie) 9 t ≡ too_fast (feature_of movie (track_of t) vfps)
 unfolding breaks quay_rules too_many_frames
 ninth_breaks movie t = refl
 
+-- what is answered is one thing
+some_of : (a b : Option Breach) → ◌≡◌ {A = Result (Option Breach) Refusal} (Ok a) (Ok b) → a ≡ b
+some_of a b e = cc
+
 pub quay_exactly : (s : List ℕ) (w : Source) → QuayExactly s w
 quay_exactly s w e =
     record {
-      yes_if = λ k. rw e (yes_if s k);
-      yes_only = λ y. yes_only s (rw e at y);
-      names = λ k id y. broken_names s k id (rw e at y);
+      yes_if = λ k. rw e (ap Ok (yes_if s k));
+      yes_only = λ y. yes_only s (some_of _ _ (rw e at y));
+      names = λ k id y. broken_names s k id (some_of _ _ (rw e at y));
       ninth = λ i h.
           let t = get_or (tracks_of (moov_of s)) i [] in
           let m = movie_scale (moov_of s) in

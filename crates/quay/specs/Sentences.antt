@@ -1,6 +1,6 @@
 -- What the answer says, as sentences: a yes exactly if no rule is broken by the movie or by a track; else the rule is the lowest that is broken, and the
 -- track named is the first that breaks it.
-use Rattle.std.specs.Prelude.{ℕ, ◌*◌, ◌≤◌, ◌<◌, ◌≡◌, ◌⊎◌, Bool, true, false, List, [], length, get_or, ltb}
+use Rattle.std.specs.Prelude.{ℕ, ◌*◌, ◌≤◌, ◌<◌, ◌≡◌, ◌⊎◌, Bool, true, false, List, [], length, get_or, ltb, Some, None, Result, Ok, Err}
 use Rattle.structure.specs.declared.source.Source.{Source}
 use Rattle.structure.specs.Track.{id_of}
 use Rattle.structure.specs.Movie.{moov_of, movie_scale, tracks_of}
@@ -8,11 +8,9 @@ use Rattle.structure.specs.Rows.{Row}
 use Rattle.movie.specs.Refusals.{film_refusal}
 use Rattle.features.specs.Features.{vfps}
 use Rattle.feature_questions.specs.Feature.{feature_answer}
-use Rattle.feature_questions.specs.declared.FeatureAnswer.{FeatureAnswer}
-use Rattle.feature_questions.specs.declared.FeatureAnswer.TheVariants as feature
+use Rattle.refusals.specs.declared.Refusal.{Refusal}
 use Rattle.quay_tracks.specs.Profile.{other_tracks, quay_rules}
 use Rattle.quay.specs.Quay.{breaks, quay_answer}
-use Rattle.quay.specs.declared.QuayAnswer.TheVariants.{Yes, Breaks}
 
 -- a movie, from the body m of its moov, keeps all rules
 pub record KeepsAll (m : List ℕ) : Type 0 where
@@ -34,16 +32,16 @@ pub record Names (m : List ℕ) (k id : ℕ) : Type 0 where
   pub lowest : (i j : ℕ) → i < length (tracks_of m) → breaks (quay_rules (movie_scale m)) j (get_or (tracks_of m) i []) ≡ true → k ≤ j
 
 -- "vfps at most 30.0", of the answer to the question for vfps, in 65536ths. "A vfps refused 18 breaks the last rule."
-unfoldable pub answered_too_fast : FeatureAnswer → Bool
-answered_too_fast (feature.Value v) = ltb (30 * 65536) v
-answered_too_fast (feature.Refused r) = true
+unfoldable pub answered_too_fast : Result ℕ Refusal → Bool
+answered_too_fast (Ok v) = ltb (30 * 65536) v
+answered_too_fast (Err e) = true
 
 -- of a film that is not refused
 pub record AnsweredExactly (s : List ℕ) (w : Source) : Type 0 where
-  pub yes_if : KeepsAll (moov_of s) → quay_answer s w ≡ Yes
-  pub yes_only : quay_answer s w ≡ Yes → KeepsAll (moov_of s)
+  pub yes_if : KeepsAll (moov_of s) → quay_answer s w ≡ Ok None
+  pub yes_only : quay_answer s w ≡ Ok None → KeepsAll (moov_of s)
   -- "the lowest rule that any track breaks with the ID of the first track in file order that breaks it (0 for the first rule)"
-  pub names : (k id : ℕ) → quay_answer s w ≡ Breaks k id
+  pub names : (k id : ℕ) → quay_answer s w ≡ Ok (Some (record { rule = k; track = id }))
       → ((k ≡ 1) × (id ≡ 0) × (other_tracks (moov_of s) ≡ true)) ⊎ Names (moov_of s) k id
   -- the ninth rule goes by what the question for vfps answers of the track
   pub ninth : (i : ℕ) → i < length (tracks_of (moov_of s))

@@ -2,6 +2,8 @@
 #![tactic(auto)]
 
 ghost use Rattle.std.specs.Prelude.{◌≡◌, cond, eqb};
+ghost use Rattle.structure.specs.Rows.{rank};
+ghost use Rattle.structure.specs.ByTracks.{earlier_of};
 ghost use Rattle.structure.specs.Track.{subtype_of};
 ghost use Rattle.structure.specs.Movie.{moov_of, tracks_of};
 ghost use Rattle.places.specs.Places.{part_in, AreParts};
@@ -16,7 +18,7 @@ use places::moov::{Traks, trak_at};
 use places::part_of;
 use places::trak::Trak;
 use quay_tracks::track_rule;
-use structure::earlier_of;
+use refusals::Refusal;
 use structure::source::Source;
 use track::id_in;
 
@@ -59,6 +61,26 @@ struct Broken {
     id: u32,
 }
 
+// The place of a number in the order of judging, which is the order of the rules.
+fn rank_of(n: u32) -> u64
+    ensures { result ≡ rank n }
+{
+    if n == 19 { 23 } else { n as u64 + n as u64 }
+}
+
+// The one of two rules that is judged earlier, 0 being none.
+fn earlier_of(a: u32, b: u32) -> u32
+    ensures { result ≡ earlier_of a b }
+{
+    if a == 0 {
+        return b;
+    }
+    if b == 0 {
+        return a;
+    }
+    if rank_of(a) <= rank_of(b) { a } else { b }
+}
+
 // The ID found before where the rule stays, and else the track's own.
 fn id_for(lower: u32, rule: u32, id: u32, own: u32) -> u32
     ensures { result ≡ cond (eqb lower rule) id own }
@@ -87,33 +109,30 @@ fn lowest_rule(lent: &[u8], traks: Traks, movie: u32) -> Broken
     Broken { rule, id }
 }
 
-// The answer of `check_quay`: yes; or the lowest rule that is broken, from 1, and the ID of the first track that breaks it, 0 for the
-// first rule; or the number of a refusal.
+// A rule that is broken, from 1, and the ID of the first track that breaks it, 0 for the first rule.
 #[derive(Clone, Copy)]
-pub enum QuayAnswer {
-    Yes,
-    Breaks(u32, u32),
-    Refused(u32),
+pub struct Breach {
+    pub rule: u32,
+    pub track: u32,
 }
 
-// Whether a film keeps the quay film profile.
-pub fn check_quay(lent: &[u8], source: Source) -> QuayAnswer
+// The lowest rule of the quay film profile that a film breaks; none where it keeps the profile.
+pub fn check_quay(lent: &[u8], source: Source) -> Result<Option<Breach>, Refusal>
     ensures { Checks lent.now source result }
 {
-    let judged = movie::judge(lent, source);
-    if judged.refusal != 0 {
-        return QuayAnswer::Refused(judged.refusal);
-    }
-    let movie = judged.movie;
+    let movie = movie::judge(lent, source)?;
     let heads = movie.heads;
     let traks = movie.traks;
     if has_other_tracks(lent, traks) {
-        return QuayAnswer::Breaks(1, 0);
+        return Ok(Some(Breach { rule: 1, track: 0 }));
     }
     let scale = u32_at(part_of(lent, heads.mvhd), 20);
     let broken = lowest_rule(lent, traks, scale);
     if broken.rule == 0 {
-        return QuayAnswer::Yes;
+        return Ok(None);
     }
-    QuayAnswer::Breaks(broken.rule, broken.id)
+    Ok(Some(Breach {
+        rule: broken.rule,
+        track: broken.id,
+    }))
 }

@@ -1,9 +1,7 @@
 -- Rules of the quay film profile (document 02), of the lists of a track: those on its samples. The eighth, on its chunks, is in chunk_order.
-use Rattle.std.specs.Prelude.{ℕ, suc, ◌*◌, Bool, true, false, cond, not, ◌||◌, List, [], ◌∷◌, map, ltb}
+use Rattle.std.specs.Prelude.{ℕ, suc, ◌*◌, Bool, true, false, cond, not, ◌||◌, List, [], ◌∷◌, map, ltb, Option, Some, None}
 use Rattle.lists.specs.Lists.{up_to}
 use Rattle.words.specs.Words.{is_sync, listed}
-use Rattle.rates.specs.declared.Feature.{Feature}
-use Rattle.rates.specs.declared.Feature.TheVariants.{Value, NotComputed}
 
 -- ---- the fifth
 
@@ -45,6 +43,6 @@ has_zero xs = listed 0 xs
 -- ---- the ninth
 
 -- broken, if not "vfps at most 30.0", in 65536ths. "A vfps refused 18 breaks the last rule."
-unfoldable pub too_fast : Feature → Bool
-too_fast (Value v) = ltb (30 * 65536) v
-too_fast NotComputed = true
+unfoldable pub too_fast : Option ℕ → Bool
+too_fast (Some v) = ltb (30 * 65536) v
+too_fast None = true

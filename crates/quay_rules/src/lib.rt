@@ -8,7 +8,6 @@ ghost use Rattle.quay_rules.specs.Rules.{sync_flags, lacks_syncs, has_zero, too_
 ghost use Rattle.quay_rules.specs.Computed.{long_group};
 
 use bigendian::{after, u32_at};
-use rates::Feature;
 use words::{number_in, span};
 
 // How many samples there may be from a sync sample up to the next one, or to the end.
@@ -18,15 +17,13 @@ const MOST_OF_A_GROUP: u32 = 250;
 fn has_long_group(numbers: &[u8], samples: u32) -> bool
     ensures { result ≡ long_group 250 samples 1 (words_in numbers.now) }
 {
-    let mut t = numbers;
     let mut last: u32 = 1;
-    while 4 <= t.len() {
-        let number = u32_at(t, 0);
+    for entry in numbers.chunks_exact(4) {
+        let number = u32_at(entry, 0);
         if MOST_OF_A_GROUP < span(last, number) {
             return true;
         }
         last = number;
-        t = &t[4..];
     }
     MOST_OF_A_GROUP <= span(last, samples)
 }
@@ -57,13 +54,10 @@ pub fn has_zero_size(stsz: &[u8]) -> bool
     if u32_at(stsz, 12) != 0 {
         return false;
     }
-    let part = after(stsz, 20);
-    let mut t = part;
-    while 4 <= t.len() {
-        if u32_at(t, 0) == 0 {
+    for entry in after(stsz, 20).chunks_exact(4) {
+        if u32_at(entry, 0) == 0 {
             return true;
         }
-        t = &t[4..];
     }
     false
 }
@@ -82,13 +76,10 @@ fn is_zero_run(count: u32, each: u32) -> bool
 pub fn has_zero_duration(stts: &[u8]) -> bool
     ensures { result ≡ has_zero (per_sample stts.now) }
 {
-    let part = after(stts, 16);
-    let mut t = part;
-    while 8 <= t.len() {
-        if is_zero_run(u32_at(t, 0), u32_at(t, 4)) {
+    for entry in after(stts, 16).chunks_exact(8) {
+        if is_zero_run(u32_at(entry, 0), u32_at(entry, 4)) {
             return true;
         }
-        t = &t[8..];
     }
     false
 }
@@ -97,11 +88,11 @@ pub fn has_zero_duration(stts: &[u8]) -> bool
 const MOST_FRAMES: u32 = 1966080;
 
 // Whether vfps is above that, or can't be computed.
-pub fn is_too_fast(frames: Feature) -> bool
+pub fn is_too_fast(frames: Option<u32>) -> bool
     ensures { result ≡ too_fast frames }
 {
     match frames {
-        Feature::Value(v) => MOST_FRAMES < v,
-        Feature::NotComputed => true,
+        Some(v) => MOST_FRAMES < v,
+        None => true,
     }
 }

@@ -1,5 +1,6 @@
 -- Each rule by what the code reads of a track, and one rule after the other.
 -- Assumes nothing.
+use Rattle.std.specs.Prelude.{Option}
 use Prim.Native.Nat.{ℕ, ◌<◌, ◌^◌}
 use mathlib.Core.Path.{◌≡◌, refl, ap, ◌∙◌}
 use mathlib.Core.Bool.{Bool, true, false, cond, not}
@@ -16,7 +17,6 @@ use Rattle.runs.specs.Runs.{per_sample}
 use Rattle.words.specs.Words.{sizes, chunk_offsets, syncs_agree}
 use Rattle.chunks.specs.Chunks.{per_chunk}
 use Rattle.track.specs.Track.{track_of}
-use Rattle.rates.specs.declared.Feature.{Feature}
 use Rattle.features.specs.Features.{vfps, feature_of}
 use Rattle.chunk_order.specs.Order.{disordered}
 use Rattle.quay_rules.specs.Rules.{sync_flags, lacks_syncs, has_zero, too_fast}
@@ -63,7 +63,7 @@ order_by t x z o r ex ez eo e = e ∙ rw (ex, ez, eo)
 pub dealt_fits : (movie : ℕ) (t x o : List ℕ) → Judgeable movie t → x ≡ table_of stsc t → o ≡ offset_table t → sum (per_chunk x (u32_at o 12)) < 2 ^ 32
 dealt_fits movie t x o j ex eo = rw (ex, eo) j.dealt
 
-pub frames_by : (movie : ℕ) (t : List ℕ) (f : Feature) (r : Bool) → f ≡ feature_of movie (track_of t) vfps → r ≡ too_fast f → r ≡ too_many_frames movie t
+pub frames_by : (movie : ℕ) (t : List ℕ) (f : Option ℕ) (r : Bool) → f ≡ feature_of movie (track_of t) vfps → r ≡ too_fast f → r ≡ too_many_frames movie t
 unfolding too_many_frames
 frames_by movie t f r e g = g ∙ ap too_fast e
 

@@ -7,57 +7,41 @@ use bigendian::{after, u64_at};
 use program_input::{
     Argument, MOST_FILM, MOST_NAME, argument_at, name_given, open_named, read_full,
 };
-use quay::{QuayAnswer, check_quay};
+use quay::check_quay;
 use std::io;
 use std::rt::Files;
 use structure::source::Source;
 
-fn text(rt: &impl Print, s: &[u8]) -> io::Result<()> {
-    rt.write_all(s)
-}
-
-// Words, and a number after them.
-fn field(rt: &impl Print, words: &[u8], n: u32) -> io::Result<()> {
-    text(rt, words)?;
-    print!(rt; "{n}")
-}
-
-fn broken(rt: &impl Print, rule: u32, id: u32) -> io::Result<()> {
-    field(rt, b"breaks ", rule)?;
-    field(rt, b", track ", id)
-}
-
 fn line(rt: &impl Print, lent: &[u8], source: Source) -> io::Result<()> {
     match check_quay(lent, source) {
-        QuayAnswer::Yes => text(rt, b"yes"),
-        QuayAnswer::Breaks(rule, id) => broken(rt, rule, id),
-        QuayAnswer::Refused(number) => field(rt, b"refused ", number),
+        Ok(None) => println!(rt; "yes"),
+        Ok(Some(breach)) => println!(rt; "breaks {}, track {}", breach.rule, breach.track),
+        Err(refusal) => println!(rt; "refused {}", u32::from(refusal)),
     }
 }
 
 fn source_of(length: u64) -> Source {
     if length == 0 {
-        return Source::whole();
+        Source::whole()
+    } else {
+        Source::of_moov(length)
     }
-    Source::of_moov(length)
 }
 
 fn stored(rt: &impl Print, film: &[u8]) -> io::Result<()> {
-    line(rt, after(film, 8), source_of(u64_at(film, 0)))?;
-    text(rt, b"\n")
+    line(rt, after(film, 8), source_of(u64_at(film, 0)))
 }
 
 // A film of up to 65,536 bytes with its length; of a longer one the rest is not read.
 fn read(rt: &impl Print, reader: &mut impl io::Read) -> io::Result<()> {
     let mut room = [0u8; MOST_FILM];
     let count = read_full(reader, &mut room);
-    let film = &room[..count];
-    stored(rt, film)
+    stored(rt, &room[..count])
 }
 
 fn open(rt: &(impl Files + Print + Eprint), name: &[u8]) -> io::Result<()> {
-    text(rt, name)?;
-    text(rt, b": ")?;
+    rt.write_all(name)?;
+    print!(rt; ": ")?;
     let Some(mut file) = open_named(rt, name)? else {
         return Ok(());
     };

@@ -4,7 +4,6 @@
 
 mod answers;
 mod rooms;
-mod show;
 
 use bigendian::u32_at;
 use program_input::{
@@ -30,7 +29,7 @@ const PEAK: u32 = 6;
 const QUESTION: usize = 12;
 
 fn line(rt: &impl Print, film: &[u8], kind: u32, id: u32, n: u32) -> io::Result<()> {
-    show::text(rt, b"  ")?;
+    print!(rt; "  ")?;
     match kind {
         SAMPLE => answers::sample(rt, film, id, n)?,
         AT => answers::at(rt, film, id, n)?,
@@ -38,16 +37,20 @@ fn line(rt: &impl Print, film: &[u8], kind: u32, id: u32, n: u32) -> io::Result<
         FEATURE => answers::feature(rt, film, id, n)?,
         PROFILE => rooms::profile(rt, film, id, n)?,
         PEAK => answers::peak(rt, film, id, n)?,
-        _ => show::text(rt, b"no question")?,
+        _ => print!(rt; "no question")?,
     }
-    show::text(rt, b"\n")
+    println!(rt)
 }
 
 fn lines(rt: &impl Print, film: &[u8], questions: &[u8]) -> io::Result<()> {
-    let mut t = questions;
-    while QUESTION <= t.len() {
-        line(rt, film, u32_at(t, 0), u32_at(t, 4), u32_at(t, 8))?;
-        t = &t[QUESTION..];
+    for question in questions.chunks_exact(QUESTION) {
+        line(
+            rt,
+            film,
+            u32_at(question, 0),
+            u32_at(question, 4),
+            u32_at(question, 8),
+        )?;
     }
     Ok(())
 }
@@ -64,8 +67,7 @@ fn open_argument<R: Files + Eprint>(rt: &R, argument: Argument) -> io::Result<Op
 fn read_questions(rt: &impl Print, film: &[u8], reader: &mut impl io::Read) -> io::Result<()> {
     let mut room = [0u8; MOST_FILM];
     let count = read_full(reader, &mut room);
-    let questions = &room[..count];
-    lines(rt, film, questions)
+    lines(rt, film, &room[..count])
 }
 
 // Asks a film the questions in the file that an argument names.
@@ -84,14 +86,13 @@ fn read_film(
 ) -> io::Result<()> {
     let mut room = [0u8; MOST_FILM];
     let count = read_full(reader, &mut room);
-    let film = &room[..count];
-    ask(rt, film, questions)
+    ask(rt, &room[..count], questions)
 }
 
 // A line with an argument.
 fn heading(rt: &impl Print, argument: Argument) -> io::Result<()> {
-    show::text(rt, argument.name())?;
-    show::text(rt, b"\n")
+    rt.write_all(argument.unwrap_or(&[]))?;
+    println!(rt)
 }
 
 // A film and the questions that it is asked, each by the argument that names it.
@@ -123,12 +124,10 @@ fn pair_at(
 
 // The arguments after the program's own name, two by two.
 fn main(rt: HostRuntime) -> io::Result<()> {
-    let mut i = 1;
-    while i < usize::MAX - 1 {
-        if !pair_at(&rt, i, i + 1)? {
+    for pair in 0..usize::MAX / 2 {
+        if !pair_at(&rt, 2 * pair + 1, 2 * pair + 2)? {
             break;
         }
-        i += 2;
     }
     Ok(())
 }

@@ -1,30 +1,32 @@
 -- The track that is asked: where neither the film nor the ID is refused it is an accepted track of the film, and no longer than the bytes lent.
 -- Assumes nothing.
-use Prim.Native.Nat.{ℕ, suc, ◌+◌, ◌*◌, ◌≤◌, ◌<◌, ◌^◌}
+use Prim.Native.Nat.{ℕ, suc, ◌≤◌, ◌<◌, ◌^◌}
 use mathlib.Core.Path.{◌≡◌, refl, sym, ap, ◌∙◌}
 use mathlib.Core.List.{List, [], ◌∷◌, map}
 use mathlib.Core.Bool.{Bool, true, false, cond}
 use native.Mathlib.Omega.{arith}
 use native.Mathlib.Decide.{ℕ_discrete}
-use borrow.Author.Tests.{eq-eqb, ne_eqb, not-false}
-use mathlib.Core.Logic.{inl, inr}
+use borrow.Author.Tests.{eq-eqb, ne_eqb}
 use lib.ListN.{length, get_or, drop, length-drop, length-replicate}
 use lib.Dec.{eqb}
 use Rattle.lists.proofs.Booleans.{cond_zero}
+use Rattle.std.specs.Prelude.{Result, Ok, Err}
+use Rattle.refusals.specs.declared.Refusal.{Refusal}
+use Rattle.refusals.specs.Refusals.{number}
+use Rattle.refusals.proofs.Numbers.{ok_one}
 use Rattle.bigendian.specs.BigEndian.{u32_at}
-use Rattle.atoms.specs.Kinds.{stsz, stts}
+use Rattle.atoms.specs.Kinds.{stsz}
 use Rattle.words.specs.Words.{listed, sizes}
 use Rattle.words.proofs.Turns.{length_words, sizes_listed, sizes_common}
 use Rattle.structure.specs.declared.source.Source.{Source}
 use Rattle.structure.specs.Source.{length_of}
-use Rattle.structure.specs.Track.{id_of, scale_of, table_of, elst_of, samples_of, edits_of}
+use Rattle.structure.specs.Track.{id_of, table_of, samples_of}
 use Rattle.structure.specs.Movie.{moov_of, movie_scale, tracks_of}
 use Rattle.structure.specs.Rows.{or_else}
 use Rattle.structure.proofs.Callers.{Each, track-at, none_else}
 use Rattle.structure.proofs.Lengths.{table_short, track_short}
-use Rattle.shape.proofs.Shaped.{Shaped, MayEnter}
-use Rattle.track.specs.Refusals.{total_in, wrong_edits}
-use Rattle.track.proofs.Agreed.{agreed_tables}
+use Rattle.shape.proofs.Shaped.{Shaped}
+use Rattle.track.specs.Refusals.{total_in}
 use Rattle.movie.specs.Refusals.{film_refusal}
 use Rattle.movie.specs.Tracks.{with_id, has_track, track_with}
 use Rattle.movie.proofs.Accepted.{Accepted, AcceptedFile, accepted}
@@ -35,8 +37,8 @@ use Rattle.places.specs.declared.moov.Traks.{Traks}
 use Rattle.movie.specs.Traks.{FewTraks}
 use Rattle.movie.proofs.Traks.{few_traks}
 use Rattle.questions.specs.Asked.{ask_refusal, track_asked}
-use Rattle.questions.specs.Asking.{StandsAt, refused_ask, Asks}
-use Rattle.questions.specs.declared.Ask.{Ask}
+use Rattle.questions.specs.Asking.{StandsAt, Asks}
+use Rattle.questions.specs.declared.Asked.{Asked}
 
 -- ---- the refusal, from what the code has of the film's and of the IDs
 
@@ -50,8 +52,8 @@ ask_track s m w id r h e z d q = rw (← e, eq-eqb r 0 z, ← d, ← q)
 
 -- ---- the track as the code finds it, of a film that is not refused
 
-pub asks_refused : (s : List ℕ) (w : Source) (id : ℕ) (a : Ask) (n : ℕ) → a ≡ refused_ask n → n ≡ ask_refusal s w id → (n ≡ 0 → ⊥) → Asks s w id a
-asks_refused s w id a n e f z = rw e (record { refusal = f; movie = λ q. absurd (z q); trak = λ q. absurd (z q); none = λ q. (refl, refl) })
+pub asks_refused : (s : List ℕ) (w : Source) (id : ℕ) (e : Refusal) → number e ≡ ask_refusal s w id → Asks s w id (Err e)
+asks_refused s w id e h = record { refusal = h; movie = λ a q. absurd (cc); trak = λ a q. absurd (cc) }
 
 module _ (s : List ℕ) (w : Source) (id r : ℕ) (e : r ≡ film_refusal s w) (z : r ≡ 0) where
   pub asked_few : (q : Traks) → AreTraks s (tracks_of (moov_of s)) q → FewTraks s (tracks_of (moov_of s)) q
@@ -63,19 +65,19 @@ module _ (s : List ℕ) (w : Source) (id r : ℕ) (e : r ≡ film_refusal s w) (
     asked_none h = sym (ask_track s (moov_of s) w id r false e z refl (sym (g.none h)))
 
     pub asked_found : i < length (tracks_of (moov_of s)) → (n : ℕ) → n ≡ movie_scale (moov_of s) → (x : Trak) → IsTrak s (get_or (tracks_of (moov_of s)) i []) x
-        → Asks s w id (record { refusal = 0; movie = n; trak = x })
+        → Asks s w id (Ok (record { movie = n; trak = x }))
     unfolding has_track track_asked track_with
     asked_found h n f x k =
         let l = g.found h in
-        record { refusal = sym (ask_track s (moov_of s) w id r true e z refl (sym l.0)); movie = λ q. f; trak = λ q. rw l.1 k; none = λ q. absurd (q refl) }
+        record { refusal = sym (ask_track s (moov_of s) w id r true e z refl (sym l.0)); movie = λ a q. rw (← ok_one q) f; trak = λ a q. rw (← ok_one q, l.1) k }
 
 -- what a question has of it
-module _ (s : List ℕ) (w : Source) (id : ℕ) (a : Ask) (h : Asks s w id a) (z : a.refusal ≡ 0) (b : List ℕ) (e : b ≡ part_in s a.trak.body) where
+module _ (s : List ℕ) (w : Source) (id : ℕ) (r : Result Asked Refusal) (h : Asks s w id r) (a : Asked) (z : r ≡ Ok a) (b : List ℕ) (e : b ≡ part_in s a.trak.body) where
   pub ask_body : b ≡ track_asked s id
-  ask_body = e ∙ (h.trak z).body
+  ask_body = e ∙ (h.trak a z).body
 
   pub ask_parts : AreParts b a.trak.parts
-  ask_parts = rw ask_body (h.trak z).parts
+  ask_parts = rw ask_body (h.trak a z).parts
 
 -- ---- the track
 

@@ -9,6 +9,10 @@ use borrow.Author.Tests.{ne_eqb, eqb-true, ltb-true, leb-true, not-false}
 use lib.ListN.{length}
 use lib.Dec.{eqb, ltb}
 use denote.Ref.{Bor}
+use Rattle.std.specs.Prelude.{Result, Ok, Err}
+use Rattle.refusals.specs.declared.Refusal.{Refusal}
+use Rattle.refusals.specs.Refusals.{number, refused}
+use Rattle.refusals.proofs.Numbers.{number_some}
 use Rattle.atoms.specs.Kinds.{stts, stsc, stsz}
 use Rattle.lists.specs.Lists.{holder}
 use Rattle.lists.proofs.Places.{holder_holds, holds_below, before_le}
@@ -27,13 +31,11 @@ use Rattle.structure.proofs.Callers.{none_else}
 use Rattle.track.specs.Track.{track_of}
 use Rattle.track.specs.Refusals.{contradicts, total_in, chunk_past_end}
 use Rattle.movie.proofs.Accepted.{Accepted}
-use Rattle.movie.proofs.Answers.{gives_refused}
+use Rattle.movie.proofs.Answers.{gives_err}
 use Rattle.track.proofs.Agreed.{agreed_tables}
 use Rattle.questions.specs.Asked.{ask_refusal, track_asked}
 use Rattle.questions.specs.Samples.{sample_of, sample_refusal, sample_asked, sample_answer, sample_zeros, sample_numbers, Samples, bytes_start, bytes_length, PartOf, SampleBytes}
 use Rattle.questions.specs.declared.samples.Sample.{Sample}
-use Rattle.questions.specs.declared.samples.SampleAnswer.{SampleAnswer}
-use Rattle.questions.specs.declared.samples.SampleAnswer.TheVariants.{Found, Refused}
 use Rattle.questions.proofs.Asking.{asked, asked_track, asked_low}
 
 -- ---- what the tables say of a sample
@@ -49,13 +51,13 @@ module _ (t : List ℕ) (i : ℕ) (e : contradicts t ≡ false) (h : i < samples
 
 -- ---- the answers
 
-pub refused_sample : (s : List ℕ) (w : Source) (id n r : ℕ) → sample_refusal s w id n ≡ r → (r ≡ 0 → ⊥) → Samples s w id n (Refused r)
+pub refused_sample : (s : List ℕ) (w : Source) (id n : ℕ) (e : Refusal) → sample_refusal s w id n ≡ number e → Samples s w id n (Err e)
 unfolding sample_numbers
-refused_sample s w id n r e z = gives_refused sample_numbers sample_zeros Refused (λ k. refl) (sample_asked s id n) (sample_refusal s w id n) r e z
+refused_sample s w id n e h = gives_err sample_numbers sample_zeros (λ k. refl) (sample_asked s id n) (sample_refusal s w id n) e h
 
-pub no_track : (s : List ℕ) (w : Source) (id n r : ℕ) → r ≡ ask_refusal s w id → (r ≡ 0 → ⊥) → Samples s w id n (Refused r)
+pub no_track : (s : List ℕ) (w : Source) (id n : ℕ) (e : Refusal) → number e ≡ ask_refusal s w id → Samples s w id n (Err e)
 unfolding sample_refusal or_else
-no_track s w id n r e z = refused_sample s w id n r (rw (← e, ne_eqb r 0 z)) z
+no_track s w id n e h = refused_sample s w id n e (rw (← h, ne_eqb (number e) 0 (λ z. omega (arith, number_some e))))
 
 -- ---- the bytes
 
@@ -93,34 +95,34 @@ unfolding bytes_start bytes_length
 bytes_within s w id n = go (eqb (sample_refusal s w id n) 0) refl
   where
     go : (b : Bool) → eqb (sample_refusal s w id n) 0 ≡ b
-        → bytes_start (cond b (Found (sample_of (track_of (track_asked s id)) (n - 1))) (Refused (sample_refusal s w id n)))
-        + bytes_length (cond b (Found (sample_of (track_of (track_asked s id)) (n - 1))) (Refused (sample_refusal s w id n))) ≤ length_of w s
+        → bytes_start (cond b (Ok (sample_of (track_of (track_asked s id)) (n - 1))) (refused (sample_refusal s w id n)))
+        + bytes_length (cond b (Ok (sample_of (track_of (track_asked s id)) (n - 1))) (refused (sample_refusal s w id n))) ≤ length_of w s
     go true q = within_file s w id n (eqb-true _ _ q)
     go false q = omega arith
 
 -- from what the code has of the answer
-found_bytes : (s : List ℕ) (w : Source) (id n : ℕ) (r : SampleAnswer) (v : Sample) → Samples s w id n r → r ≡ Found v
+found_bytes : (s : List ℕ) (w : Source) (id n : ℕ) (r : Result Sample Refusal) (v : Sample) → Samples s w id n r → r ≡ Ok v
     → (bytes_start (sample_answer s w id n) ≡ v.offset) × (bytes_length (sample_answer s w id n) ≡ v.size)
 unfolding bytes_start bytes_length
 found_bytes s w id n r v a e = let q = sym a.answer ∙ e in (ap bytes_start q, ap bytes_length q)
 
-refused_bytes : (s : List ℕ) (w : Source) (id n : ℕ) (r : SampleAnswer) (k : ℕ) → Samples s w id n r → r ≡ Refused k
+refused_bytes : (s : List ℕ) (w : Source) (id n : ℕ) (r : Result Sample Refusal) (k : Refusal) → Samples s w id n r → r ≡ Err k
     → (bytes_start (sample_answer s w id n) ≡ 0) × (bytes_length (sample_answer s w id n) ≡ 0)
 unfolding bytes_start bytes_length
 refused_bytes s w id n r k a e = let q = sym a.answer ∙ e in (ap bytes_start q, ap bytes_length q)
 
-pub found_fits : (s : List ℕ) (w : Source) (id n : ℕ) (r : SampleAnswer) (v : Sample) → Samples s w id n r → r ≡ Found v → v.offset + v.size ≤ length_of w s
+pub found_fits : (s : List ℕ) (w : Source) (id n : ℕ) (r : Result Sample Refusal) (v : Sample) → Samples s w id n r → r ≡ Ok v → v.offset + v.size ≤ length_of w s
 found_fits s w id n r v a e = let q = found_bytes s w id n r v a e in omega (arith, q.0, q.1, bytes_within s w id n)
 
 -- of a whole file
-pub found_in_file : (s : List ℕ) (w : Source) (id n : ℕ) (r : SampleAnswer) (v : Sample) → w ≡ whole_file → Samples s w id n r → r ≡ Found v → v.offset + v.size ≤ length s
+pub found_in_file : (s : List ℕ) (w : Source) (id n : ℕ) (r : Result Sample Refusal) (v : Sample) → w ≡ whole_file → Samples s w id n r → r ≡ Ok v → v.offset + v.size ≤ length s
 unfolding length_of
 found_in_file s w id n r v h a e = rw h at (found_fits s w id n r v a e)
 
-pub found_part : (file r : Bor (List ℕ)) (w : Source) (id n : ℕ) (a : SampleAnswer) (v : Sample) → w ≡ whole_file → Samples file.now w id n a → a ≡ Found v → PartOf file v.offset v.size r → SampleBytes file id n r
+pub found_part : (file r : Bor (List ℕ)) (w : Source) (id n : ℕ) (a : Result Sample Refusal) (v : Sample) → w ≡ whole_file → Samples file.now w id n a → a ≡ Ok v → PartOf file v.offset v.size r → SampleBytes file id n r
 found_part file r w id n a v h p e q = let b = found_bytes file.now whole_file id n a v (rw h at p) e in rw (b.0, b.1) q
 
-pub refused_part : (file r : Bor (List ℕ)) (w : Source) (id n : ℕ) (a : SampleAnswer) (k : ℕ) → w ≡ whole_file → Samples file.now w id n a → a ≡ Refused k → PartOf file 0 0 r → SampleBytes file id n r
+pub refused_part : (file r : Bor (List ℕ)) (w : Source) (id n : ℕ) (a : Result Sample Refusal) (k : Refusal) → w ≡ whole_file → Samples file.now w id n a → a ≡ Err k → PartOf file 0 0 r → SampleBytes file id n r
 refused_part file r w id n a k h p e q = let b = refused_bytes file.now whole_file id n a k (rw h at p) e in rw (b.0, b.1) q
 
 -- ---- the answer's numbers are low
@@ -142,9 +144,9 @@ numbers_low s w id n e =
       offset = omega (arith, within_file s w id n e, a.file.shape.low);
     }
 
-pub found_low : (s : List ℕ) (w : Source) (id n : ℕ) (r : SampleAnswer) (v : Sample) → Samples s w id n r → r ≡ Found v → Low v
+pub found_low : (s : List ℕ) (w : Source) (id n : ℕ) (r : Result Sample Refusal) (v : Sample) → Samples s w id n r → r ≡ Ok v → Low v
 found_low s w id n r v a e = go (eqb (sample_refusal s w id n) 0) refl (sym e ∙ a.answer)
   where
-    go : (b : Bool) → eqb (sample_refusal s w id n) 0 ≡ b → Found v ≡ cond b (Found (sample_of (track_of (track_asked s id)) (n - 1))) (Refused (sample_refusal s w id n)) → Low v
+    go : (b : Bool) → eqb (sample_refusal s w id n) 0 ≡ b → Ok v ≡ cond b (Ok (sample_of (track_of (track_asked s id)) (n - 1))) (refused (sample_refusal s w id n)) → Low v
     go true q d = let z : v ≡ sample_of (track_of (track_asked s id)) (n - 1) = cc in rw z (numbers_low s w id n (eqb-true _ _ q))
     go false q d = let z : ◌≡◌ {A = ℕ} 0 1 = cc in absurd (omega arith)

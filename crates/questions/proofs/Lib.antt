@@ -4,3 +4,4 @@ pub mod Found
 pub mod Said
 pub mod Shift
 pub mod Own
+pub mod Numbered

@@ -10,9 +10,13 @@ use borrow.Author.Tests.{lt-ltb, le-ltb, le-leb, lt-leb, ltb-true, leb-true}
 use lib.ListN.{length, get_or}
 use lib.Dec.{ltb, leb}
 use lib.IntN.{ℤ, pos, ◌+ℤ◌}
+use Rattle.std.specs.Prelude.{Result, Ok, Err}
+use Rattle.refusals.specs.declared.Refusal.{Refusal}
+use Rattle.refusals.specs.declared.Refusal.TheVariants.{Outside}
+use Rattle.refusals.specs.Refusals.{refused}
 use Rattle.bigendian.specs.BigEndian.{u32_at}
 use Rattle.atoms.specs.Kinds.{stts, ctts, stsc, stsz, stss}
-use Rattle.lists.specs.Lists.{before, holder}
+use Rattle.lists.specs.Lists.{holder}
 use Rattle.lists.proofs.Places.{each_at, before_le}
 use Rattle.lists.proofs.Booleans.{and_both}
 use Rattle.runs.specs.Runs.{per_sample, composition_offset, timing_of}
@@ -32,8 +36,6 @@ use Rattle.questions.specs.Asked.{ask_refusal, track_asked}
 use Rattle.questions.specs.Said.{sample_in, is_low, found_as, said_in, is_asked, sample_said}
 use Rattle.questions.specs.Samples.{sample_of, sample_refusal, sample_asked, sample_zeros, sample_numbers, Samples}
 use Rattle.questions.specs.declared.samples.Sample.{Sample}
-use Rattle.questions.specs.declared.samples.SampleAnswer.{SampleAnswer}
-use Rattle.questions.specs.declared.samples.SampleAnswer.TheVariants.{Found, Refused}
 use Rattle.questions.proofs.Asking.{asked, table_fits}
 use Rattle.questions.proofs.Found.{chunk_known, refused_sample, offset_low}
 
@@ -66,12 +68,12 @@ module _ (r : Timing) (shift : ℤ) (p : Located) (sync : Bool) (z o : List ℕ)
   low_is : is_low r.start p.chunk n (min (located_offset (chunk_offsets o) (sizes z) p i) 18446744073709551615) ≡ b
   low_is = rw (← eo) (sym eb)
 
-  pub found_refused : b ≡ false → Refused 15 ≡ found_as r shift p sync z o n i
+  pub found_refused : b ≡ false → refused 15 ≡ found_as r shift p sync z o n i
   unfolding found_as
   found_refused q = rw (low_is ∙ q)
 
   pub found_is : b ≡ true → (comp : ℤ) (size : ℕ) → comp ≡ pos r.start +ℤ shift → size ≡ get_or (sizes z) i 0
-      → Found (record { decode = r.start; duration = r.duration; composition = comp; sync = sync; description = p.description; chunk = p.chunk + 1; offset = off; size = size })
+      → Ok (record { decode = r.start; duration = r.duration; composition = comp; sync = sync; description = p.description; chunk = p.chunk + 1; offset = off; size = size })
       ≡ found_as r shift p sync z o n i
   unfolding found_as
   found_is q comp size ec em = rw (low_is ∙ q, eo, ec, em)
@@ -89,15 +91,15 @@ found_said a y c z o k n i r shift p sync er es ep ek =
 -- ---- the ways out of `sample_of`, of any tables
 
 module _ (a y c z o k : List ℕ) (m chunks n : ℕ) where
-  pub said_zero : n ≡ 0 → Refused 15 ≡ sample_said a y c z o k m chunks n
+  pub said_zero : n ≡ 0 → refused 15 ≡ sample_said a y c z o k m chunks n
   unfolding sample_said
   said_zero e = rw e
 
-  pub said_past : (n ≡ 0 → ⊥) → m < n → Refused 15 ≡ sample_said a y c z o k m chunks n
+  pub said_past : (n ≡ 0 → ⊥) → m < n → refused 15 ≡ sample_said a y c z o k m chunks n
   unfolding sample_said
   said_past h g = rw (lt-ltb 0 n (omega arith), lt-leb n m g)
 
-  pub said_long : (n ≡ 0 → ⊥) → n ≤ m → 4294967295 < length c → Refused 15 ≡ sample_said a y c z o k m chunks n
+  pub said_long : (n ≡ 0 → ⊥) → n ≤ m → 4294967295 < length c → refused 15 ≡ sample_said a y c z o k m chunks n
   unfolding sample_said
   said_long h g l = rw (lt-ltb 0 n (omega arith), le-leb n m g, le-ltb (length c) 4294967296 (omega arith))
 
@@ -106,22 +108,22 @@ module _ (a y c z o k : List ℕ) (m chunks n : ℕ) where
   said-in h g l = rw (lt-ltb 0 n (omega arith), le-leb n m g, lt-ltb (length c) 4294967296 (omega arith))
 
   -- the only refusal is 15
-  pub said_15 : (r : ℕ) → sample_said a y c z o k m chunks n ≡ Refused r → r ≡ 15
+  pub said_15 : (r : Refusal) → sample_said a y c z o k m chunks n ≡ Err r → r ≡ Outside
   unfolding sample_said said_in
   said_15 r e = go (is_asked c m n) (is_low _ (holder (per_chunk c chunks) (n - 1)) chunks _) (sample_in a y c z o k chunks (n - 1)) e
     where
-      go : (b d : Bool) (x : Sample) → cond b (cond d (Found x) (Refused 15)) (Refused 15) ≡ Refused r → r ≡ 15
+      go : (b d : Bool) (x : Sample) → cond b (cond d (Ok x) (refused 15)) (refused 15) ≡ Err r → r ≡ Outside
       go true true x q = let w : ◌≡◌ {A = ℕ} 0 1 = cc in absurd (omega arith)
       go true false x q = cc
       go false d x q = cc
 
   -- a number in 1 to m is answered, and low numbers
-  pub said_few : (x : Sample) → sample_said a y c z o k m chunks n ≡ Found x → (0 < n) × (n ≤ m) × (x.decode < 2 ^ 32) × (x.chunk ≤ chunks) × (x.offset < 2 ^ 63)
+  pub said_few : (x : Sample) → sample_said a y c z o k m chunks n ≡ Ok x → (0 < n) × (n ≤ m) × (x.decode < 2 ^ 32) × (x.chunk ≤ chunks) × (x.offset < 2 ^ 63)
   unfolding sample_said said_in sample_in
   said_few x e = go (is_asked c m n) refl (is_low _ (holder (per_chunk c chunks) (n - 1)) chunks _) refl e
     where
       go : (b : Bool) → is_asked c m n ≡ b → (d : Bool) → is_low (sample_in a y c z o k chunks (n - 1)).decode (holder (per_chunk c chunks) (n - 1)) chunks (sample_in a y c z o k chunks (n - 1)).offset ≡ d
-          → cond b (cond d (Found (sample_in a y c z o k chunks (n - 1))) (Refused 15)) (Refused 15) ≡ Found x
+          → cond b (cond d (Ok (sample_in a y c z o k chunks (n - 1))) (refused 15)) (refused 15) ≡ Ok x
           → (0 < n) × (n ≤ m) × (x.decode < 2 ^ 32) × (x.chunk ≤ chunks) × (x.offset < 2 ^ 63)
       go true f true g q =
           let v : sample_in a y c z o k chunks (n - 1) ≡ x = cc in
@@ -143,18 +145,18 @@ unfolding sample_in sample_of track_of
 in_track_is t i h low =
     rw (each_at (λ k. composition_offset (table_of ctts t) k) (samples_of t) i (pos 0) h, each_at (λ k. is_sync (table_of stss t) (suc k)) (samples_of t) i false h, unsaturated _ low)
 
-abbrev pub said_of : List ℕ → ℕ → SampleAnswer
+abbrev pub said_of : List ℕ → ℕ → Result Sample Refusal
 said_of t n = sample_said (table_of stts t) (table_of ctts t) (table_of stsc t) (table_of stsz t) (offset_table t) (table_of stss t) (samples_of t) (chunks_of t) n
 
 module _ (s : List ℕ) (w : Source) (id n : ℕ) (e : ask_refusal s w id ≡ 0) where
   -- a number outside 1 to N
-  said_outside : (ltb 0 n && leb n (samples_of (track_asked s id))) ≡ false → Refused 15 ≡ said_of (track_asked s id) n → Samples s w id n (said_of (track_asked s id) n)
+  said_outside : (ltb 0 n && leb n (samples_of (track_asked s id))) ≡ false → refused 15 ≡ said_of (track_asked s id) n → Samples s w id n (said_of (track_asked s id) n)
   unfolding sample_refusal sample_numbers or_else
   said_outside q d =
-      rw (← d) (refused_sample s w id n 15 (rw (e, q)) (λ y. omega arith))
+      rw (← d) (refused_sample s w id n Outside (rw (e, q)))
 
   -- one in 1 to N
-  said_within : (n ≡ 0 → ⊥) → n ≤ samples_of (track_asked s id) → said_of (track_asked s id) n ≡ Found (sample_of (track_of (track_asked s id)) (n - 1))
+  said_within : (n ≡ 0 → ⊥) → n ≤ samples_of (track_asked s id) → said_of (track_asked s id) n ≡ Ok (sample_of (track_of (track_asked s id)) (n - 1))
   unfolding said_in total_in sample_in is_low
   said_within z h =
       let t = track_asked s id in
@@ -170,7 +172,7 @@ module _ (s : List ℕ) (w : Source) (id n : ℕ) (e : ask_refusal s w id ≡ 0)
       omega (arith, ap (λ (v : Sample). v.offset) x, l)
       in
       said-in (table_of stts t) (table_of ctts t) (table_of stsc t) (table_of stsz t) (offset_table t) (table_of stss t) (samples_of t) (chunks_of t) n z h (omega arith)
-      ∙ rw (lt-ltb _ 4294967296 d, lt-ltb _ _ (chunk_known t (n - 1) a.track.agree i), lt-ltb _ 9223372036854775808 o) (ap Found x)
+      ∙ rw (lt-ltb _ 4294967296 d, lt-ltb _ _ (chunk_known t (n - 1) a.track.agree i), lt-ltb _ 9223372036854775808 o) (ap Ok x)
 
   -- the answer of the question
   pub said_samples : Samples s w id n (said_of (track_asked s id) n)
@@ -183,12 +185,12 @@ module _ (s : List ℕ) (w : Source) (id n : ℕ) (e : ask_refusal s w id ≡ 0)
           | yes h ↦ said_outside (rw (lt-ltb 0 n (omega arith), lt-leb n (samples_of t) h)) (said_past _ _ _ _ _ _ _ _ n z h)
           | no h ↦
               let g : n ≤ samples_of t = omega arith in
-              gives_answer sample_numbers sample_zeros Refused (λ i. refl) (sample_asked s id n) (sample_refusal s w id n) (said_of t n) (rw (e, lt-ltb 0 n (omega arith), le-leb n (samples_of t) g)) (said_within z g)
+              gives_answer sample_numbers sample_zeros (λ i. refl) (sample_asked s id n) (sample_refusal s w id n) (said_of t n) (rw (e, lt-ltb 0 n (omega arith), le-leb n (samples_of t) g)) (said_within z g)
         ]
       ]
 
 -- the same, from what the code has
 module _ (s t : List ℕ) (w : Source) (id n r : ℕ) (e : r ≡ ask_refusal s w id) (z : r ≡ 0) (d : t ≡ track_asked s id) where
   pub said_asked : (a y c x o k : List ℕ) (samples chunks : ℕ) → a ≡ table_of stts t → y ≡ table_of ctts t → c ≡ table_of stsc t → x ≡ table_of stsz t → o ≡ offset_table t → k ≡ table_of stss t
-      → samples ≡ u32_at x 16 → chunks ≡ u32_at o 12 → (v : SampleAnswer) → v ≡ sample_said a y c x o k samples chunks n → Samples s w id n v
+      → samples ≡ u32_at x 16 → chunks ≡ u32_at o 12 → (v : Result Sample Refusal) → v ≡ sample_said a y c x o k samples chunks n → Samples s w id n v
   said_asked a y c x o k samples chunks ea ey ec ex eo ek es eh v q = rw (q, es, eh, ea, ey, ec, ex, eo, ek, d) (said_samples s w id n (sym e ∙ z))

@@ -1,5 +1,7 @@
 -- "Sample n" and "Sample bytes".
-use Rattle.std.specs.Prelude.{ℕ, suc, ◌+◌, ◌-◌, ◌≡◌, List, [], ◌∷◌, map, false, cond, ◌&&◌, length, get_or, take, drop, ltb, leb, ℤ, pos, ◌+ℤ◌}
+use Rattle.std.specs.Prelude.{ℕ, suc, ◌+◌, ◌-◌, ◌≡◌, List, [], ◌∷◌, map, false, cond, ◌&&◌, length, get_or, take, drop, ltb, leb, ℤ, pos, ◌+ℤ◌, Result, Ok, Err}
+use Rattle.refusals.specs.declared.Refusal.{Refusal}
+use Rattle.refusals.specs.Refusals.{number, refused}
 use Rattle.std.specs.Borrow.{Bor}
 use Rattle.lists.specs.Lists.{before, holder}
 use Rattle.chunks.specs.Chunks.{offset_of}
@@ -12,8 +14,6 @@ use Rattle.movie.specs.Rooms.{refused_with}
 use Rattle.movie.specs.Answers.{given, Gives}
 use Rattle.questions.specs.Asked.{ask_refusal, track_asked}
 use Rattle.questions.specs.declared.samples.Sample.{Sample}
-use Rattle.questions.specs.declared.samples.SampleAnswer.{SampleAnswer}
-use Rattle.questions.specs.declared.samples.SampleAnswer.TheVariants.{Found, Refused}
 
 -- what the tables say of the sample with index i, from 0
 unfoldable pub sample_of : Track → ℕ → Sample
@@ -39,11 +39,11 @@ unfoldable pub sample_refusal : List ℕ → Source → ℕ → ℕ → ℕ
 sample_refusal s w id n = or_else (ask_refusal s w id) (cond (ltb 0 n && leb n (samples_of (track_asked s id))) 0 15)
 
 -- what is answered where nothing is refused
-abbrev pub sample_asked : List ℕ → ℕ → ℕ → SampleAnswer
-sample_asked s id n = Found (sample_of (track_of (track_asked s id)) (n - 1))
+abbrev pub sample_asked : List ℕ → ℕ → ℕ → Result Sample Refusal
+sample_asked s id n = Ok (sample_of (track_of (track_asked s id)) (n - 1))
 
-abbrev pub sample_answer : List ℕ → Source → ℕ → ℕ → SampleAnswer
-sample_answer s w id n = given (sample_refusal s w id n) (sample_asked s id n) Refused
+abbrev pub sample_answer : List ℕ → Source → ℕ → ℕ → Result Sample Refusal
+sample_answer s w id n = given (sample_refusal s w id n) (sample_asked s id n) refused
 
 -- document 01's number and values for each case of the answer; the number is 0 where nothing is refused, and sync is 1 or 0
 abbrev pub sample_values : Sample → List ℤ
@@ -61,24 +61,24 @@ sample_values x =
 unfoldable pub sample_zeros : ℕ → List ℤ
 sample_zeros r = map pos (refused_with 8 r)
 
-unfoldable pub sample_numbers : SampleAnswer → List ℤ
-sample_numbers (Found x) = pos 0 ∷ sample_values x
-sample_numbers (Refused r) = sample_zeros r
+unfoldable pub sample_numbers : Result Sample Refusal → List ℤ
+sample_numbers (Ok x) = pos 0 ∷ sample_values x
+sample_numbers (Err e) = sample_zeros (number e)
 
 -- the promise of the question: the answer r
-abbrev pub Samples : List ℕ → Source → ℕ → ℕ → SampleAnswer → Type 0
-Samples s w id n r = Gives sample_numbers sample_zeros Refused (sample_refusal s w id n) (sample_asked s id n) r
+abbrev pub Samples : List ℕ → Source → ℕ → ℕ → Result Sample Refusal → Type 0
+Samples s w id n r = Gives sample_numbers sample_zeros refused (sample_refusal s w id n) (sample_asked s id n) r
 
 -- ---- "the sample's own bytes, as they stand in the file lent"
 
 -- where they begin, and how many they are; "on refusal the empty beginning of the file"
-unfoldable pub bytes_start : SampleAnswer → ℕ
-bytes_start (Found x) = x.offset
-bytes_start (Refused r) = 0
+unfoldable pub bytes_start : Result Sample Refusal → ℕ
+bytes_start (Ok x) = x.offset
+bytes_start (Err e) = 0
 
-unfoldable pub bytes_length : SampleAnswer → ℕ
-bytes_length (Found x) = x.size
-bytes_length (Refused r) = 0
+unfoldable pub bytes_length : Result Sample Refusal → ℕ
+bytes_length (Ok x) = x.size
+bytes_length (Err e) = 0
 
 unfoldable pub sample_bytes : List ℕ → ℕ → ℕ → List ℕ
 sample_bytes s id n = take (bytes_length (sample_answer s whole_file id n)) (drop (bytes_start (sample_answer s whole_file id n)) s)

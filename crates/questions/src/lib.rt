@@ -4,36 +4,25 @@
 pub mod samples;
 
 ghost use Rattle.std.specs.Prelude.{◌≡◌};
+ghost use Rattle.refusals.specs.Refusals.{code};
 ghost use Rattle.questions.specs.Asked.{ask_refusal};
 ghost use Rattle.structure.specs.Movie.{moov_of, tracks_of};
 ghost use Rattle.movie.specs.Traks.{FewTraks};
-ghost use Rattle.questions.specs.Asking.{StandsAt, refused_ask, Asks};
+ghost use Rattle.questions.specs.Asking.{StandsAt, Asks};
 
 use bigendian::u32_at;
 use places::moov::{Traks, trak_at};
 use places::part_of;
-use places::trak::{Trak, no_trak};
+use places::trak::Trak;
+use refusals::Refusal;
 use structure::source::Source;
 use track::id_in;
 
-// The refusal that is given before the question itself is looked at: the film's, or 14; 0 where there is none. Then the movie's time scale, and the trak of
-// the track that is asked; with a refusal 0 and the empty trak.
+// What a question of one track begins with: the movie's time scale, and the trak of the track that is asked.
 #[derive(Clone, Copy)]
-pub struct Ask {
-    pub refusal: u32,
+pub struct Asked {
     pub movie: u32,
     pub trak: Trak,
-}
-
-fn refused(n: u32) -> Ask
-    ensures { result ≡ refused_ask n }
-{
-    let trak = no_trak();
-    Ask {
-        refusal: n,
-        movie: 0,
-        trak,
-    }
 }
 
 // The place of the first track with that ID among the traks; their number where no track has it.
@@ -54,33 +43,29 @@ fn place_of(lent: &[u8], traks: Traks, id: u32) -> usize
     i
 }
 
-impl Ask {
-    // Of the track with that ID.
-    pub fn of(lent: &[u8], source: Source, id: u32) -> Ask
+impl Asked {
+    // Of the track with that ID. The refusal is the one that is given before the question itself is looked at: the film's, or 14.
+    pub fn of(lent: &[u8], source: Source, id: u32) -> Result<Asked, Refusal>
         ensures { Asks lent.now source id result }
     {
-        let judged = movie::judge(lent, source);
-        if judged.refusal != 0 {
-            return refused(judged.refusal);
-        }
-        let movie = judged.movie;
+        let movie = movie::judge(lent, source)?;
         let heads = movie.heads;
         let traks = movie.traks;
         let i = place_of(lent, traks, id);
         if i == traks.count {
-            return refused(14);
+            return Err(Refusal::NoTrack);
         }
-        Ask {
-            refusal: 0,
+        Ok(Asked {
             movie: u32_at(part_of(lent, heads.mvhd), 20),
             trak: trak_at(traks, i),
-        }
+        })
     }
 }
 
 // The refusal alone.
-pub fn ask_refusal(lent: &[u8], source: Source, id: u32) -> u32
-    ensures { result ≡ ask_refusal lent.now source id }
+pub fn ask_refusal(lent: &[u8], source: Source, id: u32) -> Result<(), Refusal>
+    ensures { code result ≡ ask_refusal lent.now source id }
 {
-    Ask::of(lent, source, id).refusal
+    Asked::of(lent, source, id)?;
+    Ok(())
 }

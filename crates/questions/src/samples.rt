@@ -3,9 +3,10 @@ ghost use Rattle.std.specs.Prelude.{◌≡◌, ◌+◌, ◌≤◌, ◌<◌, ◌^
 ghost use Rattle.questions.specs.Said.{is_low, found_as, said_in, sample_said};
 ghost use Rattle.questions.specs.Samples.{Samples, PartOf, SampleBytes};
 
-use super::Ask;
+use super::Asked;
 use bigendian::u32_at;
 use chunks::{Located, locate};
+use refusals::Refusal;
 use runs::{Timing, composition_offset, timing_of};
 use structure::source::Source;
 use words::{is_sync, size_of};
@@ -21,13 +22,6 @@ pub struct Sample {
     pub chunk: u64,
     pub offset: u64,
     pub size: u32,
-}
-
-// The answer of `sample_by_number`: the sample; or the number of a refusal.
-#[derive(Clone, Copy)]
-pub enum SampleAnswer {
-    Found(Sample),
-    Refused(u32),
 }
 
 // A decode time and a signed offset, added.
@@ -60,15 +54,15 @@ pub fn sample_found(
     offsets: &[u8],
     chunks: u32,
     index: u32,
-) -> SampleAnswer
+) -> Result<Sample, Refusal>
     ensures { result ≡ found_as timing shift place sync stsz.now offsets.now chunks index }
 {
     let start = timing.start;
     let offset = chunks::located_offset(stsz, offsets, place, index);
     if !is_low(start, place.chunk, chunks, offset) {
-        return SampleAnswer::Refused(15);
+        return Err(Refusal::Outside);
     }
-    SampleAnswer::Found(Sample {
+    Ok(Sample {
         decode: start,
         duration: timing.duration,
         composition: shifted(start as u32, shift),
@@ -90,7 +84,7 @@ fn sample_in(
     stss: &[u8],
     chunks: u32,
     index: u32,
-) -> SampleAnswer
+) -> Result<Sample, Refusal>
     requires { (length stsc.now < 2 ^ 32) × (index < 4294967295) }
     ensures { result ≡ said_in stts.now ctts.now stsc.now stsz.now offsets.now stss.now chunks index }
 {
@@ -117,29 +111,26 @@ pub fn sample_of(
     samples: u32,
     chunks: u32,
     n: u32,
-) -> SampleAnswer
+) -> Result<Sample, Refusal>
     ensures { result ≡ sample_said stts.now ctts.now stsc.now stsz.now offsets.now stss.now samples chunks n }
 {
     if n == 0 {
-        return SampleAnswer::Refused(15);
+        return Err(Refusal::Outside);
     }
     if samples < n {
-        return SampleAnswer::Refused(15);
+        return Err(Refusal::Outside);
     }
     if 4294967295 < stsc.len() {
-        return SampleAnswer::Refused(15);
+        return Err(Refusal::Outside);
     }
     sample_in(stts, ctts, stsc, stsz, offsets, stss, chunks, n - 1)
 }
 
 // Sample n of a track, numbered from 1.
-pub fn sample_by_number(lent: &[u8], source: Source, id: u32, n: u32) -> SampleAnswer
+pub fn sample_by_number(lent: &[u8], source: Source, id: u32, n: u32) -> Result<Sample, Refusal>
     ensures { Samples lent.now source id n result }
 {
-    let ask = Ask::of(lent, source, id);
-    if ask.refusal != 0 {
-        return SampleAnswer::Refused(ask.refusal);
-    }
+    let ask = Asked::of(lent, source, id)?;
     let trak = ask.trak;
     let body = places::part_of(lent, trak.body);
     let p = trak.parts;
@@ -174,7 +165,7 @@ pub fn sample_bytes<'a>(file: &'a [u8], id: u32, n: u32) -> &'a [u8]
 {
     let answer = sample_by_number(file, Source::whole(), id, n);
     match answer {
-        SampleAnswer::Found(s) => part_of(file, s.offset, s.size),
-        SampleAnswer::Refused(_) => part_of(file, 0, 0),
+        Ok(s) => part_of(file, s.offset, s.size),
+        Err(_) => part_of(file, 0, 0),
     }
 }

@@ -2,66 +2,69 @@
 #![tactic(auto)]
 
 ghost use Rattle.std.specs.Prelude.{◌≡◌, ◌<◌, length, get_or};
+ghost use Rattle.leb128.specs.Reading.{more_of, top_of, read_at};
 ghost use Rattle.quick_numbers.specs.Quick.{quick_of};
+
+use leb128::{Number, NumberFault, number_at};
 
 fn byte_at(bytes: &[u8], at: usize) -> u64
     requires { at < length bytes.now }
     ensures { (result ≡ get_or bytes.now at 0) × (result < 256) }
 {
-    bytes[at] as u64
+    u64::from(bytes[at])
 }
 
-// A number and how many bytes it has; 0 bytes where there is none.
-#[derive(Clone, Copy)]
-pub struct QuickNumber {
-    pub value: u64,
-    pub len: usize,
-}
-
-// The number of at most four groups at a place, where four bytes are there. Its length is told by tests alone, so that a loop goes on without waiting
-// for the number.
-pub fn quick_at(bytes: &[u8], at: usize) -> QuickNumber
+// The number of at most four groups at a place, where four bytes are there. The place past it is told by tests alone, so that a loop goes on without
+// waiting for the number.
+fn quick_at(bytes: &[u8], at: usize) -> Option<Number>
     ensures { result ≡ quick_of bytes.now at }
 {
-    if bytes.len() < 4 {
-        return QuickNumber { value: 0, len: 0 };
-    }
-    if bytes.len() - 4 < at {
-        return QuickNumber { value: 0, len: 0 };
+    if bytes.len() < 4 || bytes.len() - 4 < at {
+        return None;
     }
     let b0 = byte_at(bytes, at);
     if b0 < 128 {
-        return QuickNumber { value: b0, len: 1 };
+        return Some(Number {
+            value: b0,
+            next: at + 1,
+        });
     }
     let b1 = byte_at(bytes, at + 1);
     if b1 == 0 {
-        return QuickNumber { value: 0, len: 0 };
+        return None;
     }
     if b1 < 128 {
-        return QuickNumber {
+        return Some(Number {
             value: b0 - 128 + 128 * b1,
-            len: 2,
-        };
+            next: at + 2,
+        });
     }
     let b2 = byte_at(bytes, at + 2);
     if b2 == 0 {
-        return QuickNumber { value: 0, len: 0 };
+        return None;
     }
     if b2 < 128 {
-        return QuickNumber {
+        return Some(Number {
             value: b0 - 128 + 128 * (b1 - 128 + 128 * b2),
-            len: 3,
-        };
+            next: at + 3,
+        });
     }
     let b3 = byte_at(bytes, at + 3);
-    if b3 == 0 {
-        return QuickNumber { value: 0, len: 0 };
+    if b3 == 0 || 128 <= b3 {
+        return None;
     }
-    if b3 < 128 {
-        return QuickNumber {
-            value: b0 - 128 + 128 * (b1 - 128 + 128 * (b2 - 128 + 128 * b3)),
-            len: 4,
-        };
+    Some(Number {
+        value: b0 - 128 + 128 * (b1 - 128 + 128 * (b2 - 128 + 128 * b3)),
+        next: at + 4,
+    })
+}
+
+// The number at a place, as `number_at` reads it, by the quick way where that has it.
+pub fn read_number(bytes: &[u8], at: usize, wide: bool) -> Result<Number, NumberFault>
+    ensures { result ≡ read_at (more_of wide) (top_of wide) bytes.now at }
+{
+    match quick_at(bytes, at) {
+        Some(number) => Ok(number),
+        None => number_at(bytes, at, wide),
     }
-    QuickNumber { value: 0, len: 0 }
 }

@@ -1,4 +1,4 @@
 pub mod Quotients
-pub mod Products
+pub mod Values
 pub mod Orders
 mod Examples

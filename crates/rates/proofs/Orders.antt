@@ -1,15 +1,14 @@
 -- A rate is no higher than another where, by cross-multiplication, its quotient is not: the least number that reaches the one reaches the other too.
 -- Assumes nothing.
+use Rattle.std.specs.Prelude.{Some}
 use Prim.Native.Nat.{ℕ, ◌*◌, ◌≤◌, ◌<◌}
 use mathlib.Core.Path.{◌≡◌, sym, ap, ◌∙◌}
 use native.Mathlib.Omega.{arith}
 use native.Mathlib.Nat.{mul_assoc, mul_comm, mul_right_comm, mul-le-mul, mul-le-mul_right, le_of_mul-le-mul_right}
 use native.Mathlib.Decide.{ℕ_discrete, dec_lt}
-use borrow.Author.Tests.{lt-ltb, le-ltb, eq-eqb, ne_eqb}
 use Rattle.rates.specs.Rates.{Least, round_up, value_of, rate_of}
-use Rattle.rates.specs.declared.Feature.TheVariants.{Value, NotComputed}
 use Rattle.rates.proofs.Quotients.{round_up_least}
-use Rattle.rates.proofs.Products.{rate_zero, value_small, value_large}
+use Rattle.rates.proofs.Values.{rate_zero, rate_over, rate_within, value_small, value_large}
 
 -- b × (8 × c) = 8 × b × c
 pub eightfold : (b c : ℕ) → b * (8 * c) ≡ 8 * b * c
@@ -17,26 +16,18 @@ eightfold b c = sym (mul_assoc b 8 c) ∙ ap (λ (x : ℕ). x * c) (mul_comm b 8
 
 -- ---- what a rate that is computed says
 
-rate_over : (n d : ℕ) → (d ≡ 0 → ⊥) → 18446744073709551616 ≤ n → rate_of n d ≡ NotComputed
-unfolding rate_of
-rate_over n d z h = rw (ne_eqb d 0 z, le-ltb n 18446744073709551616 h)
-
-pub rate_within : (n d : ℕ) → (d ≡ 0 → ⊥) → n < 18446744073709551616 → rate_of n d ≡ value_of (round_up n d)
-unfolding rate_of
-rate_within n d z h = rw (ne_eqb d 0 z, lt-ltb n 18446744073709551616 h)
-
 pub record Rated (n d v : ℕ) : Type 0 where
   pub divides : 0 < d
   pub rounded : Least n d v
   pub small : v < 4294967296
 
-pub rate_known : (n d v : ℕ) → rate_of n d ≡ Value v → Rated n d v
+pub rate_known : (n d v : ℕ) → rate_of n d ≡ Some v → Rated n d v
 rate_known n d v e = elim (ℕ_discrete d 0) [
   | yes z ↦ let o = rate_zero n d z in let q : ◌≡◌ {A = ℕ} 0 1 = cc in absurd (omega arith)
   | no z ↦ elim (dec_lt n 18446744073709551616) [
     | no l ↦ let o = rate_over n d z (omega arith) in let q : ◌≡◌ {A = ℕ} 0 1 = cc in absurd (omega arith)
     | yes l ↦
-        let o : value_of (round_up n d) ≡ Value v = sym (rate_within n d z l) ∙ e in
+        let o : value_of (round_up n d) ≡ Some v = sym (rate_within n d z l) ∙ e in
         let p : 0 < d = omega arith in
         elim (dec_lt (round_up n d) 4294967296) [
           | no k ↦ let g = value_large (round_up n d) (omega arith) in let q : ◌≡◌ {A = ℕ} 0 1 = cc in absurd (omega arith)
@@ -52,10 +43,10 @@ rate_known n d v e = elim (ℕ_discrete d 0) [
 
 pub record NoHigher (n d v : ℕ) : Type 0 where
   pub rate : ℕ
-  pub computed : rate_of n d ≡ Value rate
+  pub computed : rate_of n d ≡ Some rate
   pub low : rate ≤ v
 
-module _ (k n d m e v : ℕ) (p : 0 < d) (small : d < 4294967296) (h : n * e ≤ m * d) (r : rate_of (m * k) e ≡ Value v) where
+module _ (k n d m e v : ℕ) (p : 0 < d) (small : d < 4294967296) (h : n * e ≤ m * d) (r : rate_of (m * k) e ≡ Some v) where
   -- n k e = n e k ≤ m d k = m k d ≤ v e d = v d e
   reached : n * k ≤ v * d
   reached =

@@ -1,9 +1,9 @@
 -- The quotient rounded up is the least number that, times the divisor, reaches the numerator, and the only one: by cases on whether anything is left.
 -- Assumes nothing.
-use Prim.Native.Nat.{ℕ, ◌+◌, ◌*◌, ◌/◌, ◌%◌, ◌≤◌, ◌<◌}
+use Prim.Native.Nat.{ℕ, min, ◌+◌, ◌*◌, ◌/◌, ◌%◌, ◌≤◌, ◌<◌}
 use mathlib.Core.Path.{◌≡◌}
 use native.Mathlib.Omega.{arith}
-use native.Mathlib.Nat.{div-add-mod', mod-lt, add-mul, one-mul, mul-one, mul-le-mul_left, mul-le-mul_right, le_antisymm}
+use native.Mathlib.Nat.{div-add-mod', mod-lt, add-mul, one-mul, mul-le-mul_right, le_antisymm}
 use native.Mathlib.Decide.{ℕ_discrete, dec_lt}
 use borrow.Author.Tests.{eq-eqb, ne_eqb}
 use Rattle.rates.specs.Rates.{Least, round_up}
@@ -54,6 +54,9 @@ round_up_least n d h = elim (ℕ_discrete (n % d) 0) [
 pub is_round_up : {n d r : ℕ} → 0 < d → Least n d r → r ≡ round_up n d
 is_round_up {n} {d} h x = least_only x (round_up_least n d h)
 
--- one more than a quotient with something left is at most the numerator: it wraps nothing
-pub up_fits : (n d : ℕ) → 0 < d → (n % d ≡ 0 → ⊥) → n / d + 1 ≤ n
-up_fits n d h z = (least_more n d h z).least n (omega (arith, mul-le-mul_left n h, mul-one n))
+-- as std computes it
+pub least_ceil : (n d : ℕ) → 0 < d → Least n d (n / d + min 1 (n % d))
+least_ceil n d h = elim (ℕ_discrete (n % d) 0) [
+  | yes e ↦ let k : n / d + min 1 (n % d) ≡ n / d = omega arith in rw k (least_exact n d h e)
+  | no e ↦ let k : n / d + min 1 (n % d) ≡ n / d + 1 = omega arith in rw k (least_more n d h e)
+]

@@ -17,7 +17,6 @@ use Rattle.return_totals.specs.declared.Counts.{Counts}
 use Rattle.return_totals.specs.declared.FilmReturn.{FilmReturn}
 use Rattle.return_totals.specs.declared.TrackTotals.{TrackTotals}
 use Rattle.return_totals.specs.declared.Filed.{Filed}
-use Rattle.return_totals.specs.declared.Sum.{Sum}
 use Rattle.return_totals.proofs.Overs.{or_first, over_second, over_third, over_fourth, over_rest, over_append, over_set, over_set_more, within_take, within_from, met_over, counts_over, slots_over}
 use Rattle.return_totals.proofs.Scales.{same_met, met_length, units_longer}
 use Rattle.return_totals.proofs.Keeping.{held_few, keeps_self, keeps_then, keeps_as}
@@ -166,21 +165,21 @@ module _ (f : Filed) (k u : ℕ) (a : Filed) (z : AddsUnits f.totals k u a) (r :
 
 -- ---- counts
 
-module _ (f : Filed) (c : Counts) (a t m b : Sum) (za : Sums f.totals.accepted c.accepted a) (zt : Sums f.totals.tracks c.tracks t) (zm : Sums f.totals.samples c.samples m)
-    (zb : Sums f.totals.bytes c.bytes b) (over : Bool) (o : over ≡ ((a.over || t.over) || (m.over || b.over))) (r : FilmReturn) (s : Return) (w : Follows r s f) where
+module _ (f : Filed) (c : Counts) (a t m b : ℕ × Bool) (za : Sums f.totals.accepted c.accepted a) (zt : Sums f.totals.tracks c.tracks t) (zm : Sums f.totals.samples c.samples m)
+    (zb : Sums f.totals.bytes c.bytes b) (over : Bool) (o : over ≡ ((a.1 || t.1) || (m.1 || b.1))) (r : FilmReturn) (s : Return) (w : Follows r s f) where
   abbrev pub counted : FilmReturn
   counted = record {
-    accepted = a.sum;
+    accepted = a.0;
     refused = f.totals.refused;
-    tracks = t.sum;
-    samples = m.sum;
-    bytes = b.sum;
+    tracks = t.0;
+    samples = m.0;
+    bytes = b.0;
     count = f.totals.count;
     scales = f.totals.scales;
     units = f.totals.units;
   }
 
-  one_over : (i j l k : Bool) → a.over ≡ i → t.over ≡ j → m.over ≡ l → b.over ≡ k → ((i || j) || (l || k)) ≡ true → any_over (totals_in (with_counts c (return_of f.totals))) ≡ true
+  one_over : (i j l k : Bool) → a.1 ≡ i → t.1 ≡ j → m.1 ≡ l → b.1 ≡ k → ((i || j) || (l || k)) ≡ true → any_over (totals_in (with_counts c (return_of f.totals))) ≡ true
   unfolding with_counts return_of
   one_over true j l k ei ej el ek g = or_first _ _ (sym za.over ∙ ei)
   one_over false true l k ei ej el ek g = over_second (f.totals.accepted + c.accepted) (f.totals.tracks + c.tracks) (f.totals.samples + c.samples) (f.totals.bytes + c.bytes) (f.totals.refused ++ units_in (scales_in f.totals)) (sym zt.over ∙ ej)
@@ -203,23 +202,23 @@ module _ (f : Filed) (c : Counts) (a t m b : Sum) (za : Sums f.totals.accepted c
   unfolding with_counts return_of scales_in
   counts_made e h =
       let n = sym o ∙ h in
-      let p = or_left (a.over || t.over) _ n in
-      let v = or_right (a.over || t.over) _ n in
-      rw (← e, za.sum (or_left _ _ p), zt.sum (or_right a.over _ p), zm.sum (or_left _ _ v), zb.sum (or_right m.over _ v))
+      let p = or_left (a.1 || t.1) _ n in
+      let v = or_right (a.1 || t.1) _ n in
+      rw (← e, za.sum (or_left _ _ p), zt.sum (or_right a.1 _ p), zm.sum (or_left _ _ v), zb.sum (or_right m.1 _ v))
 
   pub more_counts : (q : ℕ) → q ≡ later_refusal f.refusal over → Follows r (with_counts c s) (record { refusal = q; totals = counted })
   more_counts =
       step r s (with_counts c s) f w counted over as_long (counts_over c s) (λ d. counts_met ∙ w.met d ∙ same_scales)
-      (λ e h. rw (← e) (one_over a.over t.over m.over b.over refl refl refl refl (sym o ∙ h))) counts_made
+      (λ e h. rw (← e) (one_over a.1 t.1 m.1 b.1 refl refl refl refl (sym o ∙ h))) counts_made
       (keeps_as r f.totals counted refl refl refl w.keeps)
 
 -- ---- refused files
 
-module _ (f : Filed) (i n : ℕ) (x : Sum) (z : Sums (get_or f.totals.refused i 0) n x) (h : i < length f.totals.refused) (r : FilmReturn) (s : Return) (w : Follows r s f) where
+module _ (f : Filed) (i n : ℕ) (x : ℕ × Bool) (z : Sums (get_or f.totals.refused i 0) n x) (h : i < length f.totals.refused) (r : FilmReturn) (s : Return) (w : Follows r s f) where
   abbrev pub slotted : FilmReturn
   slotted = record {
     accepted = f.totals.accepted;
-    refused = set f.totals.refused i x.sum;
+    refused = set f.totals.refused i x.0;
     tracks = f.totals.tracks;
     samples = f.totals.samples;
     bytes = f.totals.bytes;
@@ -240,7 +239,7 @@ module _ (f : Filed) (i n : ℕ) (x : Sum) (z : Sums (get_or f.totals.refused i 
   unfolding with_slots
   slot_long = omega arith
 
-  slot_over : return_of f.totals ≡ s → x.over ≡ true → any_over (totals_in (with_more_at i n s)) ≡ true
+  slot_over : return_of f.totals ≡ s → x.1 ≡ true → any_over (totals_in (with_more_at i n s)) ≡ true
   unfolding with_slots return_of
   slot_over e o =
       rw (← e)
@@ -248,13 +247,13 @@ module _ (f : Filed) (i n : ℕ) (x : Sum) (z : Sums (get_or f.totals.refused i 
       (over_append (more_at f.totals.refused i n) (units_in (scales_in f.totals))
       ∙ or_first _ _ (over_set f.totals.refused i (get_or f.totals.refused i 0 + n) h (leb-true 18446744073709551616 _ (sym z.over ∙ o)))))
 
-  slot_made : return_of f.totals ≡ s → x.over ≡ false → return_of slotted ≡ with_more_at i n s
+  slot_made : return_of f.totals ≡ s → x.1 ≡ false → return_of slotted ≡ with_more_at i n s
   unfolding with_slots return_of scales_in
   slot_made e o = rw (← e, z.sum o)
 
-  pub more-at : (q : ℕ) → q ≡ later_refusal f.refusal x.over → Follows r (with_more_at i n s) (record { refusal = q; totals = slotted })
+  pub more-at : (q : ℕ) → q ≡ later_refusal f.refusal x.1 → Follows r (with_more_at i n s) (record { refusal = q; totals = slotted })
   more-at =
-      step r s (with_more_at i n s) f w slotted x.over slot_long (slots_over (more_at s.refused i n) s (over_set_more s.refused i n)) (λ d. slot_met ∙ w.met d ∙ slot_scales)
+      step r s (with_more_at i n s) f w slotted x.1 slot_long (slots_over (more_at s.refused i n) s (over_set_more s.refused i n)) (λ d. slot_met ∙ w.met d ∙ slot_scales)
       slot_over slot_made
       (keeps_as r f.totals slotted refl refl refl w.keeps)
 

@@ -68,13 +68,6 @@ module _ (a b c d : ℕ) (l : List ℕ) where
 
 -- ---- an array of the code, as its row has it
 
-same_length : (xs : List ℕ) → length (map (λ (v : ℕ). v) xs) ≡ length xs
-same_length [] = refl
-same_length (x ∷ xs) = ap suc (same_length xs)
-
-pub array_length : (xs : List ℕ) (n : ℕ) → length xs ≡ n → length xs ≡ n
-array_length xs n e = e
-
 -- the elements of one of 64-bit numbers
 pub array_within : (xs : List ℕ) (us : List Val) → shadow (each ℕ (λ x vs. u64-field.row.own_val x vs) xs us) → any_over xs ≡ false
 array_within [] us h = refl

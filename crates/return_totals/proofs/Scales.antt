@@ -2,13 +2,15 @@
 -- Assumes nothing.
 use Prim.Native.Nat.{ℕ, zero, suc, ◌+◌, ◌≤◌, ◌<◌, min}
 use mathlib.Core.Path.{◌≡◌, refl, sym, ap, ◌∙◌}
-use mathlib.Core.Bool.{Bool, true, false, cond}
+use mathlib.Core.Bool.{Bool, true, false, cond, not}
 use mathlib.Core.List.{List, [], ◌∷◌, ◌++◌, map}
 use native.Mathlib.Omega.{arith}
 use lib.ListN.{length, get_or, set, take, drop, length-take, length-set, length-append, drop_of_length-le}
 use lib.Seq.{drop-cons, get_or-take, take-suc-set}
-use lib.Dec.{eqb}
-use borrow.Author.Tests.{eq-eqb, ne_eqb}
+use lib.Dec.{eqb, ltb}
+use borrow.Author.Tests.{ltb-true, ltb-false}
+use Rattle.std.specs.Prelude.{◌==◌, Some, None, position}
+use Rattle.std.specs.List.{position_or_len}
 use Rattle.return_totals.specs.Returns.{Scale, with_units, scales_from}
 use Rattle.return_totals.specs.Following.{place_of, met_in, units_in}
 
@@ -17,15 +19,28 @@ use Rattle.return_totals.specs.Following.{place_of, met_in, units_in}
 pub taken_at : (i n : ℕ) (l : List ℕ) → i < n → n ≤ length l → drop i (take n l) ≡ get_or l i 0 ∷ drop (suc i) (take n l)
 taken_at i n l h g = drop-cons (take n l) i 0 (omega (arith, length-take n l)) ∙ ap (λ (y : ℕ). y ∷ drop (suc i) (take n l)) (get_or-take n l i 0 h)
 
-module _ (x i n : ℕ) (l : List ℕ) (h : i < n) (g : n ≤ length l) where
-  pub place_here : get_or l i 0 ≡ x → place_of x (drop i (take n l)) ≡ 0
-  place_here e = rw (taken_at i n l h g, eq-eqb (get_or l i 0) x e)
+-- the search by `position`
+place_prefix : (k : ℕ) (l : List ℕ) → place_of k l ≡ position_or_len (λ x. x == k) l
+place_prefix k [] = refl
+place_prefix k (x ∷ l) = go (eqb x k) (place_prefix k l)
+  where
+    go : (b : Bool) → place_of k l ≡ position_or_len (λ x. x == k) l → cond b 0 (suc (place_of k l)) ≡ cond (not b) (1 + position_or_len (λ x. x == k) l) 0
+    go true h = refl
+    go false h = omega (arith, h)
 
-  pub place_on : (get_or l i 0 ≡ x → ⊥) → place_of x (drop i (take n l)) ≡ suc (place_of x (drop (i + 1) (take n l)))
-  place_on e = let k : i + 1 ≡ suc i = omega arith in rw (taken_at i n l h g, ne_eqb (get_or l i 0) x e, k)
+pub place_found : (k i : ℕ) (l : List ℕ) → position (λ x. x == k) l ≡ Some i → (i ≡ place_of k l) × (i < length l)
+place_found k i l e = go (ltb (place_of k l) (length l)) refl (rw (← place_prefix k l) at e)
+  where
+    go : (b : Bool) → ltb (place_of k l) (length l) ≡ b → cond b (Some (place_of k l)) None ≡ Some i → (i ≡ place_of k l) × (i < length l)
+    go true d z = let w : place_of k l ≡ i = cc in (sym w, omega (arith, ltb-true (place_of k l) (length l) d))
+    go false d z = absurd (cc)
 
-pub place_past : (x i n : ℕ) (l : List ℕ) → n ≤ i → place_of x (drop i (take n l)) ≡ 0
-place_past x i n l h = rw (drop_of_length-le (take n l) {i = i} (omega (arith, length-take n l)))
+pub place_none : (k : ℕ) (l : List ℕ) → position (λ x. x == k) l ≡ None → length l ≤ place_of k l
+place_none k l e = go (ltb (place_of k l) (length l)) refl (rw (← place_prefix k l) at e)
+  where
+    go : (b : Bool) → ltb (place_of k l) (length l) ≡ b → cond b (Some (place_of k l)) None ≡ None → length l ≤ place_of k l
+    go true d z = absurd (cc)
+    go false d z = ltb-false (place_of k l) (length l) d
 
 pub place_most : (k : ℕ) (l : List ℕ) → place_of k l ≤ length l
 place_most k [] = omega arith

@@ -12,7 +12,6 @@ use borrow.Author.Tests.{leb-true}
 use Rattle.return_totals.specs.Returns.{Scale, with_units, any_over, scales_from, scales_in}
 use Rattle.return_totals.specs.Following.{place_of, met_in, units_in, Sums, AddsUnits}
 use Rattle.return_totals.specs.declared.FilmReturn.{FilmReturn}
-use Rattle.return_totals.specs.declared.Sum.{Sum}
 use Rattle.return_totals.proofs.Overs.{over_set}
 use Rattle.return_totals.proofs.Keeping.{keeps_self, keeps_changed, keeps_new}
 use Rattle.return_totals.proofs.Scales.{place_most, from_met, from_units, from_length, units_found, units_new, take_set}
@@ -113,8 +112,8 @@ module _ (r : FilmReturn) (k u : ℕ) (ls : length r.scales ≡ 32) (lu : length
       ap any_over (from_units (take n r.scales) (set (take n r.units) i x) (omega (arith, as_long, length-set (take n r.units) i x)))
       ∙ over_set (take n r.units) i x (omega (arith, as_long, long)) g
 
-  pub met_scale : (i ≡ n → ⊥) → (x : Sum) → Sums (get_or r.units i 0) u x → (q : ℕ) → q ≡ cond x.over 21 0
-      → AddsUnits r k u (record { refusal = q; totals = scaled r r.count r.scales (set r.units i x.sum) })
+  pub met_scale : (i ≡ n → ⊥) → (x : ℕ × Bool) → Sums (get_or r.units i 0) u x → (q : ℕ) → q ≡ cond x.1 21 0
+      → AddsUnits r k u (record { refusal = q; totals = scaled r r.count r.scales (set r.units i x.0) })
   met_scale m x z q e =
       let h : i < n = omega (arith, place_within) in
       record {
@@ -123,9 +122,9 @@ module _ (r : FilmReturn) (k u : ℕ) (ls : length r.scales ≡ 32) (lu : length
         tracks = refl;
         samples = refl;
         bytes = refl;
-        full = λ d. absurd (not20 x.over (sym e ∙ d));
-        over = λ d. rw (is_found h) (found_over (get_or r.units i 0 + u) h (leb-true 18446744073709551616 _ (sym z.over ∙ is21 x.over (sym e ∙ d))));
-        met = λ d. rw (found_in x.sum, is_found h) (found_met x.sum (get_or r.units i 0 + u));
-        kept = λ d w. let b = not21 x.over q e w in (e ∙ rw b, rw (found_in x.sum, is_found h, z.sum b));
-        keeps = keeps_changed r (scaled r r.count r.scales (set r.units i x.sum)) ls lu i x.sum refl refl refl (omega (arith, h, en));
+        full = λ d. absurd (not20 x.1 (sym e ∙ d));
+        over = λ d. rw (is_found h) (found_over (get_or r.units i 0 + u) h (leb-true 18446744073709551616 _ (sym z.over ∙ is21 x.1 (sym e ∙ d))));
+        met = λ d. rw (found_in x.0, is_found h) (found_met x.0 (get_or r.units i 0 + u));
+        kept = λ d w. let b = not21 x.1 q e w in (e ∙ rw b, rw (found_in x.0, is_found h, z.sum b));
+        keeps = keeps_changed r (scaled r r.count r.scales (set r.units i x.0)) ls lu i x.0 refl refl refl (omega (arith, h, en));
       }

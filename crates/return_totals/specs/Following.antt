@@ -5,7 +5,6 @@ use Rattle.return_totals.specs.Returns.{Scale, Return, with_units, any_over, tot
 use Rattle.return_totals.specs.Joining.{added_each, with_scales}
 use Rattle.return_totals.specs.declared.FilmReturn.{FilmReturn}
 use Rattle.return_totals.specs.declared.Counts.{Counts}
-use Rattle.return_totals.specs.declared.Sum.{Sum}
 use Rattle.return_totals.specs.declared.Filed.{Filed}
 
 -- the index of the first of some numbers that is k; how many they are where none is
@@ -20,10 +19,10 @@ met_in l = map (λ x. x.scale) l
 abbrev pub units_in : List Scale → List ℕ
 units_in l = map (λ x. x.total) l
 
--- a sum that is kept in 64 bits
-pub record Sums (a b : ℕ) (r : Sum) : Type 0 where
-  pub over : r.over ≡ leb 18446744073709551616 (a + b)
-  pub sum : r.over ≡ false → r.sum ≡ a + b
+-- a sum that is kept in 64 bits, and whether it is cut to them
+pub record Sums (a b : ℕ) (r : ℕ × Bool) : Type 0 where
+  pub over : r.1 ≡ leb 18446744073709551616 (a + b)
+  pub sum : r.1 ≡ false → r.0 ≡ a + b
 
 -- the state t goes on from the state r
 pub record Keeps (r t : FilmReturn) : Type 0 where

@@ -1,9 +1,9 @@
 // The totals of a film return, held by value, and what is added to them: a track, a file accepted, a file refused, another return.
 #![tactic(auto)]
 
-ghost use Rattle.std.specs.Prelude.{◌≡◌, ◌||◌, cond, ◌≤◌, ◌<◌, min, length, take, [], ◌∷◌};
+ghost use Rattle.std.specs.Prelude.{◌≡◌, ◌==◌, cond, ◌≤◌, ◌<◌, length, take, position, [], ◌∷◌};
 ghost use Rattle.return_totals.specs.Returns.{empty_return, empty_state, with_track, with_accepted, with_refused, slot_of, scales_in, return_of};
-ghost use Rattle.return_totals.specs.Following.{place_of, Sums, AddsUnits, Adds, Follows, SettlesAll, later_refusal, unchanged};
+ghost use Rattle.return_totals.specs.Following.{Sums, AddsUnits, Adds, Follows, SettlesAll, later_refusal, unchanged};
 ghost use Rattle.return_totals.specs.Following.{with_met, with_counts, with_more_at, with_each};
 ghost use Rattle.return_totals.specs.Joining.{Joins};
 
@@ -66,29 +66,11 @@ pub struct Filed {
     pub totals: FilmReturn,
 }
 
-// A sum; where it would reach 2^64 that is said, and the first number stays.
-#[derive(Clone, Copy)]
-struct Sum {
-    over: bool,
-    sum: u64,
-}
-
-fn sum_of(a: u64, b: u64) -> Sum
+// A sum cut to 64 bits, and whether it was cut.
+fn sum_of(a: u64, b: u64) -> (u64, bool)
     ensures { Sums a b result }
 {
-    if 18446744073709551615 - b < a {
-        return Sum { over: true, sum: a };
-    }
-    Sum {
-        over: false,
-        sum: a + b,
-    }
-}
-
-fn either(a: bool, b: bool) -> bool
-    ensures { result ≡ (a || b) }
-{
-    if a { true } else { b }
+    a.overflowing_add(b)
 }
 
 fn over_refusal(over: bool) -> u32
@@ -97,61 +79,44 @@ fn over_refusal(over: bool) -> u32
     if over { 21 } else { 0 }
 }
 
-// How many scales are held, by that count.
-fn held(count: usize) -> usize
-    ensures { result ≡ min count 32 }
-{
-    if count < MOST_SCALES {
-        count
-    } else {
-        MOST_SCALES
-    }
-}
-
-// The index of a scale among the first n; n where it is not there.
-fn find_scale(scales: &[u32; 32], n: usize, scale: u32) -> usize
+// The index of a scale among the first n; none where it is not there.
+fn find_scale(scales: &[u32; 32], n: usize, scale: u32) -> Option<usize>
     requires { (length scales.now ≡ 32) × (n ≤ 32) }
-    ensures { result ≡ place_of scale (take n scales.now) }
+    ensures { result ≡ position (λ x. x == scale) (take n scales.now) }
 {
-    let mut i: usize = 0;
-    while i < n {
-        if scales[i] == scale {
-            return i;
-        }
-        i += 1;
-    }
-    i
+    scales[..n].iter().position(|x| *x == scale)
 }
 
 // Units more for a scale.
 fn add_units(r: FilmReturn, scale: u32, units: u64) -> Filed
     ensures { AddsUnits r scale units result }
 {
-    let n = held(r.count);
+    let n = r.count.min(MOST_SCALES);
     let scales = r.scales;
-    let i = find_scale(&scales, n, scale);
-    if MOST_SCALES <= i {
-        return Filed {
+    let mut next = r;
+    match find_scale(&scales, n, scale) {
+        Some(i) => {
+            let (sum, over) = sum_of(next.units[i], units);
+            next.units[i] = sum;
+            let refusal = over_refusal(over);
+            Filed {
+                refusal,
+                totals: next,
+            }
+        }
+        None if n < MOST_SCALES => {
+            next.scales[n] = scale;
+            next.units[n] = units;
+            next.count = n + 1;
+            Filed {
+                refusal: 0,
+                totals: next,
+            }
+        }
+        None => Filed {
             refusal: 20,
             totals: r,
-        };
-    }
-    let mut next = r;
-    if i == n {
-        next.scales[i] = scale;
-        next.units[i] = units;
-        next.count = n + 1;
-        return Filed {
-            refusal: 0,
-            totals: next,
-        };
-    }
-    let sum = sum_of(next.units[i], units);
-    next.units[i] = sum.sum;
-    let refusal = over_refusal(sum.over);
-    Filed {
-        refusal,
-        totals: next,
+        },
     }
 }
 
@@ -162,7 +127,7 @@ fn later_refusal(before: u32, over: bool) -> u32
     if before == 20 {
         return 20;
     }
-    over_refusal(either(before == 21, over))
+    over_refusal(before == 21 || over)
 }
 
 // A return before anything is added to it.
@@ -201,18 +166,15 @@ fn add_counts(f: Filed, c: Counts) -> Filed
     ensures { Adds (with_counts c) f result }
 {
     let mut next = f.totals;
-    let accepted = sum_of(next.accepted, c.accepted);
-    let tracks = sum_of(next.tracks, c.tracks);
-    let samples = sum_of(next.samples, c.samples);
-    let bytes = sum_of(next.bytes, c.bytes);
-    next.accepted = accepted.sum;
-    next.tracks = tracks.sum;
-    next.samples = samples.sum;
-    next.bytes = bytes.sum;
-    let over = either(
-        either(accepted.over, tracks.over),
-        either(samples.over, bytes.over),
-    );
+    let (accepted, accepted_over) = sum_of(next.accepted, c.accepted);
+    let (tracks, tracks_over) = sum_of(next.tracks, c.tracks);
+    let (samples, samples_over) = sum_of(next.samples, c.samples);
+    let (bytes, bytes_over) = sum_of(next.bytes, c.bytes);
+    next.accepted = accepted;
+    next.tracks = tracks;
+    next.samples = samples;
+    next.bytes = bytes;
+    let over = (accepted_over | tracks_over) | (samples_over | bytes_over);
     let refusal = later_refusal(f.refusal, over);
     Filed {
         refusal,
@@ -226,9 +188,9 @@ fn add_at(f: Filed, i: usize, n: u64) -> Filed
     ensures { Adds (with_more_at i n) f result }
 {
     let mut next = f.totals;
-    let sum = sum_of(next.refused[i], n);
-    next.refused[i] = sum.sum;
-    let refusal = later_refusal(f.refusal, sum.over);
+    let (sum, over) = sum_of(next.refused[i], n);
+    next.refused[i] = sum;
+    let refusal = later_refusal(f.refusal, over);
     Filed {
         refusal,
         totals: next,
@@ -265,13 +227,11 @@ pub fn add_accepted(r: FilmReturn) -> Filed
 fn slot_of(number: u32) -> usize
     ensures { result ≡ slot_of number }
 {
-    if number == 19 {
-        return 13;
+    match number {
+        1..=13 => (number - 1) as usize,
+        19 => 13,
+        _ => 14,
     }
-    if either(number == 0, 13 < number) {
-        return 14;
-    }
-    (number - 1) as usize
 }
 
 // One file more that is refused with that number; one that is none of the fourteen leaves the return as it is.
@@ -301,13 +261,9 @@ pub fn settle(r: FilmReturn, f: Filed) -> Filed
 fn add_scales(f: Filed, other: FilmReturn) -> Filed
     ensures { Adds (with_met (scales_in other)) f result }
 {
-    let n = held(other.count);
     let mut g = f;
-    let mut i: usize = 0;
-    while i < n {
-        let next = add_scale(g, other.scales[i], other.units[i]);
-        g = next;
-        i += 1;
+    for i in 0..other.count.min(MOST_SCALES) {
+        g = add_scale(g, other.scales[i], other.units[i]);
     }
     g
 }
@@ -317,11 +273,8 @@ fn add_each(f: Filed, other: FilmReturn) -> Filed
     ensures { Adds (with_each other.refused) f result }
 {
     let mut g = f;
-    let mut i: usize = 0;
-    while i < 14 {
-        let next = add_at(g, i, other.refused[i]);
-        g = next;
-        i += 1;
+    for i in 0..14 {
+        g = add_at(g, i, other.refused[i]);
     }
     g
 }

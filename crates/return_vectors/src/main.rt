@@ -7,7 +7,7 @@ mod show;
 use film_return::add_film;
 use program_input::{MOST_FILM, MOST_NAME, argument_at, open_named, read_full};
 use return_numbers::{NUMBERS, return_in};
-use return_totals::{FilmReturn, join_returns};
+use return_totals::{FilmReturn, MOST_SCALES, join_returns};
 use std::io;
 use std::rt::Files;
 use structure::source::Source;
@@ -16,44 +16,35 @@ use structure::source::Source;
 const STATES: usize = 26;
 
 // The greatest total.
-const GREATEST: u64 = 18446744073709551615;
-
-fn return_of(numbers: &[u64; 83]) -> FilmReturn {
-    return_in(numbers)
-}
+const GREATEST: u64 = u64::MAX;
 
 // The first n scales are 1 to n, with no units; the count is stated by itself.
 fn with_scales(n: usize, count: u64, accepted: u64) -> FilmReturn {
-    let mut numbers = [0u64; 83];
+    let mut numbers = [0u64; NUMBERS];
     numbers[0] = accepted;
     numbers[18] = count;
-    let mut i: usize = 0;
-    while i < n {
-        if 32 <= i {
-            return return_of(&numbers);
-        }
+    for i in 0..n.min(MOST_SCALES) {
         numbers[19 + i] = i as u64 + 1;
-        i += 1;
     }
-    return_of(&numbers)
+    return_in(&numbers)
 }
 
 // One total is the greatest.
 fn with_greatest(i: usize) -> FilmReturn {
-    let mut numbers = [0u64; 83];
+    let mut numbers = [0u64; NUMBERS];
     if i < NUMBERS {
         numbers[i] = GREATEST;
     }
-    return_of(&numbers)
+    return_in(&numbers)
 }
 
 // The scale 600 with those units.
 fn with_units(units: u64) -> FilmReturn {
-    let mut numbers = [0u64; 83];
+    let mut numbers = [0u64; NUMBERS];
     numbers[18] = 1;
     numbers[19] = 600;
     numbers[51] = units;
-    return_of(&numbers)
+    return_in(&numbers)
 }
 
 fn state(k: usize) -> FilmReturn {
@@ -71,10 +62,8 @@ fn state(k: usize) -> FilmReturn {
 }
 
 fn file_film(rt: &impl Print, film: &[u8]) -> io::Result<()> {
-    let mut k: usize = 0;
-    while k < STATES {
+    for k in 0..STATES {
         show::filed(rt, k, add_film(state(k), film, Source::whole()))?;
-        k += 1;
     }
     Ok(())
 }
@@ -85,16 +74,14 @@ fn file_named(rt: &(impl Files + Print + Eprint), name: &[u8]) -> io::Result<()>
     };
     let mut room = [0u8; MOST_FILM];
     let count = read_full(&mut file, &mut room);
-    let film = &room[..count];
-    file_film(rt, film)
+    file_film(rt, &room[..count])
 }
 
 // How many pairs of returns are joined.
 const PAIRS: usize = 29;
 
 fn joined(r: FilmReturn, s: FilmReturn) -> FilmReturn {
-    let both = join_returns(r, s);
-    both.totals
+    join_returns(r, s).totals
 }
 
 // The scales 1 to 31 and then 600, or 600 and then those.
@@ -137,10 +124,8 @@ fn right(k: usize) -> FilmReturn {
 }
 
 fn join_pairs(rt: &impl Print) -> io::Result<()> {
-    let mut k: usize = 0;
-    while k < PAIRS {
+    for k in 0..PAIRS {
         show::filed(rt, k, join_returns(left(k), right(k)))?;
-        k += 1;
     }
     Ok(())
 }
@@ -149,7 +134,7 @@ fn main(rt: HostRuntime) -> io::Result<()> {
     for i in 1..usize::MAX {
         let mut room = [0u8; MOST_NAME];
         match argument_at(&rt, i, &mut room) {
-            Some(next) => file_named(&rt, next.name())?,
+            Some(next) => file_named(&rt, next.unwrap_or(&[]))?,
             None => break,
         }
     }

@@ -1,5 +1,6 @@
 -- What a table of runs says, from what its part past a checkpoint says.
 -- Assumes nothing.
+use Rattle.std.specs.Prelude.{Option, Some, None}
 use Rattle.std.proofs.Common.{◌≡◌, ℕ, zero, suc, ◌+◌, ◌-◌, ◌*◌, ◌/◌, ◌%◌, ◌^◌, ◌<◌, ◌≤◌, List, [], ◌∷◌, map, length, get_or, take, drop, ℤ, sym, refl, ap, ◌∙◌, mod-eq_of_lt, arith, length-drop, drop_of_length-le, drop-drop, le-ltb, lt-ltb}
 use native.Mathlib.Decide.{dec_lt}
 use lib.ListN.{length-map}
@@ -12,13 +13,15 @@ use Rattle.lists.proofs.Rows.{length_rows}
 use Rattle.runs.specs.Runs.{run_of, runs_in, runs_of, per_sample, composition_offset, timing_of, entry_of, hit_of, looked_up}
 use Rattle.runs.specs.declared.Timing.{Timing}
 use Rattle.runs.specs.declared.Hit.{Hit}
-use Rattle.runs.specs.declared.Looked.{Looked}
-use Rattle.runs.specs.declared.Looked.TheVariants as looked
 use Rattle.runs.proofs.Turns.{runs-in}
 use Rattle.runs.proofs.Entries.{looked_known, looked_outside, entry_few}
 use Rattle.edits.specs.declared.MediaTime.{MediaTime}
 use Rattle.time_questions.specs.Said.{number_said}
-use Rattle.time_questions.specs.declared.NumberAnswer.TheVariants.{Number, Refused}
+use Rattle.std.specs.Prelude.{Ok, Err}
+use Rattle.refusals.specs.declared.Refusal.TheVariants.{Outside}
+use Rattle.time_questions.specs.declared.Numbered.{Numbered}
+use Rattle.refusals.proofs.Numbers.{ok_one}
+use Rattle.movie.proofs.Refused.{not_both}
 use Rattle.time_questions.proofs.Mapping.{number_outside, number_past, number_found}
 use Rattle.checkpoints.specs.Points.{CountsAt, TotalsAt, point_upto}
 use Rattle.run_lookups.specs.From.{passed_at, table_from, timing_from, offset_from, NumberFrom}
@@ -87,7 +90,7 @@ unfolding runs_in
 entries_few s = omega (arith, ap length (runs-in s), length-map (rows_of 8 (drop 16 s)) run_of, length_rows 8 (drop 16 s), length-drop 16 s)
 
 -- what a hit says
-pub hit_few : (s : List ℕ) (t : ℕ) (g : Hit) → looked.Hit g ≡ looked_up (runs_of s) t → (0 < g.entry) × (g.entry * 8 ≤ length s)
+pub hit_few : (s : List ℕ) (t : ℕ) (g : Hit) → Some g ≡ looked_up (runs_of s) t → (0 < g.entry) × (g.entry * 8 ≤ length s)
 unfolding hit_of entry_of
 hit_few s t g e =
     let k = looked_known (runs_of s) t g (sym e) in
@@ -96,10 +99,10 @@ hit_few s t g e =
     (omega (arith, e), omega (arith, e, entry_few (runs_of s) (holder (expand (runs_of s)) t) b.1, entries_few s))
 
 -- and in the whole table, from whose entry 64 * i on it was looked for
-pub hit_in : (s : List ℕ) (i t : ℕ) (g : Hit) → looked.Hit g ≡ looked_up (runs_of (drop (512 * i) s)) t → (0 < g.entry) × (64 * i + g.entry ≤ length (runs_of s))
+pub hit_in : (s : List ℕ) (i t : ℕ) (g : Hit) → Some g ≡ looked_up (runs_of (drop (512 * i) s)) t → (0 < g.entry) × (64 * i + g.entry ≤ length (runs_of s))
 unfolding hit_of entry_of
 hit_in s i t g e =
-    let f : looked_up (drop (64 * i) (runs_of s)) t ≡ looked.Hit g = sym (e ∙ ap (λ (l : List Run). looked_up l t) (tail_runs s i)) in
+    let f : looked_up (drop (64 * i) (runs_of s)) t ≡ Some g = sym (e ∙ ap (λ (l : List Run). looked_up l t) (tail_runs s i)) in
     let k = looked_known (drop (64 * i) (runs_of s)) t g f in
     let b = holds_below (expand (drop (64 * i) (runs_of s))) t _ (holder_holds (expand (drop (64 * i) (runs_of s))) t k.0) in
     let e = ap (λ (x : Hit). x.entry) k.1 in
@@ -111,12 +114,12 @@ module _ (s : List ℕ) (i c v : ℕ) (t : MediaTime) (q : c ≡ length (expand 
   walk : Walk (expand (runs_of s)) (expand (drop (64 * i) (runs_of s))) t.0 c (t.0 - v)
   walk = rw (q, w) (walk_from (runs_of s) (64 * i) t.0 (omega (arith, w)))
 
-  pub number_none : sum (expand (runs_of s)) ≤ t.0 → Refused 15 ≡ number_said s m t
+  pub number_none : sum (expand (runs_of s)) ≤ t.0 → Err Outside ≡ number_said s m t
   unfolding looked_up
   number_none l = number_outside s m t short (looked_up (runs_of s) t.0) refl (rw (le-ltb t.0 (sum (expand (runs_of s))) l))
 
   module _ (l : t.0 < sum (expand (runs_of s))) where
-    found : looked_up (runs_of s) t.0 ≡ looked.Hit (hit_of (runs_of s) t.0)
+    found : looked_up (runs_of s) t.0 ≡ Some (hit_of (runs_of s) t.0)
     unfolding looked_up
     found = rw (lt-ltb t.0 (sum (expand (runs_of s))) l)
 
@@ -124,25 +127,25 @@ module _ (s : List ℕ) (i c v : ℕ) (t : MediaTime) (q : c ≡ length (expand 
     unfolding hit_of
     index_is = walk.placed
 
-    number_over : m ≤ c + holder (expand (drop (64 * i) (runs_of s))) (t.0 - v) → Refused 15 ≡ number_said s m t
+    number_over : m ≤ c + holder (expand (drop (64 * i) (runs_of s))) (t.0 - v) → Err Outside ≡ number_said s m t
     number_over z = number_past s m t short (looked_up (runs_of s) t.0) refl (hit_of (runs_of s) t.0) found (omega (arith, index_is))
 
   -- so many samples are passed already
-  pub number_passed : m ≤ c → Refused 15 ≡ number_said s m t
+  pub number_passed : m ≤ c → Err Outside ≡ number_said s m t
   number_passed z = elim (dec_lt t.0 (sum (expand (runs_of s)))) [
     | yes l ↦ number_over l (omega arith)
     | no l ↦ number_none (omega arith)
   ]
 
   -- what is found past the checkpoint
-  module _ (f : Looked) (e : f ≡ looked_up (runs_of (drop (512 * i) s)) (t.0 - v)) where
+  module _ (f : Option Hit) (e : f ≡ looked_up (runs_of (drop (512 * i) s)) (t.0 - v)) where
     same : f ≡ looked_up (drop (64 * i) (runs_of s)) (t.0 - v)
     same = e ∙ ap (λ (l : List Run). looked_up l (t.0 - v)) (tail_runs s i)
 
-    pub from_outside : f ≡ looked.Outside → Refused 15 ≡ number_said s m t
+    pub from_outside : f ≡ None → Err Outside ≡ number_said s m t
     from_outside z = number_none (omega (arith, walk.summed, looked_outside (drop (64 * i) (runs_of s)) (t.0 - v) (sym same ∙ z)))
 
-    module _ (g : Hit) (z : f ≡ looked.Hit g) where
+    module _ (g : Hit) (z : f ≡ Some g) where
       known : (t.0 - v < sum (expand (drop (64 * i) (runs_of s)))) × (g ≡ hit_of (drop (64 * i) (runs_of s)) (t.0 - v))
       known = looked_known (drop (64 * i) (runs_of s)) (t.0 - v) g (sym same ∙ z)
 
@@ -173,10 +176,10 @@ module _ (s : List ℕ) (i c v : ℕ) (t : MediaTime) (q : c ≡ length (expand 
             ap (holder (map (λ (r : Run). r.count) (drop (64 * i) (runs_of s)))) y,
           )
 
-      pub from_past : m - c ≤ g.index → Refused 15 ≡ number_said s m t
+      pub from_past : m - c ≤ g.index → Err Outside ≡ number_said s m t
       from_past l = number_over below (omega (arith, g_index))
 
-      pub from_found : g.index < m - c → (n k : ℕ) → n ≡ c + g.index + 1 → k ≡ 64 * i + g.entry → Number n k ≡ number_said s m t
+      pub from_found : g.index < m - c → (n k : ℕ) → n ≡ c + g.index + 1 → k ≡ 64 * i + g.entry → Ok (record { sample = n; entry = k }) ≡ number_said s m t
       from_found l n k a b =
           let x = index_is below in
           rw (b, entry_is) (number_found s m t short (looked_up (runs_of s) t.0) refl (hit_of (runs_of s) t.0) (found below) (omega (arith, x, g_index)) n (omega (arith, x, g_index)))
@@ -189,16 +192,16 @@ not_above rs points count zero x v ts h a e = omega (arith, ts 0 h, e)
 not_above rs points count (suc i) x v ts h a e = omega (arith, a (omega arith), e)
 
 module _ (s points : List ℕ) (count m : ℕ) (t : MediaTime) where
-  pub refused_from : (CountsAt (runs_of s) points count → TotalsAt (runs_of s) points count → Refused 15 ≡ number_said s m t) → NumberFrom s points count m t (Refused 15)
+  pub refused_from : (CountsAt (runs_of s) points count → TotalsAt (runs_of s) points count → Err Outside ≡ number_said s m t) → NumberFrom s points count m t (Err Outside)
   refused_from f = record {
     right = f;
     elsewhere = λ k e. cc;
-    few = λ n k e. let z : ◌≡◌ {A = ℕ} 0 1 = cc in absurd (omega arith);
+    few = λ n e. not_both (Err Outside) Outside n refl e;
   }
 
-  pub number_by : (n k : ℕ) → 0 < n → n ≤ m → 0 < k → k ≤ length (runs_of s) → (CountsAt (runs_of s) points count → TotalsAt (runs_of s) points count → Number n k ≡ number_said s m t) → NumberFrom s points count m t (Number n k)
+  pub number_by : (n k : ℕ) → 0 < n → n ≤ m → 0 < k → k ≤ length (runs_of s) → (CountsAt (runs_of s) points count → TotalsAt (runs_of s) points count → Ok (record { sample = n; entry = k }) ≡ number_said s m t) → NumberFrom s points count m t (Ok (record { sample = n; entry = k }))
   number_by n k h l a b f = record {
     right = f;
-    elsewhere = λ r e. let z : ◌≡◌ {A = ℕ} 0 1 = cc in absurd (omega arith);
-    few = λ y z e. let q : n ≡ y = cc in let p : k ≡ z = cc in rw (← q, ← p) (h, l, a, b);
+    elsewhere = λ r e. not_both _ r (record { sample = n; entry = k }) e refl;
+    few = λ y e. let q : record { sample = n; entry = k } ≡ y = ok_one e in rw (← q) (h, l, a, b);
   }

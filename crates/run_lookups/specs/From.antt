@@ -1,13 +1,14 @@
 -- Lookups in stts and ctts by checkpoints: what the table says, where the checkpoints are the table's; by any others what the code comes to.
-use Rattle.std.specs.Prelude.{◌≡◌, ℕ, ◌+◌, ◌-◌, ◌*◌, ◌%◌, ◌^◌, ◌<◌, ◌≤◌, cond, List, length, drop, ℤ, nat_lt, slice_index}
+use Rattle.std.specs.Prelude.{◌≡◌, ℕ, ◌+◌, ◌-◌, ◌*◌, ◌%◌, ◌^◌, ◌<◌, ◌≤◌, cond, List, length, drop, ℤ, nat_lt, slice_index, Result, Ok, Err}
 use Rattle.std.specs.Int.Signed.{mag}
 use Rattle.lists.specs.Lists.{sum}
 use Rattle.runs.specs.Runs.{runs_of, per_sample, timing_of, composition_offset}
 use Rattle.runs.specs.declared.Timing.{Timing}
 use Rattle.edits.specs.declared.MediaTime.{MediaTime}
 use Rattle.time_questions.specs.Said.{number_said}
-use Rattle.time_questions.specs.declared.NumberAnswer.{NumberAnswer}
-use Rattle.time_questions.specs.declared.NumberAnswer.TheVariants.{Number, Refused}
+use Rattle.refusals.specs.declared.Refusal.{Refusal}
+use Rattle.refusals.specs.declared.Refusal.TheVariants.{Outside}
+use Rattle.time_questions.specs.declared.Numbered.{Numbered}
 use Rattle.checkpoints.specs.Points.{CountsAt, TotalsAt, point_upto}
 
 -- the samples before a checkpoint, as it says, and the table from its entry on
@@ -47,7 +48,7 @@ pub record OffsetFrom (ctts points : List ℕ) (count index : ℕ) (r : ℤ) : T
   pub low : mag r < 2 ^ 31
 
 -- the sample at a time, of so many samples; by other checkpoints it is refused 15, or some sample of that many and some entry of the table
-pub record NumberFrom (stts points : List ℕ) (count samples : ℕ) (t : MediaTime) (r : NumberAnswer) : Type 0 where
+pub record NumberFrom (stts points : List ℕ) (count samples : ℕ) (t : MediaTime) (r : Result Numbered Refusal) : Type 0 where
   pub right : CountsAt (runs_of stts) points count → TotalsAt (runs_of stts) points count → r ≡ number_said stts samples t
-  pub elsewhere : (k : ℕ) → r ≡ Refused k → k ≡ 15
-  pub few : (n entry : ℕ) → r ≡ Number n entry → (0 < n) × (n ≤ samples) × (0 < entry) × (entry ≤ length (runs_of stts))
+  pub elsewhere : (e : Refusal) → r ≡ Err e → e ≡ Outside
+  pub few : (n : Numbered) → r ≡ Ok n → (0 < n.sample) × (n.sample ≤ samples) × (0 < n.entry) × (n.entry ≤ length (runs_of stts))

@@ -7,9 +7,10 @@ ghost use Rattle.run_lookups.specs.From.{TimingFrom, OffsetFrom, NumberFrom};
 use bigendian::after;
 use checkpoints::{BYTES, RUNS, last_upto};
 use edits::MediaTime;
-use runs::{Looked, Timing, composition_offset, look_up, timing_of};
+use refusals::Refusal;
+use runs::{Timing, composition_offset, look_up, timing_of};
 use table_numbers::number_at;
-use time_questions::NumberAnswer;
+use time_questions::Numbered;
 
 // The times of the sample with an index.
 pub fn timing_from(stts: &[u8], points: &[u64], count: usize, index: u32) -> Timing
@@ -48,33 +49,33 @@ pub fn number_from(
     count: usize,
     samples: u32,
     t: MediaTime,
-) -> NumberAnswer
+) -> Result<Numbered, Refusal>
     requires { (0 < count) × (count < 2 ^ 26 + 1) }
     ensures { NumberFrom stts.now points.now count samples t result }
 {
     if 4294967295 < stts.len() {
-        return NumberAnswer::Refused(15);
+        return Err(Refusal::Outside);
     }
     let time = t.0 as u64;
     let i = last_upto(points, count, 1, time);
     let passed = number_at(points, 2 * i);
     let start = number_at(points, 2 * i + 1);
     if samples as u64 <= passed {
-        return NumberAnswer::Refused(15);
+        return Err(Refusal::Outside);
     }
     if time < start {
-        return NumberAnswer::Refused(15);
+        return Err(Refusal::Outside);
     }
     match look_up(after(stts, BYTES * i), (time - start) as u32) {
-        Looked::Hit(hit) => {
+        Some(hit) => {
             if samples as u64 - passed <= hit.index {
-                return NumberAnswer::Refused(15);
+                return Err(Refusal::Outside);
             }
-            NumberAnswer::Number(
-                (passed + hit.index + 1) as u32,
-                (RUNS * i) as u32 + hit.entry,
-            )
+            Ok(Numbered {
+                sample: (passed + hit.index + 1) as u32,
+                entry: (RUNS * i) as u32 + hit.entry,
+            })
         }
-        Looked::Outside => NumberAnswer::Refused(15),
+        None => Err(Refusal::Outside),
     }
 }

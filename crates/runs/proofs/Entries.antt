@@ -1,6 +1,7 @@
 -- The entry that holds a sample, as a lookup counts entries, and that there is one: its position is never above the number of entries.
 -- Assumes nothing.
-use Prim.Native.Nat.{ℕ, suc, ◌+◌, ◌-◌, ◌*◌, ◌/◌, ◌%◌, ◌≤◌, ◌<◌}
+use Rattle.std.specs.Prelude.{Option, Some, None}
+use Prim.Native.Nat.{ℕ, ◌+◌, ◌-◌, ◌*◌, ◌/◌, ◌%◌, ◌≤◌, ◌<◌}
 use mathlib.Core.Path.{◌≡◌, refl, sym, ap, ◌∙◌}
 use mathlib.Core.Bool.{Bool, true, false, cond}
 use mathlib.Core.List.{List, [], ◌∷◌, map}
@@ -14,10 +15,6 @@ use Rattle.lists.specs.Lists.{sum, before, Run, expand, holder}
 use Rattle.lists.proofs.Laws.{Walk, walk_in, walk_end, pos_of_lt_mul, holder_hit, holder_miss, length_run, get_or_in, get_or_past}
 use Rattle.lists.proofs.Places.{holder_holds, holds_below}
 use Rattle.runs.specs.declared.Hit.{Hit}
-use Rattle.runs.specs.declared.Looked.{Looked}
-use Rattle.runs.specs.declared.Looked.TheVariants as looked
-use Rattle.runs.specs.declared.Lookup.{Lookup}
-use Rattle.runs.specs.declared.Lookup.TheVariants.{At, Outside}
 use Rattle.runs.specs.Runs.{runs_of, per_sample, sample_at, entry_of, hit_of, looked_up}
 
 abbrev counts_of : List Run → List ℕ
@@ -63,14 +60,14 @@ module _ {rs : List Run} {r : Run} {rest : List Run} {n p : ℕ} (a : Passed rs 
 
   -- what is found l past the start of the run ahead
   pub looked_in : {t l : ℕ} → Walk (expand rs) (expand (r ∷ rest)) t p l → l < r.count * r.value
-      → looked.Hit (record { index = p + l / r.value; entry = n + 1; start = t - l % r.value; duration = r.value }) ≡ looked_up rs t
+      → Some (record { index = p + l / r.value; entry = n + 1; start = t - l % r.value; duration = r.value }) ≡ looked_up rs t
   unfolding looked_up hit_of
   looked_in {t} {l} w h =
       let f = walk_in (record { walk = w }) h in
       let k : l / r.value < r.count = (div-lt_iff_lt-mul {y = r.count} (pos_of_lt_mul r.count r.value l h)).1 h in
       let s : t - l % r.value ≡ before (expand rs) (p + l / r.value) = omega (arith, f.start, ap (before (expand rs)) f.place) in
       rw (lt-ltb _ _ f.below, f.place)
-      (λ i. looked.Hit (record {
+      (λ i. Some (record {
         index = p + l / r.value;
         entry = sym (passed_in (l / r.value) k) i;
         start = s i;
@@ -78,42 +75,42 @@ module _ {rs : List Run} {r : Run} {rest : List Run} {n p : ℕ} (a : Passed rs 
       }))
 
 -- what is found where no run is ahead
-pub looked_past : (rs : List Run) {t p l : ℕ} → Walk (expand rs) [] t p l → looked.Outside ≡ looked_up rs t
+pub looked_past : (rs : List Run) {t p l : ℕ} → Walk (expand rs) [] t p l → None ≡ looked_up rs t
 unfolding looked_up
 looked_past rs w = rw (le-ltb _ _ (walk_end w)) refl
 
 -- what is found at t, and what it says of t where nothing is
-pub looked_known : (rs : List Run) (t : ℕ) (h : Hit) → looked_up rs t ≡ looked.Hit h → (t < sum (expand rs)) × (h ≡ hit_of rs t)
+pub looked_known : (rs : List Run) (t : ℕ) (h : Hit) → looked_up rs t ≡ Some h → (t < sum (expand rs)) × (h ≡ hit_of rs t)
 unfolding looked_up
 looked_known rs t h e = elim (dec_lt t (sum (expand rs))) [
-  | yes l ↦ let o : looked_up rs t ≡ looked.Hit (hit_of rs t) = rw (lt-ltb t (sum (expand rs)) l) refl in (l, cc)
+  | yes l ↦ let o : looked_up rs t ≡ Some (hit_of rs t) = rw (lt-ltb t (sum (expand rs)) l) refl in (l, cc)
   | no l ↦
       let k : sum (expand rs) ≤ t = omega arith in
-      let o : looked_up rs t ≡ looked.Outside = rw (le-ltb t (sum (expand rs)) k) refl in
+      let o : looked_up rs t ≡ None = rw (le-ltb t (sum (expand rs)) k) refl in
       let z : ◌≡◌ {A = ℕ} 0 1 = cc in
       absurd (omega arith)
 ]
 
-pub looked_outside : (rs : List Run) (t : ℕ) → looked_up rs t ≡ looked.Outside → sum (expand rs) ≤ t
+pub looked_outside : (rs : List Run) (t : ℕ) → looked_up rs t ≡ None → sum (expand rs) ≤ t
 unfolding looked_up
 looked_outside rs t e = elim (dec_lt t (sum (expand rs))) [
   | yes l ↦
-      let o : looked_up rs t ≡ looked.Hit (hit_of rs t) = rw (lt-ltb t (sum (expand rs)) l) refl in
+      let o : looked_up rs t ≡ Some (hit_of rs t) = rw (lt-ltb t (sum (expand rs)) l) refl in
       let z : ◌≡◌ {A = ℕ} 0 1 = cc in
       absurd (omega arith)
   | no l ↦ omega arith
 ]
 
 -- the index alone of what is found
-unfoldable pub index_in : Looked → Lookup
-index_in (looked.Hit h) = At h.index
-index_in looked.Outside = Outside
+unfoldable pub index_in : Option Hit → Option ℕ
+index_in (Some h) = Some h.index
+index_in None = None
 
 pub index_looked : (s : List ℕ) (t : ℕ) → index_in (looked_up (runs_of s) t) ≡ sample_at (per_sample s) t
 unfolding index_in looked_up hit_of sample_at per_sample
 index_looked s t = by (ltb t (sum (expand (runs_of s))))
   where
-    by : (b : Bool) → index_in (cond b (looked.Hit (hit_of (runs_of s) t)) looked.Outside) ≡ cond b (At (holder (expand (runs_of s)) t)) Outside
+    by : (b : Bool) → index_in (cond b (Some (hit_of (runs_of s) t)) None) ≡ cond b (Some (holder (expand (runs_of s)) t)) None
     by true = refl
     by false = refl
 

@@ -1,6 +1,7 @@
 -- What document 01 says in sentences of the definitions that compute, run by run or sample by sample: when a table counts n samples, when a total is over, which
 -- sample holds a media time, and what the least duration is.
 -- Assumes nothing.
+use Rattle.std.specs.Prelude.{Some, None}
 use Prim.Native.Nat.{ℕ, zero, suc, ◌-◌, ◌≤◌, ◌<◌}
 use mathlib.Core.Path.{◌≡◌, sym, ap, ◌∙◌}
 use mathlib.Core.Bool.{true, false, cond}
@@ -17,7 +18,6 @@ use Rattle.lists.specs.Lists.{sum, Run, expand, holder, Holds}
 use Rattle.lists.proofs.Laws.{length_run}
 use Rattle.lists.proofs.Places.{holder_holds, holder_only, holds_below}
 use Rattle.lists.proofs.Booleans.{cond_unless}
-use Rattle.runs.specs.declared.Lookup.TheVariants.{At, Outside}
 use Rattle.runs.specs.Runs.{runs_of, per_sample, composition_offset, sample_at, lesser_of, least_of}
 use Rattle.runs.specs.Computed.{counting}
 use Rattle.runs.proofs.Leasts.{lesser_none, lesser_other, lesser_both}
@@ -68,26 +68,26 @@ offset_absent i = ap signed32 (ap (λ x. get_or x i 0) (sym (spread_in [])) ∙ 
 
 -- ---- "the n with decode time ≤ t < decode time plus duration"
 
-pub sample_in : (ds : List ℕ) (t : ℕ) → t < sum ds → sample_at ds t ≡ At (holder ds t)
+pub sample_in : (ds : List ℕ) (t : ℕ) → t < sum ds → sample_at ds t ≡ Some (holder ds t)
 unfolding sample_at
 sample_in ds t h = rw (lt-ltb t (sum ds) h)
 
-pub sample_past : (ds : List ℕ) (t : ℕ) → sum ds ≤ t → sample_at ds t ≡ Outside
+pub sample_past : (ds : List ℕ) (t : ℕ) → sum ds ≤ t → sample_at ds t ≡ None
 unfolding sample_at
 sample_past ds t h = rw (le-ltb t (sum ds) h)
 
 -- what is answered holds t, so its duration is not 0
-pub sample_holds : (ds : List ℕ) (t i : ℕ) → sample_at ds t ≡ At i → Holds ds t i
+pub sample_holds : (ds : List ℕ) (t i : ℕ) → sample_at ds t ≡ Some i → Holds ds t i
 sample_holds ds t i e = elim (dec_lt t (sum ds)) [
   | yes l ↦ let o = sample_in ds t l in let q : holder ds t ≡ i = cc in rw q at (holder_holds ds t l)
   | no l ↦ let o = sample_past ds t (omega arith) in let z : ◌≡◌ {A = ℕ} 0 1 = cc in absurd (omega arith)
 ]
 
 -- and whatever holds t is answered
-pub sample_only : (ds : List ℕ) (t i : ℕ) → Holds ds t i → sample_at ds t ≡ At i
-sample_only ds t i h = sample_in ds t (holds_below ds t i h).0 ∙ ap At (sym (holder_only ds t i h))
+pub sample_only : (ds : List ℕ) (t i : ℕ) → Holds ds t i → sample_at ds t ≡ Some i
+sample_only ds t i h = sample_in ds t (holds_below ds t i h).0 ∙ ap Some (sym (holder_only ds t i h))
 
-pub outside_known : (ds : List ℕ) (t : ℕ) → sample_at ds t ≡ Outside → sum ds ≤ t
+pub outside_known : (ds : List ℕ) (t : ℕ) → sample_at ds t ≡ None → sum ds ≤ t
 outside_known ds t e = elim (dec_lt t (sum ds)) [
   | yes l ↦ let o = sample_in ds t l in let z : ◌≡◌ {A = ℕ} 0 1 = cc in absurd (omega arith)
   | no l ↦ omega arith

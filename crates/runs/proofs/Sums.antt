@@ -1,7 +1,9 @@
 -- The loop of `total_duration`: what is added and what the rest expands to make up all.
 -- Assumes nothing.
+use Rattle.std.specs.Prelude.{Some, None}
 use Prim.Native.Nat.{ℕ, ◌+◌, ◌*◌, ◌≤◌, ◌<◌}
-use mathlib.Core.Path.{◌≡◌, ap, ◌∙◌}
+use mathlib.Core.Path.{◌≡◌, refl, ap, ◌∙◌}
+use mathlib.Core.Bool.{Bool, true, false, cond}
 use mathlib.Core.List.{List}
 use native.Mathlib.Omega.{arith}
 use lib.ListN.{length, drop}
@@ -17,3 +19,18 @@ adds_next t total all {n} {v} h p q a = omega (arith, ap sum (spread_next t h p 
 
 pub adds_end : (t : List ℕ) (total all : ℕ) → length t < 8 → total + sum (expand (runs_in t)) ≡ all → total ≡ all
 adds_end t total all h a = omega (arith, ap sum (spread_none t h))
+
+-- a sum beside whether it stands
+pub total_where : {b : Bool} {n m : ℕ} → b ≡ true → n ≡ m → Some n ≡ cond b (Some m) None
+total_where e f = rw (e, f)
+
+pub total_unless : {b : Bool} (m : ℕ) → b ≡ false → None ≡ cond b (Some m) None
+total_unless m e = rw e
+
+pub total_told : (b : Bool) {n m : ℕ} → Some n ≡ cond b (Some m) None → (b ≡ true) × (n ≡ m)
+total_told true e = (refl, cc)
+total_told false e = let z : ◌≡◌ {A = ℕ} 0 1 = cc in absurd (omega arith)
+
+pub total_untold : (b : Bool) (m : ℕ) → None ≡ cond b (Some m) None → b ≡ false
+total_untold true m e = let z : ◌≡◌ {A = ℕ} 0 1 = cc in absurd (omega arith)
+total_untold false m e = refl

@@ -1,13 +1,9 @@
 -- Tables of runs: stts ("sample count, duration") and ctts ("sample count, signed offset").
-use Rattle.std.specs.Prelude.{ℕ, suc, min, cond, List, [], ◌∷◌, map, get_or, ltb, eqb, ℤ}
+use Rattle.std.specs.Prelude.{ℕ, suc, min, cond, List, [], ◌∷◌, map, get_or, ltb, eqb, ℤ, Option, Some, None}
 use Rattle.bigendian.specs.BigEndian.{u32_at, signed32}
 use Rattle.lists.specs.Lists.{sum, before, Run, expand, holder}
 use Rattle.lists.specs.Entries.{rows_of, entries}
-use Rattle.runs.specs.declared.Lookup.{Lookup}
-use Rattle.runs.specs.declared.Lookup.TheVariants.{At, Outside}
 use Rattle.runs.specs.declared.Hit.{Hit}
-use Rattle.runs.specs.declared.Looked.{Looked}
-use Rattle.runs.specs.declared.Looked.TheVariants as looked
 use Rattle.runs.specs.declared.Timing.{Timing}
 
 -- an entry: how many samples, and the number that each of them has
@@ -32,8 +28,8 @@ composition_offset s i = signed32 (get_or (per_sample s) i 0)
 
 -- the index, from 0, of the sample whose media times hold t: "decode time ≤ t < decode time plus duration". There is one where t is below the
 -- total, and only one (`sample_holds` and `sample_only` of `proofs/Sentences.antt`)
-unfoldable pub sample_at : List ℕ → ℕ → Lookup
-sample_at ds t = cond (ltb t (sum ds)) (At (holder ds t)) Outside
+unfoldable pub sample_at : List ℕ → ℕ → Option ℕ
+sample_at ds t = cond (ltb t (sum ds)) (Some (holder ds t)) None
 
 -- document 02: "the position, from 1, of the entry that holds the answered sample": of the sample with index i
 unfoldable pub entry_of : List Run → ℕ → ℕ
@@ -45,8 +41,8 @@ hit_of rs t =
     let i = holder (expand rs) t in
     record { index = i; entry = entry_of rs i; start = before (expand rs) i; duration = get_or (expand rs) i 0 }
 
-unfoldable pub looked_up : List Run → ℕ → Looked
-looked_up rs t = cond (ltb t (sum (expand rs))) (looked.Hit (hit_of rs t)) looked.Outside
+unfoldable pub looked_up : List Run → ℕ → Option Hit
+looked_up rs t = cond (ltb t (sum (expand rs))) (Some (hit_of rs t)) None
 
 -- the decode time ("sum of durations before it") and the duration of the sample with index i, from 0
 unfoldable pub timing_of : List ℕ → ℕ → Timing

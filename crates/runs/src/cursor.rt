@@ -50,20 +50,13 @@ pub fn run_ready(table: &[u8], c: RunCursor) -> RunCursor
     r
 }
 
-// How many of a run's samples remain after some of them; 0 where there are no more.
-fn remaining(count: u32, passed: u32) -> u32
-    ensures { result ≡ count - passed }
-{
-    if passed < count { count - passed } else { 0 }
-}
-
 // Past some samples of the run.
 pub fn run_pass(c: RunCursor, passed: u32) -> RunCursor
     ensures { result ≡ past_run passed c }
 {
     RunCursor {
         at: c.at,
-        count: remaining(c.count, passed),
+        count: c.count.saturating_sub(passed),
         each: c.each,
     }
 }

@@ -1,6 +1,6 @@
 -- The index of a track, and the questions put by a handle and it: exact for the film and track that was opened and the index that was filled of
 -- them, and safe for any other.
-use Rattle.std.specs.Prelude.{ℕ, ◌-◌, ◌*◌, ◌≤◌, ◌<◌, ◌^◌, ◌≡◌, List, ◌++◌, length, get_or, take}
+use Rattle.std.specs.Prelude.{ℕ, ◌-◌, ◌*◌, ◌≤◌, ◌<◌, ◌^◌, ◌≡◌, List, ◌++◌, length, get_or, take, Result, Ok, Err}
 use Rattle.rates.specs.Rates.{round_up}
 use Rattle.structure.specs.declared.source.Source.{Source}
 use Rattle.runs.specs.Runs.{runs_of}
@@ -10,11 +10,10 @@ use Rattle.places.specs.Places.{part_in}
 use Rattle.movie.specs.Rooms.{no_room, room_after}
 use Rattle.questions.specs.Samples.{Samples}
 use Rattle.questions.specs.declared.samples.Sample.{Sample}
-use Rattle.questions.specs.declared.samples.SampleAnswer.{SampleAnswer}
-use Rattle.questions.specs.declared.samples.SampleAnswer.TheVariants as sample
+use Rattle.refusals.specs.declared.Refusal.{Refusal}
+use Rattle.refusals.specs.declared.Refusal.TheVariants.{Outside, NoRoom}
 use Rattle.time_questions.specs.Times.{SampleAt}
-use Rattle.time_questions.specs.declared.NumberAnswer.{NumberAnswer}
-use Rattle.time_questions.specs.declared.NumberAnswer.TheVariants as number
+use Rattle.time_questions.specs.declared.Numbered.{Numbered}
 use Rattle.opened.specs.Opened.{Opens}
 use Rattle.opened.specs.declared.Opened.{Opened}
 use Rattle.checkpoints.specs.Points.{point_numbers}
@@ -48,17 +47,17 @@ Indexes s h index = take (index_length h) index ≡ index_numbers s h
 
 -- the question's own promise where the handle is of the film lent and the index is theirs (`right`); too short an index is refused 16. Of any
 -- other the answer may differ from one correct program to another; of it holds what the other fields say: the size, say, never depends on the index
-pub record SampleByIndex (s : List ℕ) (h : Opened) (index : List ℕ) (n : ℕ) (r : SampleAnswer) : Type 0 where
+pub record SampleByIndex (s : List ℕ) (h : Opened) (index : List ℕ) (n : ℕ) (r : Result Sample Refusal) : Type 0 where
   pub right : (w : Source) (id : ℕ) → Opens s w id h → Indexes s h index → Samples s w id n r
-  pub short : length index < index_length h → r ≡ sample.Refused 16
-  pub elsewhere : index_length h ≤ length index → (k : ℕ) → r ≡ sample.Refused k → k ≡ 15
-  pub few : (x : Sample) → r ≡ sample.Found x → (0 < n) × (n ≤ h.samples)
-  pub low : (x : Sample) → r ≡ sample.Found x → (x.decode < 2 ^ 32) × (x.chunk ≤ h.chunks) × (x.offset < 2 ^ 63)
-  pub size : (x : Sample) → r ≡ sample.Found x → x.size ≡ get_or (sizes (part_in s h.tables.stsz)) (n - 1) 0
+  pub short : length index < index_length h → r ≡ Err NoRoom
+  pub elsewhere : index_length h ≤ length index → (e : Refusal) → r ≡ Err e → e ≡ Outside
+  pub few : (x : Sample) → r ≡ Ok x → (0 < n) × (n ≤ h.samples)
+  pub low : (x : Sample) → r ≡ Ok x → (x.decode < 2 ^ 32) × (x.chunk ≤ h.chunks) × (x.offset < 2 ^ 63)
+  pub size : (x : Sample) → r ≡ Ok x → x.size ≡ get_or (sizes (part_in s h.tables.stsz)) (n - 1) 0
 
-pub record NumberByIndex (s : List ℕ) (h : Opened) (index : List ℕ) (t : MediaTime) (r : NumberAnswer) : Type 0 where
+pub record NumberByIndex (s : List ℕ) (h : Opened) (index : List ℕ) (t : MediaTime) (r : Result Numbered Refusal) : Type 0 where
   pub right : (w : Source) (id : ℕ) → Opens s w id h → Indexes s h index → SampleAt s w id t r
-  pub short : length index < index_length h → r ≡ number.Refused 16
-  pub elsewhere : index_length h ≤ length index → (k : ℕ) → r ≡ number.Refused k → k ≡ 15
-  pub few : (n entry : ℕ) → r ≡ number.Number n entry
-      → (0 < n) × (n ≤ h.samples) × (0 < entry) × (entry ≤ length (runs_of (part_in s h.tables.stts)))
+  pub short : length index < index_length h → r ≡ Err NoRoom
+  pub elsewhere : index_length h ≤ length index → (e : Refusal) → r ≡ Err e → e ≡ Outside
+  pub few : (n : Numbered) → r ≡ Ok n
+      → (0 < n.sample) × (n.sample ≤ h.samples) × (0 < n.entry) × (n.entry ≤ length (runs_of (part_in s h.tables.stts)))

@@ -5,7 +5,7 @@ use mathlib.Core.Path.{◌≡◌, refl, ap, ◌∙◌}
 use mathlib.Core.Logic.{◌⊎◌, inl, inr, ⊎_elim}
 use mathlib.Core.List.{List, [], ◌∷◌}
 use mathlib.Core.Bool.{Bool, true, false, cond, not, ◌&&◌, ◌||◌}
-use lib.ListN.{length, get_or, length-map, get_or-eq_default}
+use lib.ListN.{length, length-map, get_or-eq_default}
 use lib.Dec.{eqb, ltb, eqb-suc-zero}
 use borrow.Author.Tests.{ltb-false, leb-true, eqb-true, eqb-false, not-false, eq-eqb, ne_eqb}
 use native.Mathlib.Omega.{arith}
@@ -17,11 +17,11 @@ use Rattle.atoms.specs.Atoms.{kind_of, header_of, body_of, body_in, atoms, of_ki
 use Rattle.atoms.specs.Tree.{everywhere}
 use Rattle.atoms.proofs.Into.{all_kind, everywhere_here, everywhere_into}
 use Rattle.leaves.specs.declared.Form.TheVariants.{Entries, Sizes}
-use Rattle.leaves.specs.declared.LeafRule.TheVariants.{Size}
+use Rattle.leaves.specs.Leaves.{Size}
 use Rattle.presence.specs.Present.{one, at_most_one, one_offsets, tables, present}
 use Rattle.leaves.specs.Leaves.{form_of, holds_entries, size_ok, leaf_ok, atom_ok, leaves_ok, sized_entries}
 use Rattle.structure.specs.Rows.{some}
-use Rattle.structure.specs.Track.{mdia_of, minf_of, stbl_of, table_of, offset_table, elst_of, subtype_of, samples_of, chunks_of, edits_of, descriptions_of, dref_of, references_of, profile_of}
+use Rattle.structure.specs.Track.{mdia_of, minf_of, stbl_of, table_of, offset_table, elst_of, subtype_of, samples_of, chunks_of, edits_of, descriptions_of, dref_of, profile_of}
 use Rattle.structure.specs.Movie.{moov_of, tracks_of, track_at, movie_profile}
 use Rattle.limits.specs.Limits.{over_limits, too_many}
 use Rattle.structure.specs.declared.source.Source.{Source}

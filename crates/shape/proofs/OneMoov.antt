@@ -1,6 +1,6 @@
 -- The walk over a file's tree says what rows 4 and 5 ask of the moov: a file has no read leaves of its own, and one moov.
 -- Assumes nothing.
-use Prim.Native.Nat.{ℕ, zero, suc}
+use Prim.Native.Nat.{ℕ}
 use mathlib.Core.Path.{◌≡◌, refl, sym, ap, ◌∙◌}
 use mathlib.Core.List.{List, [], ◌∷◌}
 use mathlib.Core.Bool.{Bool, true, false, cond, ◌&&◌}
@@ -14,8 +14,8 @@ use Rattle.atoms.specs.Tree.{all, everywhere}
 use Rattle.atoms.proofs.Laws.{below, everywhere_open}
 use Rattle.leaves.specs.declared.Form.{Form}
 use Rattle.leaves.specs.declared.Form.TheVariants.{Skipped}
-use Rattle.leaves.specs.declared.LeafRule.{LeafRule}
-use Rattle.leaves.specs.declared.LeafRule.TheVariants.{Version, Size}
+use Rattle.leaves.specs.Leaves.{LeafRule}
+use Rattle.leaves.specs.Leaves.{Version, Size}
 use Rattle.leaves.specs.Leaves.{form_of, skipped, version_ok, size_ok, leaf_ok, atom_ok, leaves_ok}
 use Rattle.presence.specs.Present.{one, present}
 use Rattle.tree.specs.declared.Checks.{Checks}

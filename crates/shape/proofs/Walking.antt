@@ -2,11 +2,11 @@
 -- Assumes nothing.
 use Prim.Native.Nat.{ℕ, ◌≤◌, ◌<◌}
 use mathlib.Core.Path.{◌≡◌, refl, sym, ap, ◌∙◌}
-use mathlib.Core.List.{List, [], ◌∷◌}
-use mathlib.Core.Bool.{Bool, true, false}
+use mathlib.Core.List.{List, ◌∷◌}
+use mathlib.Core.Bool.{Bool}
 use native.Mathlib.Omega.{arith}
 use native.Mathlib.Decide.{dec_le}
-use borrow.Author.Tests.{lt-ltb, le-ltb}
+use borrow.Author.Tests.{lt-ltb}
 use lib.ListN.{length, take, drop}
 use lib.Dec.{ltb}
 use Rattle.bigendian.specs.BigEndian.{u32_at}
@@ -23,8 +23,11 @@ use Rattle.places.specs.declared.trak.Trak.{Trak}
 use Rattle.places.specs.declared.moov.Traks.{Traks}
 use Rattle.places.proofs.Movies.{TraksBefore, traks_start, traks_end, traks_next}
 use Rattle.shape.specs.MovieRows.{movie_rows, movie_refusal}
-use Rattle.shape.specs.Judging.{Walks, refused_by, Judges}
-use Rattle.shape.specs.declared.Judged.{Judged}
+use Rattle.shape.specs.Judging.{Walks, Judges}
+use Rattle.shape.specs.declared.Walked.{Walked}
+use Rattle.refusals.specs.declared.Refusal.{Refusal}
+use Rattle.refusals.specs.Refusals.{number, code}
+use Rattle.std.specs.Prelude.{Err}
 use Rattle.shape.proofs.Tracks.{movie_by_tracks}
 
 -- before the rest t of the body
@@ -36,10 +39,10 @@ pub walk_start : (wide : Bool) (s body : List ℕ) (r : Traks) → r ≡ no_trak
 walk_start wide s body r e = record { refusals = earlier_zero 0 _ refl; traks = rw e (traks_start s (tracks_of body)) }
 
 module _ (wide : Bool) (s body t : List ℕ) (n : ℕ) (e : n ≡ size_in moov t) (found : ℕ) (r : Traks) (w : Walking wide s body t found r) where
-  pub walk_end : n < 8 → Walks wide s body (record { refusal = found; traks = r })
-  walk_end h = record {
-    refusal = sym (found_end (movie_rows wide) found t n e h) ∙ w.refusals;
-    traks = traks_end s (tracks_of body) (tracks_of t) r (tracks_none t n e h) w.traks;
+  pub walk_end : (q : Walked) → code q.refusal ≡ found → q.traks ≡ r → n < 8 → Walks wide s body q
+  walk_end q f g h = record {
+    refusal = f ∙ sym (found_end (movie_rows wide) found t n e h) ∙ w.refusals;
+    traks = rw g (traks_end s (tracks_of body) (tracks_of t) r (tracks_none t n e h) w.traks);
   }
 
   module _ (h : 8 ≤ n) where
@@ -71,5 +74,5 @@ pub judged_by : (wide : Bool) (m b : List ℕ) (own found new : ℕ) → b ≡ m
     → new ≡ movie_refusal wide m
 judged_by wide m b own found new e o f g = g ∙ rw (o, f, e) (sym (movie_by_tracks wide m))
 
-pub judged_refused : (s : List ℕ) (n k : ℕ) (r : Judged) → r ≡ refused_by k → k ≡ n → (k ≡ 0 → ⊥) → Judges s n r
-judged_refused s n k r e f z = rw e (record { refusal = f; movie = λ q. absurd (z q); none = λ q. refl })
+pub judged_refused : (s : List ℕ) (n : ℕ) (e : Refusal) → number e ≡ n → Judges s n (Err e)
+judged_refused s n e f = record { refusal = f; movie = λ m q. absurd (cc) }

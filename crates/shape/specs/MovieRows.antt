@@ -4,7 +4,7 @@ use Rattle.std.specs.Prelude.{ℕ, List, [], ◌∷◌, Bool}
 use Rattle.atoms.specs.Kinds.{file, moov}
 use Rattle.atoms.specs.Atoms.{filled}
 use Rattle.atoms.specs.Tree.{everywhere}
-use Rattle.leaves.specs.declared.LeafRule.TheVariants.{Version, Size}
+use Rattle.leaves.specs.Leaves.{Version, Size}
 use Rattle.leaves.specs.Leaves.{leaves_ok}
 use Rattle.structure.specs.Movie.{moov_of, tracks_of}
 use Rattle.limits.specs.Limits.{over_limits, too_many}

@@ -2,11 +2,12 @@
 #![tactic(auto)]
 
 ghost use Rattle.std.specs.Prelude.{◌≡◌, length, ltb};
+ghost use Rattle.refusals.specs.Refusals.{code};
 ghost use Rattle.structure.specs.Rows.{of_whole};
 ghost use Rattle.structure.specs.ByTracks.{of_track};
 ghost use Rattle.structure.specs.Movie.{tracks_of, movie_profile};
 ghost use Rattle.places.specs.Places.{part_in, AreParts};
-ghost use Rattle.shape.specs.Judging.{Walks, JudgesMovie, refused_by, Judges};
+ghost use Rattle.shape.specs.Judging.{Walks, JudgesMovie, Judges};
 ghost use Rattle.shape.specs.Refusals.{file_too_long, one_moov, wrong_atoms};
 ghost use Rattle.shape.specs.MovieRows.{filled_tree, versioned_movie, sized_movie, movie_rows, refusal_of};
 
@@ -14,10 +15,11 @@ use atoms::{kinds, size_in};
 use bigendian::u32_at;
 use leaf_checks::{is_profile_sized, is_wrong_track_size};
 use limits::{is_over_limits, is_too_many};
-use places::moov::{Movie, MovieHeads, Traks, movie_heads, no_traks, with_trak};
+use places::moov::{Movie, Traks, movie_heads, no_traks, with_trak};
 use places::trak::{Parts, trak_of};
 use places::{Part, body_part, moov_part, part_of};
 use presence::both;
+use refusals::Refusal;
 use structure::source::Source;
 use structure::{earlier_of, either};
 use tree::check_tree;
@@ -76,41 +78,41 @@ fn own_refusal(
     sizes: bool,
     profile: &[u8],
     tracks: usize,
-) -> u32
+) -> Result<(), Refusal>
     requires { (versions ≡ versioned_movie wide moov.now) × (sizes ≡ sized_movie wide moov.now) × (profile.now ≡ movie_profile moov.now) × (ltb 16 tracks ≡ ltb 16 (length (tracks_of moov.now))) }
-    ensures { result ≡ of_whole (movie_rows wide) moov.now }
+    ensures { code result ≡ of_whole (movie_rows wide) moov.now }
 {
     if !versions {
-        return 4;
+        return Err(Refusal::UnknownVersion);
     }
     if !both(sizes, is_profile_sized(profile)) {
-        return 5;
+        return Err(Refusal::WrongSize);
     }
     if is_too_many(tracks, profile) {
-        return 6;
+        return Err(Refusal::OverLimits);
     }
-    0
+    Ok(())
 }
 
 // The refusal that a track gives by itself, from the body of its trak and its parts.
-fn track_refusal(trak: &[u8], parts: Parts, wide: bool) -> u32
+fn track_refusal(trak: &[u8], parts: Parts, wide: bool) -> Result<(), Refusal>
     requires { AreParts trak.now parts }
-    ensures { result ≡ of_track (movie_rows wide) trak.now }
+    ensures { code result ≡ of_track (movie_rows wide) trak.now }
 {
     let profile = part_of(trak, parts.profile);
     if is_wrong_track_size(trak, parts, profile) {
-        return 5;
+        return Err(Refusal::WrongSize);
     }
     if is_over_limits(trak, parts, profile) {
-        return 6;
+        return Err(Refusal::OverLimits);
     }
-    0
+    Ok(())
 }
 
-// The traks of a movie, and the earliest refusal that a track gives by itself; 0 where there is none.
+// The traks of a movie, and the earliest refusal that a track gives by itself.
 #[derive(Clone, Copy)]
 struct Walked {
-    pub refusal: u32,
+    pub refusal: Result<(), Refusal>,
     pub traks: Traks,
 }
 
@@ -121,7 +123,7 @@ fn walk_traks(lent: &[u8], moov: Part, wide: bool) -> Walked
     let body = part_of(lent, moov);
     let mut t = body;
     let mut at = moov.at;
-    let mut refusal = 0;
+    let mut refusal = Ok(());
     let mut traks = no_traks();
     loop {
         let n = size_in(t, kinds::MOOV);
@@ -140,31 +142,14 @@ fn walk_traks(lent: &[u8], moov: Part, wide: bool) -> Walked
     }
 }
 
-// What judging a film finds: its refusal, 0 where it has none, and then the parts of its movie; with a refusal the empty movie.
-#[derive(Clone, Copy)]
-pub struct Judged {
-    pub refusal: u32,
-    pub movie: Movie,
-}
-
-// A film that is refused.
-pub fn refused(n: u32) -> Judged
-    ensures { result ≡ refused_by n }
-{
-    let none = Part { at: 0, len: 0 };
-    let heads = MovieHeads {
-        mvhd: none,
-        profile: none,
-    };
-    let traks = no_traks();
-    Judged {
-        refusal: n,
-        movie: Movie { heads, traks },
-    }
-}
-
 // Of a movie, from the place of its moov's body: the refusal is the earliest of its own and of each track's.
-fn judge_movie(lent: &[u8], moov: Part, wide: bool, versions: bool, sizes: bool) -> Judged
+fn judge_movie(
+    lent: &[u8],
+    moov: Part,
+    wide: bool,
+    versions: bool,
+    sizes: bool,
+) -> Result<Movie, Refusal>
     requires { (versions ≡ versioned_movie wide (part_in lent.now moov)) × (sizes ≡ sized_movie wide (part_in lent.now moov)) }
     ensures { JudgesMovie wide lent.now (part_in lent.now moov) result }
 {
@@ -180,29 +165,23 @@ fn judge_movie(lent: &[u8], moov: Part, wide: bool, versions: bool, sizes: bool)
         part_of(lent, profile),
         traks.count,
     );
-    let refusal = earlier_of(own, walked.refusal);
-    if refusal != 0 {
-        return refused(refusal);
-    }
-    Judged {
-        refusal: 0,
-        movie: Movie { heads, traks },
-    }
+    earlier_of(own, walked.refusal)?;
+    Ok(Movie { heads, traks })
 }
 
-// Judges a film: its refusal is the first of 1 to 6 that applies, or 0.
-pub fn judge(lent: &[u8], source: Source) -> Judged
+// Judges a film: its refusal is the first of 1 to 6 that applies; where none does, the parts of its movie.
+pub fn judge(lent: &[u8], source: Source) -> Result<Movie, Refusal>
     ensures { Judges lent.now (refusal_of source lent.now) result }
 {
     if is_too_long(lent, source) {
-        return refused(1);
+        return Err(Refusal::TooLong);
     }
     let tree = check_tree(lent, kinds::FILE, FILE_LEVELS, source.alone);
     if has_wrong_atoms(lent, source, tree.filled) {
-        return refused(2);
+        return Err(Refusal::BrokenAtom);
     }
     if !tree.present {
-        return refused(3);
+        return Err(Refusal::AtomCount);
     }
     judge_movie(
         lent,

@@ -13,8 +13,9 @@ use Rattle.lists.proofs.Booleans.{and_both}
 use Rattle.leb128.specs.Numbers.{groups, groups_in, value, cut, same, written, values, unended, cut_short}
 use Rattle.leb128.proofs.Cuts.{same_true, joined, joined_cut}
 use Rattle.slip.specs.Slip.{Fault, at, rest_fault, slip_fault, malformed, outcome_of, slip_in, numbers_for, room_for, Reads}
-use Rattle.slip.specs.declared.SlipRead.{SlipRead}
-use Rattle.slip.specs.declared.SlipRead.TheVariants.{Malformed}
+use Rattle.slip.specs.Slip.{SlipRead}
+use Rattle.std.specs.Prelude.{Ok, Err}
+use Rattle.slip.specs.declared.SlipError.TheVariants.{Malformed, NoRoom}
 use Rattle.slip.proofs.Promises.{numbers_only, reads_malformed}
 
 -- bytes whose first number is 2, so written, begin with 2
@@ -51,5 +52,5 @@ old_as_new bs n room old new narrow wide r s =
     (numbers_only new old (s.numbers ∙ ap (numbers_for (length room)) e ∙ sym r.numbers), s.places ∙ ap (room_for room) e ∙ sym r.places)
 
 -- "the old reader refuses form 2 by 17"
-pub old_refuses : (bs : List ℕ) → get_or bs 0 0 ≡ 2 → (room : List ℕ) (r : SlipRead) (after : List ℕ) → Reads false bs room r after → (r ≡ Malformed 0) × (after ≡ room)
+pub old_refuses : (bs : List ℕ) → get_or bs 0 0 ≡ 2 → (room : List ℕ) (r : SlipRead) (after : List ℕ) → Reads false bs room r after → (r ≡ Err (Malformed 0)) × (after ≡ room)
 old_refuses bs e room r after reads = reads_malformed false bs room r after reads 0 (old_outcome bs e)

@@ -1,11 +1,11 @@
 -- Document 01, "The slip", and document 02, Asks 5 and 9: what a slip is, where bytes go wrong that are none, and what reading one answers.
-use Rattle.std.specs.Prelude.{◌≡◌, Bool, cond, ◌&&◌, List, [], ◌∷◌, ◌++◌, ℕ, suc, ◌+◌, ◌*◌, ◌^◌, ltb, eqb, length, get_or, drop}
+use Rattle.std.specs.Prelude.{◌≡◌, Bool, cond, ◌&&◌, List, [], ◌∷◌, ◌++◌, ℕ, suc, ◌+◌, ◌*◌, ◌^◌, ltb, eqb, length, get_or, drop, map, Result, Ok, Err}
 use Rattle.leb128.specs.Numbers.{value, cut, written, values, cut_short}
 use Rattle.slip_head.specs.declared.Head.{Head}
 use Rattle.slip_head.specs.Bytes.{any_wide, slip_bytes, Rules}
 use Rattle.slip_numbers.specs.Rules.{allowed}
-use Rattle.slip.specs.declared.SlipRead.{SlipRead}
-use Rattle.slip.specs.declared.SlipRead.TheVariants.{Accepted, Malformed, NoRoom}
+use Rattle.slip.specs.declared.SlipError.{SlipError}
+use Rattle.slip.specs.declared.SlipError.TheVariants.{Malformed, NoRoom}
 
 -- ---- where bytes go wrong, number after number
 
@@ -82,11 +82,15 @@ pub record IsSlip (any : Bool) (bs : List ℕ) (h : Head) (pairs : List ℕ) : T
 abbrev pub refused : ℕ → ℕ → List ℕ
 refused number place = number ∷ 0 ∷ 0 ∷ 0 ∷ 0 ∷ 0 ∷ place ∷ []
 
+-- the answer: a slip's numbers, or a refusal
+abbrev pub SlipRead : Type 0
+SlipRead = Result Head SlipError
+
 -- the papers' number and values for each case of the answer; the number is 0 where nothing is refused, and then the place is 0 too
 unfoldable pub slip_read_numbers : SlipRead → List ℕ
-slip_read_numbers (Accepted h) = 0 ∷ h.id ∷ h.scale ∷ h.a ∷ h.b ∷ h.pairs ∷ 0 ∷ []
-slip_read_numbers (Malformed place) = refused 17 place
-slip_read_numbers NoRoom = refused 16 0
+slip_read_numbers (Ok h) = 0 ∷ h.id ∷ h.scale ∷ h.a ∷ h.b ∷ h.pairs ∷ 0 ∷ []
+slip_read_numbers (Err (Malformed place)) = refused 17 place
+slip_read_numbers (Err NoRoom) = refused 16 0
 
 -- "in slip reading 17, then 16": what is returned of bytes, given so many places of room
 unfoldable pub numbers_for : ℕ → Outcome → List ℕ
@@ -97,6 +101,11 @@ numbers_for room (malformed place) = refused 17 place
 unfoldable pub room_for : List ℕ → Outcome → List ℕ
 room_for room (accepted h pairs) = cond (ltb (length room) (length pairs)) room (pairs ++ drop (length pairs) room)
 room_for room (malformed place) = room
+
+-- the same of room whose places hold a number as that function says
+unfoldable pub stored_for : {A : Type 0} → (ℕ → A) → List A → Outcome → List A
+stored_for stored room (accepted h pairs) = cond (ltb (length room) (length pairs)) room (map stored pairs ++ drop (length pairs) room)
+stored_for stored room (malformed place) = room
 
 -- the promise of reading bytes into a room, where any says whether form 2 is read too: the answer r, and the room after it
 pub record Reads (any : Bool) (bs room : List ℕ) (r : SlipRead) (after : List ℕ) : Type 0 where

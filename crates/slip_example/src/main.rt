@@ -1,25 +1,11 @@
 // Writes document 01's slip, reads it back, and has a damaged copy refused.
 #![tactic(auto)]
 
-use slip::{Head, SlipRead};
+use slip::{Head, SlipError};
 use std::io;
 
-fn text(rt: &impl Print, s: &[u8]) -> io::Result<()> {
-    rt.write_all(s)
-}
-
-fn say(rt: &impl Print, words: &[u8], n: u64) -> io::Result<()> {
-    text(rt, words)?;
-    print!(rt; "{n}")
-}
-
-fn hex(rt: &impl Print, b: u8) -> io::Result<()> {
-    text(rt, b" ")?;
-    print!(rt; "{b:02x}")
-}
-
 // Track 1, 600 units a second, media time 24 up to 73: 50 bytes of film from byte 1100 on, and 70 from byte 900 on.
-fn write(out: &mut [u8]) -> usize {
+fn write(out: &mut [u8]) -> Option<usize> {
     let head = Head {
         id: 1,
         scale: 600,
@@ -27,53 +13,46 @@ fn write(out: &mut [u8]) -> usize {
         b: 73,
         pairs: 2,
     };
-    let offset = slip::put_head(out, head, false);
-    let length = leb128::put_number(out, offset, 1100);
-    let offset_2 = leb128::put_number(out, length, 50);
-    let length_2 = leb128::put_number(out, offset_2, 900);
-    leb128::put_number(out, length_2, 70)
+    let mut at = slip::put_head(out, head, false)?;
+    for n in &[1100, 50, 900, 70] {
+        at = leb128::put_number(out, at, *n)?;
+    }
+    Some(at)
 }
 
 fn print_bytes(rt: &impl Print, bytes: &[u8]) -> io::Result<()> {
-    text(rt, b"slip")?;
-    let mut i = 0;
-    while i < bytes.len() {
-        hex(rt, bytes[i])?;
-        i += 1;
+    print!(rt; "slip")?;
+    for byte in bytes {
+        print!(rt; " {byte:02x}")?;
     }
-    text(rt, b"\n")
+    println!(rt)
 }
 
 fn print_head(rt: &impl Print, head: Head) -> io::Result<()> {
-    say(rt, b"track ", head.id)?;
-    say(rt, b", ", head.scale)?;
-    say(rt, b" units a second, media time ", head.a)?;
-    say(rt, b" up to ", head.b)?;
-    text(rt, b"\n")
+    let Head {
+        id,
+        scale,
+        a,
+        b,
+        ..
+    } = head;
+    println!(rt; "track {id}, {scale} units a second, media time {a} up to {b}")
 }
 
 fn print_pair(rt: &impl Print, offset: u32, length: u32) -> io::Result<()> {
-    say(rt, b"", length as u64)?;
-    say(rt, b" bytes of film from byte ", offset as u64)?;
-    text(rt, b" of the file\n")
-}
-
-fn refused(rt: &impl Print, place: usize) -> io::Result<()> {
-    text(rt, b"refused 17 at byte ")?;
-    print!(rt; "{place}")?;
-    text(rt, b" of the slip\n")
+    println!(rt; "{length} bytes of film from byte {offset} of the file")
 }
 
 fn read(rt: &impl Print, bytes: &[u8]) -> io::Result<()> {
     let mut room = [0u32; 4];
     match slip::read_slip(bytes, &mut room) {
-        SlipRead::Accepted(head) => {
+        Ok(head) => {
             print_head(rt, head)?;
             print_pair(rt, room[0], room[1])?;
             print_pair(rt, room[2], room[3])
         }
-        SlipRead::NoRoom => text(rt, b"refused 16\n"),
-        SlipRead::Malformed(place) => refused(rt, place),
+        Err(SlipError::NoRoom) => println!(rt; "refused 16"),
+        Err(SlipError::Malformed(place)) => println!(rt; "refused 17 at byte {place} of the slip"),
     }
 }
 

@@ -6,10 +6,10 @@ ghost use Rattle.leb128.specs.Numbers.{writes};
 ghost use Rattle.leb128.specs.Writing.{put_at, past_put};
 ghost use Rattle.slip_head.specs.Bytes.{form_for, head_numbers};
 
-use leb128::{number_len, put_number};
+use leb128::{number_len, store_number};
 
 // A slip's numbers without its pairs: track ID, time scale, media times a to b, and the number of pairs.
-#[derive(Clone, Copy)]
+#[derive(Clone, Copy, Debug, PartialEq, Eq)]
 pub struct Head {
     pub id: u64,
     pub scale: u64,
@@ -33,18 +33,18 @@ fn form(wide: bool) -> u64
 }
 
 // Writes the numbers before a slip's pairs, the form first, at the beginning of the bytes, and answers the place past them, where the
-// pairs follow; where they do not fit, leaves the bytes as they are and answers 0. The form is 2 where wide: where some number of the
-// slip, those of its pairs included, is 2^32 or more.
-pub fn put_head(out: &mut [u8], head: Head, wide: bool) -> usize
+// pairs follow; where they do not fit, leaves the bytes as they are. The form is 2 where wide: where some number of the slip, those of
+// its pairs included, is 2^32 or more.
+pub fn put_head(out: &mut [u8], head: Head, wide: bool) -> Option<usize>
     ensures { (result ≡ past_put out.old 0 (writes (head_numbers (form_for wide) head []))) × (out.new ≡ put_at out.old 0 (writes (head_numbers (form_for wide) head []))) }
 {
     if out.len() < head_len(head) {
-        return 0;
+        return None;
     }
-    let past_form = put_number(out, 0, form(wide));
-    let id = put_number(out, past_form, head.id);
-    let scale = put_number(out, id, head.scale);
-    let a = put_number(out, scale, head.a);
-    let b = put_number(out, a, head.b);
-    put_number(out, b, head.pairs)
+    let numbers = [form(wide), head.id, head.scale, head.a, head.b, head.pairs];
+    let mut at = 0;
+    for n in &numbers {
+        at = store_number(out, at, *n);
+    }
+    Some(at)
 }

@@ -9,13 +9,16 @@ use native.Mathlib.Decide.{dec_lt}
 use native.Mathlib.Numerals.{add-one}
 use lib.ListN.{length, get_or}
 use borrow.Author.Tests.{lt-ltb, le-ltb, ne_eqb}
-use Rattle.leb128.specs.Reading.{read_at}
-use Rattle.leb128.specs.declared.number.NumberRead.TheVariants.{Good}
+use Rattle.leb128.specs.Reading.{found, read_at}
+use Rattle.std.specs.Prelude.{Ok, Err}
 use Rattle.leb128.proofs.Readings.{after_read, read_last, read_one, read_step}
-use Rattle.slip_numbers.specs.Steps.{run, checked_of}
+use Rattle.slip_numbers.specs.Steps.{Checked, run, checked_of}
 use Rattle.slip_numbers.specs.Ends.{end_of, ends_in, FineAt, FineIn}
-use Rattle.slip_numbers.specs.declared.Checked.TheVariants.{All}
 use Rattle.slip_numbers.proofs.Runs.{allowed_past, check_none, check_good}
+
+-- a check that found all numbers
+abbrev all_at : ℕ → Checked
+all_at end = Ok end
 
 -- what is promised only of a test that holds
 pub no_promise : (P : Type 0) → false ≡ true → P
@@ -80,7 +83,7 @@ fine_join bs from mid to f g x h l = elim (dec_lt x mid) [
 record Whole (bs : List ℕ) (k at : ℕ) : Type 0 where
   pub n : ℕ
   pub len : ℕ
-  pub read : read_at k 16 bs at ≡ Good n (at + len)
+  pub read : read_at k 16 bs at ≡ found n (at + len)
   pub some : k < 4 → 0 < n
   pub within : at + len ≤ length bs
   pub one : ends_in bs at len ≡ 1
@@ -96,7 +99,7 @@ module _ (bs : List ℕ) (from : ℕ) (fine : FineIn bs from (length bs)) (last 
       let e : at - (t + 1) ≡ at + 1 - (suc t + 1) = omega arith in
       subst (λ (x : ℕ). 128 ≤ get_or bs x 0) e (w t (omega arith))
 
-  single : (k at : ℕ) → at < length bs → get_or bs at 0 < 128 → read_at k 16 bs at ≡ Good (get_or bs at 0) (at + 1) → (k < 4 → 0 < get_or bs at 0) → Whole bs k at
+  single : (k at : ℕ) → at < length bs → get_or bs at 0 < 128 → read_at k 16 bs at ≡ found (get_or bs at 0) (at + 1) → (k < 4 → 0 < get_or bs at 0) → Whole bs k at
   single k at h b r s =
       let z : at + 0 ≡ at = omega arith in
       let e = ends_more bs at 0 in
@@ -143,10 +146,10 @@ module _ (bs : List ℕ) (from : ℕ) (fine : FineIn bs from (length bs)) (last 
       rw l (ends_add bs at w.len (length bs - (at + w.len)) ∙ omega (arith, w.one))
 
   -- the bytes from a place on are as many numbers as bytes end one
-  pub all_numbers : (c i prev at : ℕ) → 6 ≤ i → from ≤ at → at ≤ length bs → ends_in bs at (length bs - at) ≡ c → checked_of (run 4 16 bs c i prev at) ≡ All (length bs)
+  pub all_numbers : (c i prev at : ℕ) → 6 ≤ i → from ≤ at → at ≤ length bs → ends_in bs at (length bs - at) ≡ c → checked_of (run 4 16 bs c i prev at) ≡ Ok (length bs)
   all_numbers zero i prev at s a h e = elim (dec_lt at (length bs)) [
     | yes l ↦ absurd (omega (arith, e, cut at (whole 4 at (omega arith) a l (λ t x. absurd (omega arith)))))
-    | no l ↦ let q : at ≡ length bs = omega arith in check_none 4 16 bs 0 i prev at refl ∙ ap All q
+    | no l ↦ let q : at ≡ length bs = omega arith in check_none 4 16 bs 0 i prev at refl ∙ ap (λ (x : ℕ). all_at x) q
   ]
   all_numbers (suc c) i prev at s a h e =
       next (whole 4 at (omega arith) a some (λ t x. absurd (omega arith))) (λ n past. all_numbers c (i + 1) n past (omega arith))
@@ -158,9 +161,9 @@ module _ (bs : List ℕ) (from : ℕ) (fine : FineIn bs from (length bs)) (last 
       ]
 
       IH : Type 0
-      IH = (n past : ℕ) → from ≤ past → past ≤ length bs → ends_in bs past (length bs - past) ≡ c → checked_of (run 4 16 bs c (i + 1) n past) ≡ All (length bs)
+      IH = (n past : ℕ) → from ≤ past → past ≤ length bs → ends_in bs past (length bs - past) ≡ c → checked_of (run 4 16 bs c (i + 1) n past) ≡ Ok (length bs)
 
-      next : Whole bs 4 at → IH → checked_of (run 4 16 bs (suc c) i prev at) ≡ All (length bs)
+      next : Whole bs 4 at → IH → checked_of (run 4 16 bs (suc c) i prev at) ≡ Ok (length bs)
       next w ih =
           let pred : suc c - 1 ≡ c = omega arith in
           check_good 4 16 bs (suc c) i prev at (omega arith) (read_at 4 16 bs at) refl w.n (at + w.len) w.read (allowed_past i prev w.n s)

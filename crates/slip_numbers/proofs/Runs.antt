@@ -11,13 +11,13 @@ use lib.ListN.{length, get_or, drop, length-append}
 use borrow.Author.Tests.{le-leb}
 use lib.Seq.{drop-drop, get_or-drop}
 use Rattle.leb128.specs.Numbers.{groups, writes, Below}
-use Rattle.leb128.specs.Reading.{limit, read_at}
+use Rattle.leb128.specs.Reading.{NumberRead, found, place_of, limit, read_at}
 use Rattle.number_values.specs.Values.{value_of, next_of, values_from}
 use Rattle.slip_numbers.specs.Rules.{allowed}
-use Rattle.slip_numbers.specs.Steps.{NumberRun, all, stopped, prepend, ruled, run, checked_of}
-use Rattle.leb128.specs.declared.number.NumberRead.{NumberRead}
-use Rattle.leb128.specs.declared.number.NumberRead.TheVariants.{Good, Broken, Short}
-use Rattle.slip_numbers.specs.declared.Checked.TheVariants.{All, Stopped}
+use Rattle.slip_numbers.specs.Steps.{NumberRun, all, stopped, prepend, ruled, run, fault_at, checked_of}
+use Rattle.std.specs.Prelude.{Ok, Err}
+use Rattle.leb128.specs.declared.number.NumberFault.{NumberFault}
+use Rattle.slip_numbers.specs.declared.Malformed.{Malformed}
 use Rattle.leb128.proofs.Groups.{Written, number_written}
 use Rattle.leb128.proofs.Readings.{read_good}
 
@@ -32,21 +32,17 @@ module _ (k top : ℕ) (bs : List ℕ) (c i prev at : ℕ) (r : NumberRead) (rea
   unfolding run
   run_by u q = ap (ruled (allowed i prev) at (λ n next. run k top bs c (i + 1) n next)) (sym read ∙ q)
 
-  pub run_good : (n next : ℕ) → r ≡ Good n next → allowed i prev n ≡ true → run k top bs (suc c) i prev at ≡ prepend n (run k top bs c (i + 1) n next)
+  pub run_good : (n next : ℕ) → r ≡ found n next → allowed i prev n ≡ true → run k top bs (suc c) i prev at ≡ prepend n (run k top bs c (i + 1) n next)
   unfolding ruled
-  run_good n next q o = run_by (Good n next) q ∙ rw o
+  run_good n next q o = run_by (found n next) q ∙ rw o
 
-  pub run_fault : (n next : ℕ) → r ≡ Good n next → allowed i prev n ≡ false → run k top bs (suc c) i prev at ≡ stopped at
+  pub run_fault : (n next : ℕ) → r ≡ found n next → allowed i prev n ≡ false → run k top bs (suc c) i prev at ≡ stopped at
   unfolding ruled
-  run_fault n next q o = run_by (Good n next) q ∙ rw o
+  run_fault n next q o = run_by (found n next) q ∙ rw o
 
-  pub run_broken : (p : ℕ) → r ≡ Broken p → run k top bs (suc c) i prev at ≡ stopped p
+  pub run_none : (fault : NumberFault) → r ≡ Err fault → run k top bs (suc c) i prev at ≡ stopped (place_of fault)
   unfolding ruled
-  run_broken p q = run_by (Broken p) q
-
-  pub run_short : (p : ℕ) → r ≡ Short p → run k top bs (suc c) i prev at ≡ stopped p
-  unfolding ruled
-  run_short p q = run_by (Short p) q
+  run_none fault q = run_by (Err fault) q
 
 -- what a run of all its numbers says: they are allowed, as many as asked, and written one after the other from the place to the end
 pub record Ran (k top : ℕ) (bs : List ℕ) (c i prev at : ℕ) (ns : List ℕ) (end : ℕ) : Type 0 where
@@ -83,7 +79,7 @@ run_ran k top bs (suc c) i prev at ns end p t w are e = go (read_at k top bs at)
     IH : Type 0
     IH = (n next : ℕ) (ms : List ℕ) (fin : ℕ) → run k top bs c (i + 1) n next ≡ all ms fin → Ran k top bs c (i + 1) n next ms fin
 
-    tail : (n next : ℕ) → read_at k top bs at ≡ Good n next → allowed i prev n ≡ true → (u : NumberRun) → run k top bs c (i + 1) n next ≡ u → prepend n u ≡ all ns end → IH → Ran k top bs (suc c) i prev at ns end
+    tail : (n next : ℕ) → read_at k top bs at ≡ found n next → allowed i prev n ≡ true → (u : NumberRun) → run k top bs c (i + 1) n next ≡ u → prepend n u ≡ all ns end → IH → Ran k top bs (suc c) i prev at ns end
     tail n next q o (all ms fin) f e' ih =
         let g = read_good top bs at k n next q in
         let len : g.0 ≡ next - at = omega (arith, g.2) in
@@ -94,14 +90,13 @@ run_ran k top bs (suc c) i prev at ns end p t w are e = go (read_at k top bs at)
         (more_ran k top bs c i prev at n next ms fin (subst (λ (x : ℕ). Written k top 9 (drop at bs) n x) len wr) (omega (arith, g.2)) o (ih n next ms fin f))
     tail n next q o (stopped x) f e' ih = absurd (let z : ◌≡◌ {A = ℕ} 0 1 = cc in omega arith)
 
-    test : (n next : ℕ) → read_at k top bs at ≡ Good n next → (f : Bool) → allowed i prev n ≡ f → cond f (prepend n (run k top bs c (i + 1) n next)) (stopped at) ≡ all ns end → IH → Ran k top bs (suc c) i prev at ns end
+    test : (n next : ℕ) → read_at k top bs at ≡ found n next → (f : Bool) → allowed i prev n ≡ f → cond f (prepend n (run k top bs c (i + 1) n next)) (stopped at) ≡ all ns end → IH → Ran k top bs (suc c) i prev at ns end
     test n next q true o e' ih = tail n next q o (run k top bs c (i + 1) n next) refl e' ih
     test n next q false o e' ih = absurd (let z : ◌≡◌ {A = ℕ} 0 1 = cc in omega arith)
 
     go : (r : NumberRead) → read_at k top bs at ≡ r → ruled (allowed i prev) at (λ n next. run k top bs c (i + 1) n next) r ≡ all ns end → IH → Ran k top bs (suc c) i prev at ns end
-    go (Good n next) q e' ih = test n next q (allowed i prev n) refl e' ih
-    go (Broken x) q e' ih = absurd (let z : ◌≡◌ {A = ℕ} 0 1 = cc in omega arith)
-    go (Short x) q e' ih = absurd (let z : ◌≡◌ {A = ℕ} 0 1 = cc in omega arith)
+    go (Ok got) q e' ih = test got.value got.next q (allowed i prev got.value) refl e' ih
+    go (Err fault) q e' ih = absurd (let z : ◌≡◌ {A = ℕ} 0 1 = cc in omega arith)
 
 -- numbers that are allowed are below the bound
 pub pairs_below : (bound : ℕ) (ns : List ℕ) (i prev : ℕ) → Allowed bound i prev ns → Below bound ns
@@ -115,7 +110,7 @@ unfolding checked_of prepend
 checked_prepend n (all ns end) = refl
 checked_prepend n (stopped p) = refl
 
-pub check_none : (k top : ℕ) (bs : List ℕ) (left i prev at : ℕ) → left ≡ 0 → checked_of (run k top bs left i prev at) ≡ All at
+pub check_none : (k top : ℕ) (bs : List ℕ) (left i prev at : ℕ) → left ≡ 0 → checked_of (run k top bs left i prev at) ≡ Ok at
 unfolding checked_of run
 check_none k top bs left i prev at e = rw e
 
@@ -123,20 +118,16 @@ module _ (k top : ℕ) (bs : List ℕ) (left i prev at : ℕ) (h : 0 < left) (r 
   turn : (u : NumberRun) → run k top bs (suc (left - 1)) i prev at ≡ u → checked_of (run k top bs left i prev at) ≡ checked_of u
   turn u e = let s : left ≡ suc (left - 1) = omega arith in ap (λ (x : ℕ). checked_of (run k top bs x i prev at)) s ∙ ap checked_of e
 
-  pub check_good : (n next : ℕ) → r ≡ Good n next → allowed i prev n ≡ true → checked_of (run k top bs left i prev at) ≡ checked_of (run k top bs (left - 1) (i + 1) n next)
+  pub check_good : (n next : ℕ) → r ≡ found n next → allowed i prev n ≡ true → checked_of (run k top bs left i prev at) ≡ checked_of (run k top bs (left - 1) (i + 1) n next)
   check_good n next q o = turn (prepend n (run k top bs (left - 1) (i + 1) n next)) (run_good k top bs (left - 1) i prev at r read n next q o) ∙ checked_prepend n (run k top bs (left - 1) (i + 1) n next)
 
-  pub check_fault : (n next : ℕ) → r ≡ Good n next → allowed i prev n ≡ false → checked_of (run k top bs left i prev at) ≡ Stopped at
+  pub check_fault : (n next : ℕ) → r ≡ found n next → allowed i prev n ≡ false → checked_of (run k top bs left i prev at) ≡ fault_at at
   unfolding checked_of
   check_fault n next q o = turn (stopped at) (run_fault k top bs (left - 1) i prev at r read n next q o)
 
-  pub check_broken : (p : ℕ) → r ≡ Broken p → checked_of (run k top bs left i prev at) ≡ Stopped p
+  pub check_absent : (fault : NumberFault) → r ≡ Err fault → checked_of (run k top bs left i prev at) ≡ fault_at (place_of fault)
   unfolding checked_of
-  check_broken p q = turn (stopped p) (run_broken k top bs (left - 1) i prev at r read p q)
-
-  pub check_short : (p : ℕ) → r ≡ Short p → checked_of (run k top bs left i prev at) ≡ Stopped p
-  unfolding checked_of
-  check_short p q = turn (stopped p) (run_short k top bs (left - 1) i prev at r read p q)
+  check_absent fault q = turn (stopped (place_of fault)) (run_none k top bs (left - 1) i prev at r read fault q)
 
 -- a number of a pair has no rule of its own
 pub allowed_past : (i prev n : ℕ) → 6 ≤ i → allowed i prev n ≡ true
@@ -146,7 +137,7 @@ allowed_past i prev n h = rw (le-leb 6 i h)
 -- ---- the values of a run
 
 -- the values of a run that has all its numbers are those, also as they are read by other limits, if these take each good number as it is
-module _ (k top k' top' : ℕ) (bs : List ℕ) (wider : (at n next : ℕ) → read_at k top bs at ≡ Good n next → read_at k' top' bs at ≡ Good n next) where
+module _ (k top k' top' : ℕ) (bs : List ℕ) (wider : (at n next : ℕ) → read_at k top bs at ≡ found n next → read_at k' top' bs at ≡ found n next) where
   pub run_values : (c i prev at : ℕ) (ns : List ℕ) (end : ℕ) → run k top bs c i prev at ≡ all ns end → values_from k' top' bs c at ≡ ns
   unfolding run ruled prepend values_from
   run_values zero i prev at ns end e = let p : [] ≡ ns = cc in p
@@ -165,18 +156,19 @@ module _ (k top k' top' : ℕ) (bs : List ℕ) (wider : (at n next : ℕ) → re
 
       go : (r : NumberRead) → read_at k top bs at ≡ r → ruled (allowed i prev) at (λ n next. run k top bs c (i + 1) n next) r ≡ all ns end → IH
           → value_of (read_at k' top' bs at) ∷ values_from k' top' bs c (next_of at (read_at k' top' bs at)) ≡ ns
-      go (Good n next) q e' ih = rw (wider at n next q) (test n next (allowed i prev n) e' ih)
-      go (Broken x) q e' ih = absurd (let z : ◌≡◌ {A = ℕ} 0 1 = cc in omega arith)
-      go (Short x) q e' ih = absurd (let z : ◌≡◌ {A = ℕ} 0 1 = cc in omega arith)
+      go (Ok got) q e' ih = rw (wider at got.value got.next q) (test got.value got.next (allowed i prev got.value) e' ih)
+      go (Err fault) q e' ih = absurd (let z : ◌≡◌ {A = ℕ} 0 1 = cc in omega arith)
 
 -- ---- what a check that was answered says
 
-pub checked_all : (r : NumberRun) (at : ℕ) → All at ≡ checked_of r → (ns : List ℕ) × (r ≡ all ns at)
+pub checked_all : (r : NumberRun) (at : ℕ) → Ok at ≡ checked_of r → (ns : List ℕ) × (r ≡ all ns at)
 unfolding checked_of
 checked_all (all ns end) at e = let p : end ≡ at = cc in (ns, ap (all ns) p)
 checked_all (stopped p) at e = absurd (let z : ◌≡◌ {A = ℕ} 0 1 = cc in omega arith)
 
-pub checked_stopped : (r : NumberRun) (p : ℕ) → Stopped p ≡ checked_of r → r ≡ stopped p
+pub checked_stopped : (r : NumberRun) (p : ℕ) → fault_at p ≡ checked_of r → r ≡ stopped p
 unfolding checked_of
 checked_stopped (all ns end) p e = absurd (let z : ◌≡◌ {A = ℕ} 0 1 = cc in omega arith)
-checked_stopped (stopped x) p e = let q : x ≡ p = cc in ap stopped q
+checked_stopped (stopped x) p e =
+    let same : ◌≡◌ {A = Malformed} (record { place = p }) (record { place = x }) = cc in
+    ap stopped (sym (ap (λ (m : Malformed). m.place) same))

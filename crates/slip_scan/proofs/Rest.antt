@@ -9,22 +9,21 @@ use lib.Dec.{ltb, leb, lit<}
 use lib.ListN.{length, get_or, get_or-append}
 use borrow.Author.Tests.{leb-true, eq-eqb, ne_eqb}
 use Rattle.lists.proofs.Booleans.{and_both, and_false}
-use Rattle.leb128.specs.Reading.{limit, read_at, more_of, top_of}
-use Rattle.leb128.specs.declared.number.NumberRead.{NumberRead}
-use Rattle.leb128.specs.declared.number.NumberRead.TheVariants.{Good, Broken, Short}
+use Rattle.leb128.specs.Reading.{NumberRead, found, place_of, limit, read_at, more_of, top_of}
+use Rattle.std.specs.Prelude.{Ok, Err}
+use Rattle.leb128.specs.declared.number.Number.{Number}
+use Rattle.leb128.specs.declared.number.NumberFault.{NumberFault}
 use Rattle.leb128.proofs.Groups.{limit64}
 use Rattle.leb128.proofs.Readings.{read_wider, width}
 use Rattle.slip_head.specs.declared.Head.{Head}
 use Rattle.number_values.specs.Values.{values_from}
 use Rattle.number_values.proofs.Values.{length_values}
 use Rattle.slip_numbers.specs.Rules.{allowed}
-use Rattle.slip_numbers.specs.Steps.{NumberRun, all, stopped, run, checked_of}
-use Rattle.slip_numbers.specs.declared.Checked.{Checked}
-use Rattle.slip_numbers.specs.declared.Checked.TheVariants.{All, Stopped}
+use Rattle.slip_numbers.specs.Steps.{NumberRun, all, stopped, run, Checked, fault_at, checked_of}
 use Rattle.slip_numbers.proofs.Runs.{Allowed, run_ran, run_values, checked_all, checked_stopped}
-use Rattle.slip_scan.specs.Steps.{after_pairs, after_head, rest_in, widened, wide_in, by_form, scan_in}
-use Rattle.slip_scan.specs.declared.SlipScan.{SlipScan}
-use Rattle.slip_scan.specs.declared.SlipScan.TheVariants.{Slip, Malformed}
+use Rattle.slip_scan.specs.Steps.{SlipScan, slip_at, malformed_at, after_pairs, after_head, rest_in, widened, wide_in, by_form, scan_in}
+use Rattle.slip_numbers.specs.declared.Malformed.{Malformed}
+use Rattle.slip_scan.specs.declared.Scanned.{Scanned}
 
 -- the five numbers that follow the form, before the pairs
 abbrev pub head : Head → List ℕ
@@ -45,7 +44,7 @@ five (x₀ ∷ x₁ ∷ x₂ ∷ x₃ ∷ x₄ ∷ x₅ ∷ ns) e = absurd (omeg
 
 -- a good number of either width is one below 2 ^ 64
 module _ (bs : List ℕ) (are : (x : ℕ) → get_or bs x 0 < 256) where
-  pub as_wide : (wide : Bool) (x n next : ℕ) → read_at (more_of wide) (top_of wide) bs x ≡ Good n next → read_at 9 2 bs x ≡ Good n next
+  pub as_wide : (wide : Bool) (x n next : ℕ) → read_at (more_of wide) (top_of wide) bs x ≡ found n next → read_at 9 2 bs x ≡ found n next
   as_wide wide x =
       let w = width wide in
       let v = width true in
@@ -53,7 +52,7 @@ module _ (bs : List ℕ) (are : (x : ℕ) → get_or bs x 0 < 256) where
 
 -- ---- what `find_rest` answers, by what its calls answer: first and second are the checks, and l is the array that was filled
 
-pub rest_head : (k top : ℕ) (bs : List ℕ) (from : ℕ) (first : Checked) → first ≡ checked_of (run k top bs 5 1 0 from) → (p : ℕ) → first ≡ Stopped p → rest_in k top bs from ≡ Malformed p
+pub rest_head : (k top : ℕ) (bs : List ℕ) (from : ℕ) (first : Checked) → first ≡ checked_of (run k top bs 5 1 0 from) → (p : ℕ) → first ≡ fault_at p → rest_in k top bs from ≡ malformed_at p
 unfolding rest_in after_head
 rest_head k top bs from first is p q = ap (after_head k top bs) (checked_stopped (run k top bs 5 1 0 from) p (sym q ∙ is))
 
@@ -62,7 +61,7 @@ filled_at k' top' bs from l more e i h =
     let n : i < length (values_from k' top' bs 5 from) = rw (length_values k' top' bs 5 from) h in
     ap (λ (x : List ℕ). get_or x i 0) e ∙ get_or-append (values_from k' top' bs 5 from) more 0 i n
 
-module _ (k top k' top' : ℕ) (bs : List ℕ) (wider : (x n next : ℕ) → read_at k top bs x ≡ Good n next → read_at k' top' bs x ≡ Good n next) (from at : ℕ) (first : Checked) (is : first ≡ checked_of (run k top bs 5 1 0 from)) (whole : first ≡ All at) (l more : List ℕ) (filled : l ≡ values_from k' top' bs 5 from ++ more) (second : Checked) (pairs : second ≡ checked_of (run k top bs (2 * get_or l 4 0) 6 0 at)) where
+module _ (k top k' top' : ℕ) (bs : List ℕ) (wider : (x n next : ℕ) → read_at k top bs x ≡ found n next → read_at k' top' bs x ≡ found n next) (from at : ℕ) (first : Checked) (is : first ≡ checked_of (run k top bs 5 1 0 from)) (whole : first ≡ Ok at) (l more : List ℕ) (filled : l ≡ values_from k' top' bs 5 from ++ more) (second : Checked) (pairs : second ≡ checked_of (run k top bs (2 * get_or l 4 0) 6 0 at)) where
   abbrev hs : List ℕ
   hs = values_from k' top' bs 5 from
 
@@ -76,18 +75,18 @@ module _ (k top k' top' : ℕ) (bs : List ℕ) (wider : (x n next : ℕ) → rea
   known : (u : Checked) → second ≡ u → u ≡ checked_of (run k top bs (2 * get_or hs 4 0) 6 0 at)
   known u q = sym q ∙ pairs ∙ ap (λ (x : ℕ). checked_of (run k top bs (2 * x) 6 0 at)) (filled_at k' top' bs from l more filled 4 (lit< tt))
 
-  pub rest_stopped : (p : ℕ) → second ≡ Stopped p → rest_in k top bs from ≡ Malformed p
+  pub rest_stopped : (p : ℕ) → second ≡ fault_at p → rest_in k top bs from ≡ malformed_at p
   unfolding after_pairs
-  rest_stopped p q = by_pairs (stopped p) (checked_stopped (run k top bs (2 * get_or hs 4 0) 6 0 at) p (known (Stopped p) q))
+  rest_stopped p q = by_pairs (stopped p) (checked_stopped (run k top bs (2 * get_or hs 4 0) 6 0 at) p (known (fault_at p) q))
 
-  pub rest_surplus : (end : ℕ) → second ≡ All end → (end ≡ length bs → ⊥) → rest_in k top bs from ≡ Malformed end
+  pub rest_surplus : (end : ℕ) → second ≡ Ok end → (end ≡ length bs → ⊥) → rest_in k top bs from ≡ malformed_at end
   unfolding after_pairs
-  rest_surplus end q ne = let r = checked_all (run k top bs (2 * get_or hs 4 0) 6 0 at) end (known (All end) q) in by_pairs (all r.0 end) r.1 ∙ rw (ne_eqb end (length bs) ne)
+  rest_surplus end q ne = let r = checked_all (run k top bs (2 * get_or hs 4 0) 6 0 at) end (known (Ok end) q) in by_pairs (all r.0 end) r.1 ∙ rw (ne_eqb end (length bs) ne)
 
-  pub rest_whole : (end : ℕ) → second ≡ All end → end ≡ length bs → rest_in k top bs from ≡ Slip (head_of l) at
+  pub rest_whole : (end : ℕ) → second ≡ Ok end → end ≡ length bs → rest_in k top bs from ≡ slip_at (head_of l) at
   unfolding after_pairs
   rest_whole end q eq =
-      let r = checked_all (run k top bs (2 * get_or hs 4 0) 6 0 at) end (known (All end) q) in
+      let r = checked_all (run k top bs (2 * get_or hs 4 0) 6 0 at) end (known (Ok end) q) in
       let x : (i : ℕ) → i < 5 → get_or l i 0 ≡ get_or hs i 0 = filled_at k' top' bs from l more filled in
       by_pairs (all r.0 end) r.1 ∙ rw (eq-eqb end (length bs) eq, x 0 (lit< tt), x 1 (lit< tt), x 2 (lit< tt), x 3 (lit< tt), x 4 (lit< tt))
 
@@ -98,42 +97,38 @@ module _ (any : Bool) (bs : List ℕ) (r : NumberRead) (is : r ≡ read_at 4 16 
   unfolding scan_in
   by-form u q = ap (by_form any bs) (sym is ∙ q)
 
-  pub form_one : (n next : ℕ) → r ≡ Good n next → n ≡ 1 → scan_in any bs ≡ rest_in 4 16 bs next
+  pub form_one : (n : Number) → r ≡ Ok n → n.value ≡ 1 → scan_in any bs ≡ rest_in 4 16 bs n.next
   unfolding by_form
-  form_one n next q e = by-form (Good n next) q ∙ rw (eq-eqb n 1 e)
+  form_one n q e = by-form (Ok n) q ∙ rw (eq-eqb n.value 1 e)
 
-  pub form_two : (n next : ℕ) → r ≡ Good n next → any ≡ true → n ≡ 2 → scan_in any bs ≡ wide_in bs next
+  pub form_two : (n : Number) → r ≡ Ok n → any ≡ true → n.value ≡ 2 → scan_in any bs ≡ wide_in bs n.next
   unfolding by_form
-  form_two n next q y e = by-form (Good n next) q ∙ rw (ne_eqb n 1 (λ z. omega arith), eq-eqb n 2 e, y)
+  form_two n q y e = by-form (Ok n) q ∙ rw (ne_eqb n.value 1 (λ z. omega arith), eq-eqb n.value 2 e, y)
 
-  pub form_old : (n next : ℕ) → r ≡ Good n next → any ≡ false → (n ≡ 1 → ⊥) → scan_in any bs ≡ Malformed 0
+  pub form_old : (n : Number) → r ≡ Ok n → any ≡ false → (n.value ≡ 1 → ⊥) → scan_in any bs ≡ malformed_at 0
   unfolding by_form
-  form_old n next q y ne = by-form (Good n next) q ∙ rw (ne_eqb n 1 ne, y)
+  form_old n q y ne = by-form (Ok n) q ∙ rw (ne_eqb n.value 1 ne, y)
 
-  pub form_other : (n next : ℕ) → r ≡ Good n next → (n ≡ 1 → ⊥) → (n ≡ 2 → ⊥) → scan_in any bs ≡ Malformed 0
+  pub form_other : (n : Number) → r ≡ Ok n → (n.value ≡ 1 → ⊥) → (n.value ≡ 2 → ⊥) → scan_in any bs ≡ malformed_at 0
   unfolding by_form
-  form_other n next q ne ne₂ = by-form (Good n next) q ∙ rw (ne_eqb n 1 ne, ne_eqb n 2 ne₂, and_false any)
+  form_other n q ne ne₂ = by-form (Ok n) q ∙ rw (ne_eqb n.value 1 ne, ne_eqb n.value 2 ne₂, and_false any)
 
-  pub form_broken : (p : ℕ) → r ≡ Broken p → scan_in any bs ≡ Malformed p
+  pub form_none : (fault : NumberFault) → r ≡ Err fault → scan_in any bs ≡ malformed_at (place_of fault)
   unfolding by_form
-  form_broken p q = by-form (Broken p) q
-
-  pub form_short : (p : ℕ) → r ≡ Short p → scan_in any bs ≡ Malformed p
-  unfolding by_form
-  form_short p q = by-form (Short p) q
+  form_none fault q = by-form (Err fault) q
 
 -- what `find_wide` answers, by the rest with numbers below 2 ^ 32
-pub wide_none : (bs : List ℕ) (from : ℕ) (r : SlipScan) → r ≡ rest_in 4 16 bs from → (h : Head) (place : ℕ) → r ≡ Slip h place → wide_in bs from ≡ Malformed 0
+pub wide_none : (bs : List ℕ) (from : ℕ) (r : SlipScan) → r ≡ rest_in 4 16 bs from → (s : Scanned) → r ≡ Ok s → wide_in bs from ≡ malformed_at 0
 unfolding wide_in widened
-wide_none bs from r is h place q = ap (λ (u : SlipScan). widened u (rest_in 9 2 bs from)) (sym is ∙ q)
+wide_none bs from r is s q = ap (λ (u : SlipScan). widened u (rest_in 9 2 bs from)) (sym is ∙ q)
 
-pub wide_rest : (bs : List ℕ) (from : ℕ) (r : SlipScan) → r ≡ rest_in 4 16 bs from → (p : ℕ) → r ≡ Malformed p → wide_in bs from ≡ rest_in 9 2 bs from
+pub wide_rest : (bs : List ℕ) (from : ℕ) (r : SlipScan) → r ≡ rest_in 4 16 bs from → (m : Malformed) → r ≡ Err m → wide_in bs from ≡ rest_in 9 2 bs from
 unfolding wide_in widened
-wide_rest bs from r is p q = ap (λ (u : SlipScan). widened u (rest_in 9 2 bs from)) (sym is ∙ q)
+wide_rest bs from r is m q = ap (λ (u : SlipScan). widened u (rest_in 9 2 bs from)) (sym is ∙ q)
 
 -- five numbers that were checked: the number of pairs is small
-pub head_few : (k top k' top' : ℕ) (bs : List ℕ) (from at : ℕ) → top ≤ 128 → 0 < top → k ≤ 9 → ((x n next : ℕ) → read_at k top bs x ≡ Good n next → read_at k' top' bs x ≡ Good n next)
-    → ((x : ℕ) → get_or bs x 0 < 256) → All at ≡ checked_of (run k top bs 5 1 0 from) → get_or (values_from k' top' bs 5 from) 4 0 ≤ 1048576
+pub head_few : (k top k' top' : ℕ) (bs : List ℕ) (from at : ℕ) → top ≤ 128 → 0 < top → k ≤ 9 → ((x n next : ℕ) → read_at k top bs x ≡ found n next → read_at k' top' bs x ≡ found n next)
+    → ((x : ℕ) → get_or bs x 0 < 256) → Ok at ≡ checked_of (run k top bs 5 1 0 from) → get_or (values_from k' top' bs 5 from) 4 0 ≤ 1048576
 unfolding allowed
 head_few k top k' top' bs from at t p nine wider are e =
     let r = checked_all (run k top bs 5 1 0 from) at e in

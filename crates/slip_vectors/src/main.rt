@@ -45,7 +45,7 @@ fn answer(rt: &impl Print, case: &[u8]) -> io::Result<()> {
         READ_ANY_SLIP => reading::any_slip(rt, body, room),
         WRITE_NUMBER => writing::number(rt, n, at, room),
         WRITE_SLIP => writing::slip(rt, body, n == 1, room),
-        _ => show::text(rt, b": no case"),
+        _ => print!(rt; ": no case"),
     }
 }
 
@@ -53,9 +53,8 @@ fn answer(rt: &impl Print, case: &[u8]) -> io::Result<()> {
 fn read(rt: &impl Print, reader: &mut impl io::Read) -> io::Result<()> {
     let mut room = [0u8; MOST_CASE];
     let count = read_full(reader, &mut room);
-    let case = &room[..count];
-    answer(rt, case)?;
-    show::text(rt, b"\n")
+    answer(rt, &room[..count])?;
+    println!(rt)
 }
 
 fn case(rt: &(impl Files + Print + Eprint), argument: Argument) -> io::Result<()> {
@@ -65,7 +64,7 @@ fn case(rt: &(impl Files + Print + Eprint), argument: Argument) -> io::Result<()
     let Some(mut file) = open_named(rt, name)? else {
         return Ok(());
     };
-    show::text(rt, name)?;
+    rt.write_all(name)?;
     read(rt, &mut file)
 }
 

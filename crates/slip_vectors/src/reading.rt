@@ -3,17 +3,15 @@ use super::show;
 use number_cursor::Cursor;
 use std::io;
 
-// What stands at a place, by the place and by the cursor, and the cursor after it. `next_number` lends it to `advance`, so that the line shows both.
+// What stands at a place, by the place and by the cursor, and the cursor after it.
 pub fn number(rt: &impl Print, bytes: &[u8], before: u64, at: usize, wide: bool) -> io::Result<()> {
     let count = before as usize;
-    let from = Cursor { at, count, wide };
-    show::bytes(rt, b":", bytes)?;
-    show::cursor(rt, b" from", from)?;
-    show::number_read(rt, b": number_at", leb128::number_at(bytes, at, wide))?;
-    let step = number_cursor::next_number(bytes, from);
-    let read = step.read;
-    show::number_read(rt, b" next_number", read)?;
-    show::cursor(rt, b" to", step.cursor)
+    let mut cursor = Cursor { at, count, wide };
+    show::bytes(rt, ":", bytes)?;
+    show::cursor(rt, " from", cursor)?;
+    show::number_read(rt, ": number_at", leb128::number_at(bytes, at, wide))?;
+    show::number_read(rt, " next_number", cursor.advance(bytes))?;
+    show::cursor(rt, " to", cursor)
 }
 
 // What every place holds before a slip is read, and the places of the longest room.
@@ -25,31 +23,31 @@ const PLACES: usize = 1024;
 
 // The slip, the answer, and every place of the room.
 fn slip_into(rt: &impl Print, bytes: &[u8], room: &mut [u32]) -> io::Result<()> {
-    show::bytes(rt, b":", bytes)?;
+    show::bytes(rt, ":", bytes)?;
     show::slip_read(rt, slip::read_slip(bytes, room))?;
-    show::numbers(rt, b" room", room)
+    show::numbers(rt, " room", room)
 }
 
 // Reads a slip into a room of that length, up to that of the longest.
 pub fn slip(rt: &impl Print, bytes: &[u8], length: usize) -> io::Result<()> {
     let mut room = [GUARD; PLACES];
-    if length <= PLACES {
-        slip_into(rt, bytes, &mut room[..length])?;
+    match room.get_mut(..length) {
+        Some(room) => slip_into(rt, bytes, room),
+        None => Ok(()),
     }
-    Ok(())
 }
 
 fn any_slip_into(rt: &impl Print, bytes: &[u8], room: &mut [u64]) -> io::Result<()> {
-    show::bytes(rt, b":", bytes)?;
+    show::bytes(rt, ":", bytes)?;
     show::slip_read(rt, slip::read_any_slip(bytes, room))?;
-    show::wide_numbers(rt, b" room", room)
+    show::numbers(rt, " room", room)
 }
 
 // The same by the reader of both forms.
 pub fn any_slip(rt: &impl Print, bytes: &[u8], length: usize) -> io::Result<()> {
     let mut room = [WIDE_GUARD; PLACES];
-    if length <= PLACES {
-        any_slip_into(rt, bytes, &mut room[..length])?;
+    match room.get_mut(..length) {
+        Some(room) => any_slip_into(rt, bytes, room),
+        None => Ok(()),
     }
-    Ok(())
 }

@@ -10,6 +10,7 @@ use borrow.Author.Tests.{eq-eqb, ne_eqb, lt-ltb, le-ltb, lt-leb}
 use lib.ListN.{length, drop, length-append}
 use lib.Dec.{eqb}
 use lib.Seq.{sets, sets-eq, length-sets}
+use Rattle.std.specs.Prelude.{Some}
 use Rattle.lists.proofs.Stores.{sets_append}
 use Rattle.leb128.specs.Numbers.{writes}
 use Rattle.leb128.specs.Writing.{put_at, past_put}
@@ -26,7 +27,9 @@ use Rattle.runs.specs.Runs.{per_sample}
 use Rattle.pair_bytes.proofs.Streaming.{none_wide}
 use Rattle.structure.specs.Rows.{or_else}
 use Rattle.movie.specs.Rooms.{no_room, filled_room, room_after, refused_with}
-use Rattle.movie.proofs.Answers.{puts, puts_refused}
+use Rattle.movie.proofs.Answers.{puts_err, puts}
+use Rattle.movie.proofs.Refused.{or_err}
+use Rattle.movie.proofs.Numbered.{room_low}
 use Rattle.pairs.specs.Pairs.{flat}
 use Rattle.pairs.specs.declared.Pair.{Pair}
 use Rattle.pairs.specs.Walks.{pairs_between, Fitting}
@@ -40,8 +43,10 @@ use Rattle.stretch.specs.Stretches.{stretch_pairs, span_at, span_refusal}
 use Rattle.slip_writing.specs.Writing.{NarrowHead, PutSlip}
 use Rattle.slip_writing.specs.Slips.{slip_head, slip_of_stretch, slip_refusal, slip_asked, slip_numbers, Slips}
 use Rattle.spans.specs.declared.Span.{Span}
-use Rattle.slip_writing.specs.declared.SlipAnswer.{SlipAnswer}
-use Rattle.slip_writing.specs.declared.SlipAnswer.TheVariants.{Written, Refused}
+use Rattle.std.specs.Prelude.{Result, Ok, Err}
+use Rattle.refusals.specs.Refusals.{number}
+use Rattle.refusals.specs.declared.Refusal.{Refusal}
+use Rattle.refusals.specs.declared.Refusal.TheVariants.{NoRoom}
 use Rattle.spans.proofs.Spanning.{pairs_few, pairs-fit}
 use Rattle.stretch.proofs.Spanning.{in_span_of, usable_whole, pairs_are, span_order}
 
@@ -77,24 +82,30 @@ module _ (h : Head) (qs : List Pair) (out : List ℕ) (k : ℕ) (m : Measured) (
   split_length : length (slip_bytes h (flat qs)) ≡ k + m.bytes
   split_length = omega (arith, ap length split ∙ length-append hd (pair_bytes qs), ap (λ (x : Measured). x.bytes) f)
 
-  pub too_long : length out < k + m.bytes → PutSlip (slip_bytes h (flat qs)) out (Refused 16) out
+  pub too_long : length out < k + m.bytes → PutSlip (slip_bytes h (flat qs)) out (Err NoRoom) out
   unfolding no_room room_after
   too_long g =
       let l = lt-ltb (length out) (length (slip_bytes h (flat qs))) (omega (arith, split_length)) in
       record { answer = rw l; places = rw l }
 
-  module _ (g : k + m.bytes ≤ length out) (at : ℕ) (half : List ℕ) (a : at ≡ past_put out 0 hd) (b : half ≡ put_at out 0 hd) where
-    head_fits : (past_put out 0 hd ≡ 0 + length hd) × (put_at out 0 hd ≡ sets out 0 hd)
+  pub head_put : k + m.bytes ≤ length out → past_put out 0 hd ≡ Some (0 + length hd)
+  head_put g = (put_fits out 0 hd (omega arith)).0
+
+  module _ (g : k + m.bytes ≤ length out) (at : ℕ) (half : List ℕ) (a : Some at ≡ past_put out 0 hd) (b : half ≡ put_at out 0 hd) where
+    head_fits : (past_put out 0 hd ≡ Some (0 + length hd)) × (put_at out 0 hd ≡ sets out 0 hd)
     head_fits = put_fits out 0 hd (omega arith)
 
-    pub pairs_after : at + length (pair_bytes qs) ≤ length half
-    pairs_after = omega (arith, a ∙ head_fits.0, ap length (b ∙ head_fits.1) ∙ length-sets out 0 hd, ap (λ (x : Measured). x.bytes) f)
+    head_past : at ≡ 0 + length hd
+    head_past = let same : Some at ≡ Some (0 + length hd) = a ∙ head_fits.0 in cc
 
-    pub all_put : (r : ℕ) (after : List ℕ) → Wrote qs half at r after → PutSlip (slip_bytes h (flat qs)) out (Written r) after
+    pub pairs_after : at + length (pair_bytes qs) ≤ length half
+    pairs_after = omega (arith, head_past, ap length (b ∙ head_fits.1) ∙ length-sets out 0 hd, ap (λ (x : Measured). x.bytes) f)
+
+    pub all_put : (r : ℕ) (after : List ℕ) → Wrote qs half at r after → PutSlip (slip_bytes h (flat qs)) out (Ok r) after
     unfolding no_room room_after filled_room
     all_put r after d =
         let l = le-ltb (length out) (length (slip_bytes h (flat qs))) (omega (arith, split_length)) in
-        let x : at ≡ 0 + length hd = a ∙ head_fits.0 in
+        let x = head_past in
         let y : r ≡ length (slip_bytes h (flat qs)) = omega (arith, split_length, d.ends, ap (λ (v : Measured). v.bytes) f) in
         let v : after ≡ sets out 0 (slip_bytes h (flat qs)) = d.stored ∙ rw (b ∙ head_fits.1, x) (sym (ap (λ (n : List ℕ). sets out 0 n) split ∙ sets_append out 0 hd (pair_bytes qs))) in
         let w : sets out 0 (slip_bytes h (flat qs)) ≡ slip_bytes h (flat qs) ++ drop (length (slip_bytes h (flat qs))) out = rw (zero-add) at (sets-eq (slip_bytes h (flat qs)) out 0 (omega (arith, split_length))) in
@@ -103,21 +114,17 @@ module _ (h : Head) (qs : List Pair) (out : List ℕ) (k : ℕ) (m : Measured) (
 -- ---- the answers
 
 -- v is the source that the code makes of w
-pub no_slip : (s : List ℕ) (w v : Source) (id : ℕ) (a b : MediaTime) (out : List ℕ) (r : ℕ) → v ≡ strictly w → r ≡ span_at s v id a.0 b.0 → (r ≡ 0 → ⊥)
-    → Slips s w id a b out (Refused r) out
-unfolding slip_numbers slip_refusal span_refusal or_else
-no_slip s w v id a b out r h e n =
-    puts_refused slip_numbers (refused_with 1) Refused (λ k. refl) (slip_asked s id a b) (slip_of_stretch s id a b) out (slip_refusal s w id a b out) r
-    (first_of (span_at s (strictly w) id a.0 b.0) (sym (e ∙ ap (λ u. span_at s u id a.0 b.0) h)))
-    n
-  where
-    first_of : (x : ℕ) → x ≡ r → or_else x (no_room (slip_of_stretch s id a b) out) ≡ r
-    first_of x q = rw (q, ne_eqb r 0 n)
+pub no_slip : (s : List ℕ) (w v : Source) (id : ℕ) (a b : MediaTime) (out : List ℕ) (e : Refusal) → v ≡ strictly w → span_at s v id a.0 b.0 ≡ number e
+    → Slips s w id a b out (Err e) out
+unfolding slip_numbers slip_refusal span_refusal
+no_slip s w v id a b out e h q =
+    puts_err slip_numbers (refused_with 1) (λ k. refl) (slip_asked s id a b) (slip_of_stretch s id a b) out (slip_refusal s w id a b out) e
+    (or_err (span_at s (strictly w) id a.0 b.0) _ e (sym (ap (λ u. span_at s u id a.0 b.0) h) ∙ q))
 
-module _ (s t out : List ℕ) (w v : Source) (id : ℕ) (a b : MediaTime) (r : ℕ) (h : v ≡ strictly w) (e : r ≡ span_at s v id a.0 b.0) (z : r ≡ 0)
+module _ (s t out : List ℕ) (w v : Source) (id : ℕ) (a b : MediaTime) (h : v ≡ strictly w) (z : 0 ≡ span_at s v id a.0 b.0)
     (d : t ≡ track_asked s id) (p : Span) (q : Spans t a.0 b.0 p) (n scale : ℕ) (c : n ≡ length (span_pairs t p)) (f : scale ≡ scale_of t) where
   same_pairs : span_pairs t p ≡ stretch_pairs s id a b
-  same_pairs = pairs_are s t v id a b (in_span_of s v id a.0 b.0 (sym e ∙ z)) d p q
+  same_pairs = pairs_are s t v id a b (in_span_of s v id a.0 b.0 (sym z)) d p q
 
   head_is : ◌≡◌ {A = Head} (record { id = id; scale = scale; a = a.0; b = b.0; pairs = n }) (slip_head s id a b)
   unfolding slip_head
@@ -133,20 +140,20 @@ module _ (s t out : List ℕ) (w v : Source) (id : ℕ) (a b : MediaTime) (r : �
   then_room : slip_refusal s w id a b out ≡ no_room (slip_of_stretch s id a b) out
   unfolding slip_refusal span_refusal or_else
   then_room =
-      let k : span_at s (strictly w) id a.0 b.0 ≡ 0 = sym (e ∙ ap (λ u. span_at s u id a.0 b.0) h) ∙ z in
+      let k : span_at s (strictly w) id a.0 b.0 ≡ 0 = sym (z ∙ ap (λ u. span_at s u id a.0 b.0) h) in
       rw k
 
-  pub slip_put : (k : Head) → k ≡ record { id = id; scale = scale; a = a.0; b = b.0; pairs = n } → (y : SlipAnswer) (after : List ℕ)
+  pub slip_put : (k : Head) → k ≡ record { id = id; scale = scale; a = a.0; b = b.0; pairs = n } → (y : Result ℕ Refusal) (after : List ℕ)
       → PutSlip (slip_bytes k (flat (span_pairs t p))) out y after → Slips s w id a b out y after
   unfolding slip_numbers
   slip_put k x y after i =
       let u : PutSlip (slip_of_stretch s id a b) out y after = rw (ap (λ (v : Head). slip_bytes v (flat (span_pairs t p))) x ∙ bytes_are) at i in
-      puts slip_numbers (refused_with 1) Refused (λ k. refl) (slip_asked s id a b) (slip_of_stretch s id a b) out (slip_refusal s w id a b out) y after
+      puts slip_numbers (refused_with 1) (λ k. refl) (slip_asked s id a b) (slip_of_stretch s id a b) out (slip_refusal s w id a b out) y after (rw then_room (room_low _ out))
       (u.answer ∙ rw then_room)
       (u.places ∙ rw then_room)
 
 -- of a whole file, by the source that the code makes
-pub of_whole : (s : List ℕ) (w : Source) (id : ℕ) (a b : MediaTime) (out : List ℕ) (r : SlipAnswer) (after : List ℕ) → w ≡ whole_file → Slips s w id a b out r after → Slips s whole_file id a b out r after
+pub of_whole : (s : List ℕ) (w : Source) (id : ℕ) (a b : MediaTime) (out : List ℕ) (r : Result ℕ Refusal) (after : List ℕ) → w ≡ whole_file → Slips s w id a b out r after → Slips s whole_file id a b out r after
 of_whole s w id a b out r after h p = subst (λ v. Slips s v id a b out r after) h p
 
 -- a whole file's slip has form 1: no pair passes the end of a file of at most 2,147,483,647 bytes

@@ -1,5 +1,5 @@
 -- "Slip writing takes a stretch question": the slip of ID, scale, a, b and the stretch's pairs, into lent bytes.
-use Rattle.std.specs.Prelude.{ℕ, List, [], ◌∷◌, length}
+use Rattle.std.specs.Prelude.{ℕ, List, [], ◌∷◌, length, Result, Ok, Err}
 use Rattle.pairs.specs.Pairs.{flat}
 use Rattle.edits.specs.declared.MediaTime.{MediaTime}
 use Rattle.slip_head.specs.Bytes.{slip_bytes}
@@ -12,8 +12,8 @@ use Rattle.movie.specs.Rooms.{no_room, refused_with}
 use Rattle.movie.specs.Answers.{given, Puts}
 use Rattle.questions.specs.Asked.{track_asked}
 use Rattle.stretch.specs.Stretches.{stretch_pairs, span_refusal}
-use Rattle.slip_writing.specs.declared.SlipAnswer.{SlipAnswer}
-use Rattle.slip_writing.specs.declared.SlipAnswer.TheVariants.{Written, Refused}
+use Rattle.refusals.specs.Refusals.{number, refused}
+use Rattle.refusals.specs.declared.Refusal.{Refusal}
 
 -- the slip's numbers before its pairs; "scale" is the media time scale
 unfoldable pub slip_head : List ℕ → ℕ → MediaTime → MediaTime → Head
@@ -29,18 +29,18 @@ unfoldable pub slip_refusal : List ℕ → Source → ℕ → MediaTime → Medi
 slip_refusal s w id a b out = or_else (span_refusal s (strictly w) id a b) (no_room (slip_of_stretch s id a b) out)
 
 -- what is answered where nothing is refused: "the slip's length in bytes, is returned"
-abbrev pub slip_asked : List ℕ → ℕ → MediaTime → MediaTime → SlipAnswer
-slip_asked s id a b = Written (length (slip_of_stretch s id a b))
+abbrev pub slip_asked : List ℕ → ℕ → MediaTime → MediaTime → Result ℕ Refusal
+slip_asked s id a b = Ok (length (slip_of_stretch s id a b))
 
-abbrev pub slip_answer : List ℕ → Source → ℕ → MediaTime → MediaTime → List ℕ → SlipAnswer
-slip_answer s w id a b out = given (slip_refusal s w id a b out) (slip_asked s id a b) Refused
+abbrev pub slip_answer : List ℕ → Source → ℕ → MediaTime → MediaTime → List ℕ → Result ℕ Refusal
+slip_answer s w id a b out = given (slip_refusal s w id a b out) (slip_asked s id a b) refused
 
 -- document 01's number and value for each case of the answer
-unfoldable pub slip_numbers : SlipAnswer → List ℕ
-slip_numbers (Written n) = 0 ∷ n ∷ []
-slip_numbers (Refused r) = refused_with 1 r
+unfoldable pub slip_numbers : Result ℕ Refusal → List ℕ
+slip_numbers (Ok n) = 0 ∷ n ∷ []
+slip_numbers (Err e) = refused_with 1 (number e)
 
 -- the promise of the question: the answer r, and the bytes lent after it
-abbrev pub Slips : List ℕ → Source → ℕ → MediaTime → MediaTime → List ℕ → SlipAnswer → List ℕ → Type 0
+abbrev pub Slips : List ℕ → Source → ℕ → MediaTime → MediaTime → List ℕ → Result ℕ Refusal → List ℕ → Type 0
 Slips s w id a b out r after =
-    Puts slip_numbers (refused_with 1) Refused (slip_refusal s w id a b out) (slip_asked s id a b) r (slip_of_stretch s id a b) out after
+    Puts slip_numbers (refused_with 1) refused (slip_refusal s w id a b out) (slip_asked s id a b) r (slip_of_stretch s id a b) out after

@@ -16,10 +16,10 @@ use edits::MediaTime;
 use pair_bytes::Measured;
 use places::part_of;
 use places::trak::Parts;
-use questions::Ask;
+use refusals::Refusal;
 use slip_head::{Head, head_len, put_head};
 use slip_pairs::{measure_pairs, write_pairs};
-use spans::{Asked, Span, count_in};
+use spans::{Span, count_in};
 use stretch::span_asked;
 use structure::source::Source;
 use track::scale_in;
@@ -55,13 +55,6 @@ fn write_in(trak: &[u8], p: Parts, s: Span, out: &mut [u8], at: usize) -> usize
     )
 }
 
-// The answer of `write_slip` and `write_slip_of`: the slip's length in bytes; or the number of a refusal.
-#[derive(Clone, Copy)]
-pub enum SlipAnswer {
-    Written(usize),
-    Refused(u32),
-}
-
 // The numbers before the pairs, none of which asks for form 2.
 fn head_of(id: u32, scale: u32, a: u32, b: u32, pairs: u64) -> Head
     requires { pairs < 2 ^ 32 }
@@ -76,22 +69,22 @@ fn head_of(id: u32, scale: u32, a: u32, b: u32, pairs: u64) -> Head
     }
 }
 
-// Writes a slip with that head and the pairs of some samples, where it fits. Only the pairs can ask for form 2.
-fn put_slip(trak: &[u8], p: Parts, s: Span, head: Head, out: &mut [u8]) -> SlipAnswer
+// Writes a slip with that head and the pairs of some samples, where it fits, and answers its length. Only the pairs can ask for form 2.
+fn put_slip(trak: &[u8], p: Parts, s: Span, head: Head, out: &mut [u8]) -> Result<usize, Refusal>
     requires { (AreParts trak.now p) × Usable (2 ^ 64) trak.now × (s.from ≤ s.stop) × NarrowHead head }
     ensures { PutSlip (slip_bytes head (flat (span_pairs trak.now s))) out.old result out.new }
 {
     let m = measure_in(trak, p, s);
     let length = head_len(head) + m.bytes;
     if out.len() < length {
-        return SlipAnswer::Refused(16);
+        return Err(Refusal::NoRoom);
     }
-    let at = put_head(out, head, m.wide);
-    SlipAnswer::Written(write_in(trak, p, s, out, at))
+    let at = put_head(out, head, m.wide).unwrap();
+    Ok(write_in(trak, p, s, out, at))
 }
 
-// The slip of a track's stretch from a to b of any film, lent whole or its moov alone, in the first bytes. The film is read strictly. A refusal leaves the
-// bytes as they are.
+// The slip of a track's stretch from a to b of any film, lent whole or its moov alone, in the first bytes; answers its length in bytes. The film is read
+// strictly. A refusal leaves the bytes as they are.
 pub fn write_slip_of(
     lent: &[u8],
     source: Source,
@@ -99,25 +92,27 @@ pub fn write_slip_of(
     a: MediaTime,
     b: MediaTime,
     out: &mut [u8],
-) -> SlipAnswer
+) -> Result<usize, Refusal>
     ensures { Slips lent.now source id a b out.old result out.new }
 {
-    let ask = Ask::of(lent, source.strictly(), id);
-    match span_asked(lent, ask, a, b) {
-        Asked::Refused(r) => SlipAnswer::Refused(r),
-        Asked::Samples(span) => {
-            let trak = ask.trak;
-            let body = part_of(lent, trak.body);
-            let p = trak.parts;
-            let pairs = count_in(body, p, span);
-            let head = head_of(id, scale_in(body, p), a.0, b.0, pairs);
-            put_slip(body, p, span, head, out)
-        }
-    }
+    let found = span_asked(lent, source.strictly(), id, a, b)?;
+    let trak = found.trak;
+    let span = found.span;
+    let body = part_of(lent, trak.body);
+    let p = trak.parts;
+    let pairs = count_in(body, p, span);
+    let head = head_of(id, scale_in(body, p), a.0, b.0, pairs);
+    put_slip(body, p, span, head, out)
 }
 
 // The same of a whole file.
-pub fn write_slip(file: &[u8], id: u32, a: MediaTime, b: MediaTime, out: &mut [u8]) -> SlipAnswer
+pub fn write_slip(
+    file: &[u8],
+    id: u32,
+    a: MediaTime,
+    b: MediaTime,
+    out: &mut [u8],
+) -> Result<usize, Refusal>
     ensures { Slips file.now whole_file id a b out.old result out.new }
 {
     write_slip_of(file, Source::whole(), id, a, b, out)

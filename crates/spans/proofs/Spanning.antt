@@ -1,5 +1,6 @@
 -- The samples of a stretch of a track and their pairs, from what the code has of its tables.
 -- Assumes nothing.
+use Rattle.std.specs.Prelude.{Option, Some, None}
 use Prim.Native.Nat.{ℕ, suc, ◌+◌, ◌*◌, ◌-◌, ◌^◌, ◌≤◌, ◌<◌}
 use mathlib.Core.Path.{◌≡◌, refl, sym, ◌∙◌}
 use mathlib.Core.List.{List, []}
@@ -8,14 +9,12 @@ use native.Mathlib.Decide.{dec_lt, dec_le}
 use borrow.Author.Tests.{lt-ltb, le-ltb, le-leb, lt-leb, not-false}
 use mathlib.Core.Bool.{true, ◌&&◌}
 use lib.Dec.{ltb, leb}
-use lib.ListN.{length}
+use lib.ListN.{length, get_or}
 use Rattle.bigendian.specs.BigEndian.{u32_at}
 use Rattle.atoms.specs.Kinds.{stts, stsc, stsz}
 use Rattle.lists.specs.Lists.{sum, holder}
 use Rattle.lists.proofs.Places.{holds_below, holder_holds, holder_only, holder_mono}
 use Rattle.runs.specs.Runs.{per_sample, sample_at}
-use Rattle.runs.specs.declared.Lookup.{Lookup}
-use Rattle.runs.specs.declared.Lookup.TheVariants.{At, Outside}
 use Rattle.runs.proofs.Sentences.{sample_holds, outside_known}
 use Rattle.words.specs.Words.{sizes, chunk_offsets}
 use Rattle.chunks.specs.Chunks.{per_chunk}
@@ -25,12 +24,13 @@ use Rattle.structure.proofs.Lengths.{table_short}
 use Rattle.track.specs.Refusals.{total_in, chunk_past_end}
 use Rattle.track.proofs.Agreed.{agreed_tables}
 use Rattle.pairs.specs.Walks.{pairs_between, count_between, Fitting, Putting}
-use Rattle.pairs.proofs.Touched.{touched_count, touched_few, touched_fits, fits_sum}
+use Rattle.pairs.proofs.Touched.{touched_count, touched_few, touched_fits}
+use Rattle.pair_checks.proofs.Fits.{fits_putting, fitting_fits}
 use Rattle.spans.specs.Spans.{Usable, span_in, is_span, span_said, span_pairs}
 use Rattle.spans.specs.declared.Span.{Span}
-use Rattle.spans.specs.declared.Asked.{Asked}
-use Rattle.spans.specs.declared.Asked.TheVariants.{Samples}
-use Rattle.spans.specs.declared.Asked.TheVariants as asks
+use Rattle.std.specs.Prelude.{Result, Ok, Err}
+use Rattle.refusals.specs.declared.Refusal.{Refusal}
+use Rattle.refusals.specs.declared.Refusal.TheVariants as refusals
 
 -- a table of a track that is usable
 pub table_fits : {bound : ℕ} (k : ℕ) (t x : List ℕ) → x ≡ table_of k t → Usable bound t → length x < 2 ^ 32
@@ -38,17 +38,17 @@ table_fits k t x e u = rw e (omega (arith, table_short k t, u.short))
 
 -- ---- the samples
 
-module _ (x : List ℕ) (time : ℕ) (f : Lookup) (g : f ≡ sample_at (per_sample x) time) where
-  pub not_outside : time < sum (per_sample x) → f ≡ Outside → ⊥
+module _ (x : List ℕ) (time : ℕ) (f : Option ℕ) (g : f ≡ sample_at (per_sample x) time) where
+  pub not_outside : time < sum (per_sample x) → f ≡ None → ⊥
   not_outside h e = let k = outside_known (per_sample x) time (sym g ∙ e) in omega arith
 
-  pub index_is : (i : ℕ) → f ≡ At i → (i ≡ holder (per_sample x) time) × (time < sum (per_sample x))
+  pub index_is : (i : ℕ) → f ≡ Some i → (i ≡ holder (per_sample x) time) × (time < sum (per_sample x))
   index_is i e =
       let w = sample_holds (per_sample x) time i (sym g ∙ e) in
       (holder_only (per_sample x) time i w, (holds_below (per_sample x) time i w).0)
 
 -- the first sample is no later than the last
-pub first_low : (x : List ℕ) (a b : ℕ) (f : Lookup) → f ≡ sample_at (per_sample x) (b - 1) → (i : ℕ) → f ≡ At i → a < b → i < 4294967295 → (a < sum (per_sample x)) × (holder (per_sample x) a < 2 ^ 32)
+pub first_low : (x : List ℕ) (a b : ℕ) (f : Option ℕ) → f ≡ sample_at (per_sample x) (b - 1) → (i : ℕ) → f ≡ Some i → a < b → i < 4294967295 → (a < sum (per_sample x)) × (holder (per_sample x) a < 2 ^ 32)
 first_low x a b f g i e o h =
     let k = index_is x (b - 1) f g i e in
     let m = holder_mono (per_sample x) a (b - 1) (omega arith) in
@@ -56,30 +56,30 @@ first_low x a b f g i e o h =
 
 -- by the bytes of stts, from the sample at b - 1
 module _ (x : List ℕ) (n a b : ℕ) where
-  pub span_empty : b ≤ a → asks.Refused 15 ≡ span_said x n a b
+  pub span_empty : b ≤ a → Err refusals.Outside ≡ span_said x n a b
   unfolding span_said is_span
   span_empty h = rw (le-ltb a b h)
 
   module _ (o : a < b) where
-    pub span_long : 4294967295 < length x → asks.Refused 15 ≡ span_said x n a b
+    pub span_long : 4294967295 < length x → Err refusals.Outside ≡ span_said x n a b
     unfolding span_said is_span
     span_long h = rw (lt-ltb a b o, le-ltb (length x) 4294967296 (omega arith))
 
-    module _ (l : length x ≤ 4294967295) (f : Lookup) (g : f ≡ sample_at (per_sample x) (b - 1)) where
-      pub span_outside : f ≡ Outside → asks.Refused 15 ≡ span_said x n a b
+    module _ (l : length x ≤ 4294967295) (f : Option ℕ) (g : f ≡ sample_at (per_sample x) (b - 1)) where
+      pub span_outside : f ≡ None → Err refusals.Outside ≡ span_said x n a b
       unfolding span_said is_span
       span_outside e =
           let k = outside_known (per_sample x) (b - 1) (sym g ∙ e) in
           rw (lt-ltb a b o, lt-ltb (length x) 4294967296 (omega arith), lt-leb b (sum (per_sample x)) (omega arith))
 
-      module _ (i : ℕ) (e : f ≡ At i) where
-        pub span_past : n ≤ i → asks.Refused 15 ≡ span_said x n a b
+      module _ (i : ℕ) (e : f ≡ Some i) where
+        pub span_past : n ≤ i → Err refusals.Outside ≡ span_said x n a b
         unfolding span_said is_span
         span_past h =
             let k = index_is x (b - 1) f g i e in
             rw (lt-ltb a b o, lt-ltb (length x) 4294967296 (omega arith), le-leb b (sum (per_sample x)) (omega (arith, k.1)), lt-leb (suc (holder (per_sample x) (b - 1))) n (omega (arith, k.0)))
 
-        pub span_found : i < n → (from stop : ℕ) → from ≡ holder (per_sample x) a → stop ≡ i + 1 → Samples (record { from = from; stop = stop }) ≡ span_said x n a b
+        pub span_found : i < n → (from stop : ℕ) → from ≡ holder (per_sample x) a → stop ≡ i + 1 → Ok (record { from = from; stop = stop }) ≡ span_said x n a b
         unfolding span_said is_span
         span_found h from stop p r =
             let k = index_is x (b - 1) f g i e in
@@ -100,7 +100,7 @@ track_span t a b u = elim (dec_lt a b) [
   ]
 ]
 
-pub span_is : (t x z : List ℕ) (n a b : ℕ) (r : Asked) → Usable (2 ^ 64) t → x ≡ table_of stts t → z ≡ table_of stsz t → n ≡ u32_at z 16 → r ≡ span_said x n a b → r ≡ span_in t a b
+pub span_is : (t x z : List ℕ) (n a b : ℕ) (r : Result Span Refusal) → Usable (2 ^ 64) t → x ≡ table_of stts t → z ≡ table_of stsz t → n ≡ u32_at z 16 → r ≡ span_said x n a b → r ≡ span_in t a b
 unfolding span_said span_in
 span_is t x z n a b r u ex ez en e =
     let k : n ≡ samples_of t = en ∙ rw ez in
@@ -140,12 +140,26 @@ module _ {bound : ℕ} (t : List ℕ) (s : Span) (u : Usable bound t) where
   unfolding span_pairs chunk_past_end
   pairs-fit o = touched_fits u.limit s.from s.stop 0 (per_chunk (table_of stsc t) (chunks_of t)) (chunk_offsets (offset_table t)) (sizes (table_of stsz t)) o u.low (not-false _ u.within)
 
-putting : (t : List ℕ) (s : Span) → Usable (2 ^ 32) t → (k : ℕ) → s.from ≤ s.stop → 2 * length (span_pairs t s) ≤ k
-    → Putting (2 ^ 32) (table_of stsc t) (table_of stsz t) (offset_table t) (chunks_of t) s.from s.stop k
-unfolding span_pairs
-putting t s u k o h =
-    let f = pairs-fit t s u o in
-    record { short = table_fits stsc t (table_of stsc t) refl u; fits = f; total = omega (arith, fits_sum (span_pairs t s) f, pairs_few t s u); room = h }
+-- in numbers of at most 64 bits
+module _ {bound : ℕ} (t : List ℕ) (s : Span) (u : Usable bound t) (low : bound ≤ 2 ^ 64) (y : (k : ℕ) → get_or (table_of stsz t) k 0 < 256) (n : s.stop ≤ 4294967295) (o : s.from ≤ s.stop) where
+  wide : Usable (2 ^ 64) t
+  wide = record {
+    short = u.short;
+    agree = u.agree;
+    few_samples = u.few_samples;
+    few_chunks = u.few_chunks;
+    limit = u.limit;
+    low = omega (arith, u.low);
+    within = u.within;
+  }
+
+  putting : (k : ℕ) → 2 * length (span_pairs t s) ≤ k → Putting bound (table_of stsc t) (table_of stsz t) (offset_table t) (chunks_of t) s.from s.stop k
+  unfolding span_pairs
+  putting k h =
+      let l = table_fits stsc t (table_of stsc t) refl u in
+      let f = fitting_fits (table_of stsc t) (table_of stsz t) (offset_table t) (chunks_of t) s.from s.stop l (pairs-fit t s wide o) in
+      let w = fits_putting (table_of stsc t) (table_of stsz t) (offset_table t) (chunks_of t) s.from s.stop f y n k h in
+      record { short = l; fits = pairs-fit t s u o; total = w.total; room = h }
 
 -- from what the code has of the tables
 module _ (t x z o : List ℕ) (s : Span) (c : ℕ) (ex : x ≡ table_of stsc t) (ez : z ≡ table_of stsz t) (eo : o ≡ offset_table t) (ec : c ≡ u32_at o 12) where
@@ -153,5 +167,6 @@ module _ (t x z o : List ℕ) (s : Span) (c : ℕ) (ex : x ≡ table_of stsc t) 
   unfolding span_pairs
   between_is = let k : c ≡ chunks_of t = ec ∙ rw eo in rw (ex, ez, eo, k)
 
-  pub may_put : (k : ℕ) → Usable (2 ^ 32) t → s.from ≤ s.stop → 2 * length (span_pairs t s) ≤ k → Putting (2 ^ 32) x z o c s.from s.stop k
-  may_put k u q h = let n : c ≡ chunks_of t = ec ∙ rw eo in rw (ex, ez, eo, n) (putting t s u k q h)
+  pub may_put : {bound : ℕ} → Usable bound t → bound ≤ 2 ^ 64 → ((k : ℕ) → get_or z k 0 < 256) → s.stop ≤ 4294967295 → s.from ≤ s.stop → (k : ℕ) → 2 * length (span_pairs t s) ≤ k
+      → Putting bound x z o c s.from s.stop k
+  may_put u low y l q k h = let n : c ≡ chunks_of t = ec ∙ rw eo in rw (ex, ez, eo, n) (putting t s u low (rw ez at y) l q k h)

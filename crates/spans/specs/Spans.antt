@@ -1,6 +1,6 @@
 -- The samples of a stretch of a track by their indices, between the functions of the questions. These need not be believed: a proof shows that
 -- they come to the definitions of the crates stretch and slip_writing.
-use Rattle.std.specs.Prelude.{ℕ, suc, ◌-◌, ◌^◌, ◌≤◌, ◌<◌, ◌≡◌, Bool, false, cond, ◌&&◌, ltb, leb, List, length}
+use Rattle.std.specs.Prelude.{ℕ, suc, ◌-◌, ◌^◌, ◌≤◌, ◌<◌, ◌≡◌, Bool, false, cond, ◌&&◌, ltb, leb, List, length, Result, Ok}
 use Rattle.atoms.specs.Kinds.{stsc, stsz, stts}
 use Rattle.lists.specs.Lists.{sum, holder}
 use Rattle.runs.specs.Runs.{per_sample}
@@ -9,9 +9,8 @@ use Rattle.track.specs.Refusals.{contradicts, chunk_past_end, total_in}
 use Rattle.pairs.specs.Walks.{pairs_between}
 use Rattle.pairs.specs.declared.Pair.{Pair}
 use Rattle.spans.specs.declared.Span.{Span}
-use Rattle.spans.specs.declared.Asked.{Asked}
-use Rattle.spans.specs.declared.Asked.TheVariants.{Samples}
-use Rattle.spans.specs.declared.Asked.TheVariants as asks
+use Rattle.refusals.specs.Refusals.{refused}
+use Rattle.refusals.specs.declared.Refusal.{Refusal}
 
 -- what the code asks of a track: that it is one of a film that is not refused, whose file has fewer than `bound` bytes
 pub record Usable (bound : ℕ) (t : List ℕ) : Type 0 where
@@ -33,15 +32,15 @@ abbrev pub span_of : List ℕ → ℕ → ℕ → Span
 span_of stts a b = record { from = holder (per_sample stts) a; stop = suc (holder (per_sample stts) (b - 1)) }
 
 -- what the stretch from a to b asks for: samples, or a refusal
-unfoldable pub span_in : List ℕ → ℕ → ℕ → Asked
-span_in t a b = cond (ltb a b && leb b (total_in t)) (Samples (span_of (table_of stts t) a b)) (asks.Refused 15)
+unfoldable pub span_in : List ℕ → ℕ → ℕ → Result Span Refusal
+span_in t a b = cond (ltb a b && leb b (total_in t)) (Ok (span_of (table_of stts t) a b)) (refused 15)
 
 -- the same by the bytes of stts, whatever these are: it has fewer than 2 ^ 32 of them, and the last sample is one of so many
 unfoldable pub is_span : List ℕ → ℕ → ℕ → ℕ → Bool
 is_span stts samples a b = ltb a b && (ltb (length stts) 4294967296 && (leb b (sum (per_sample stts)) && leb (span_of stts a b).stop samples))
 
-unfoldable pub span_said : List ℕ → ℕ → ℕ → ℕ → Asked
-span_said stts samples a b = cond (is_span stts samples a b) (Samples (span_of stts a b)) (asks.Refused 15)
+unfoldable pub span_said : List ℕ → ℕ → ℕ → ℕ → Result Span Refusal
+span_said stts samples a b = cond (is_span stts samples a b) (Ok (span_of stts a b)) (refused 15)
 
 -- the pairs of some samples of a track
 unfoldable pub span_pairs : List ℕ → Span → List Pair

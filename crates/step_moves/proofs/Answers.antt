@@ -4,7 +4,8 @@ use Prim.Native.Nat.{ℕ, ◌+◌, ◌≤◌, ◌<◌}
 use mathlib.Core.Path.{◌≡◌}
 use mathlib.Core.Bool.{Bool, true, false, cond}
 use mathlib.Core.List.{List}
-use borrow.Author.Tests.{eq-eqb, ne_eqb, lt-leb, le-leb}
+use Rattle.std.specs.Prelude.{Option, Some, None}
+use borrow.Author.Tests.{lt-leb, le-leb}
 use lib.Dec.{eqb}
 use lib.IntN.{ℤ, pos, ◌+ℤ◌}
 use lib.ListN.{length, get_or}
@@ -14,39 +15,42 @@ use Rattle.positions.specs.Syncs.{sync_step}
 use Rattle.positions.specs.Moving.{Bytes, readied_moving, may_move, past_moving}
 use Rattle.positions.specs.declared.moving.Moving.{Moving}
 use Rattle.positions.specs.declared.sync.SyncStep.{SyncStep}
-use Rattle.questions.specs.declared.samples.Sample.{Sample}
-use Rattle.step_moves.specs.Moves.{moved_on, stepped_on}
-use Rattle.step_moves.specs.declared.Move.{Move}
-use Rattle.step_moves.specs.declared.Move.TheVariants.{To, End}
+use Rattle.step_moves.specs.declared.Stepped.{Stepped}
+use Rattle.step_moves.specs.Moves.{moved, moved_on, stepped_on}
 
 -- ---- the ways out of `moved`
 
 module _ (z y : List ℕ) (m : Moving) where
-  pub moved_end : may_move m ≡ false → End ≡ moved_on z y m
+  pub moved_end : may_move m ≡ false → None ≡ moved_on z y m
   unfolding moved_on
   moved_end e = rw e
 
-  pub moved_to : may_move m ≡ true → (size : ℕ) (place : SyncStep) (comp : ℤ) (b : Bool) (next : Moving) → size ≡ get_or (sizes z) m.index 0
+  pub moved_to : (size : ℕ) (place : SyncStep) (comp : ℤ) (b : Bool) (next : Moving) → size ≡ get_or (sizes z) m.index 0
       → place ≡ sync_step y m.sync (m.index + 1) → comp ≡ pos m.decode +ℤ shift_of m.shifts → b ≡ cond (eqb (length y) 0) true place.listed
       → next ≡ past_moving size place.at m
-      → To (record { decode = m.decode; duration = m.times.each; composition = comp; sync = b; description = m.dealt.cursor.description; chunk = m.dealt.chunk; offset = m.dealt.offset; size = size }) next ≡ moved_on z y m
+      → ◌≡◌ {A = Stepped} (record { sample = record { decode = m.decode; duration = m.times.each; composition = comp; sync = b; description = m.dealt.cursor.description; chunk = m.dealt.chunk; offset = m.dealt.offset; size = size }; past = next }) (moved z y m)
+  moved_to size place comp b next f g h i j = rw (j, i, h, g, f)
+
+  pub moved_some : may_move m ≡ true → (v : Stepped) → v ≡ moved z y m → Some v ≡ moved_on z y m
   unfolding moved_on
-  moved_to e size place comp b next f g h i j = rw (e, j, i, h, g, f)
+  moved_some e v f = rw (e, f)
 
-pub sync_none : (y : List ℕ) (b : Bool) → length y ≡ 0 → true ≡ cond (eqb (length y) 0) true b
-sync_none y b e = rw (eq-eqb (length y) 0 e)
+-- whether stss is empty
+module _ (y : List ℕ) (b e : Bool) (f : e ≡ eqb (length y) 0) where
+  pub sync_none : e ≡ true → e ≡ cond (eqb (length y) 0) true b
+  sync_none g = rw (← f, g)
 
-pub sync_some : (y : List ℕ) (b : Bool) → (length y ≡ 0 → ⊥) → b ≡ cond (eqb (length y) 0) true b
-sync_some y b e = rw (ne_eqb (length y) 0 e)
+  pub sync_some : e ≡ false → b ≡ cond (eqb (length y) 0) true b
+  sync_some g = rw (← f, g)
 
 -- ---- the ways out of `step_in`
 
 -- with the entries read
-abbrev pub moved_ready : Bytes → Moving → Move
+abbrev pub moved_ready : Bytes → Moving → Option Stepped
 moved_ready x m = moved_on x.stsz x.stss (readied_moving x.stts x.ctts x.stsc x.offsets m)
 
 module _ (x : Bytes) (samples : ℕ) (m : Moving) where
-  pub stepped_past : samples ≤ m.index → End ≡ stepped_on x samples m
+  pub stepped_past : samples ≤ m.index → None ≡ stepped_on x samples m
   unfolding stepped_on
   stepped_past h = rw (le-leb samples m.index h)
 

@@ -4,10 +4,10 @@
 ghost use Rattle.std.specs.Prelude.{◌≡◌, true, ◌<◌};
 ghost use Rattle.words.specs.Words.{size_head};
 ghost use Rattle.positions.specs.Moving.{may_move};
-ghost use Rattle.step_moves.specs.Moves.{heads_of, moved_on, stepped_on};
+ghost use Rattle.step_moves.specs.Moves.{heads_of, moved, stepped_on};
 
 use positions::dealt::{OffsetHead, offset_head};
-use positions::moving::{Moving, Readied, pass_sample, read_entries};
+use positions::moving::{Moving, pass_sample, read_entries};
 use positions::run::shift_of;
 use positions::sync::sync_step;
 use questions::samples::{Sample, shifted};
@@ -29,17 +29,17 @@ pub fn heads_of(stsz: &[u8], offsets: &[u8]) -> Heads
     }
 }
 
-// The sample and the places past it; no more where they stand before none, or where a number could not grow.
+// A sample, and the places past it.
 #[derive(Clone, Copy)]
-pub enum Move {
-    To(Sample, Moving),
-    End,
+pub struct Stepped {
+    pub sample: Sample,
+    pub past: Moving,
 }
 
-// With the entries read: the sample, and the places past it.
-fn moved(stsz: &[u8], stss: &[u8], sizes: SizeHead, m: Moving) -> Move
+// With the entries read.
+fn moved(stsz: &[u8], stss: &[u8], sizes: SizeHead, m: Moving) -> Stepped
     requires { (sizes ≡ size_head stsz.now) × (may_move m ≡ true) × (m.index < 4294967295) }
-    ensures { result ≡ moved_on stsz.now stss.now m }
+    ensures { result ≡ moved stsz.now stss.now m }
 {
     let index = m.index;
     let at = m.sync;
@@ -53,16 +53,18 @@ fn moved(stsz: &[u8], stss: &[u8], sizes: SizeHead, m: Moving) -> Move
         decode: m.decode,
         duration: times.each,
         composition: shifted(m.decode as u32, shift_of(shifts) as i32),
-        sync: if stss.len() == 0 { true } else { place.listed },
+        sync: stss.is_empty() || place.listed,
         description: cursor.description,
         chunk: dealt.chunk as u64,
         offset: dealt.offset,
         size,
     };
-    Move::To(sample, pass_sample(m, size, place.at))
+    let past = pass_sample(m, size, place.at);
+    Stepped { sample, past }
 }
 
-// A step by the six tables, of a track of that many samples. The old places are not asked after once new ones are made, so that a loop holds one of them.
+// A step by the six tables, of a track of that many samples: the sample and the places past it; none where they stand before none, or where a number could
+// not grow. The old places are not asked after once new ones are made, so that a loop holds one of them.
 pub fn step_in(
     stts: &[u8],
     ctts: &[u8],
@@ -73,17 +75,15 @@ pub fn step_in(
     heads: Heads,
     samples: u32,
     m: Moving,
-) -> Move
+) -> Option<Stepped>
     requires { heads ≡ heads_of stsz.now offsets.now }
     ensures { result ≡ stepped_on (record { stts = stts.now; ctts = ctts.now; stsc = stsc.now; stsz = stsz.now; offsets = offsets.now; stss = stss.now }) samples m }
 {
     if samples <= m.index {
-        return Move::End;
+        return None;
     }
     let head = heads.offsets;
-    let Readied::At(n) = read_entries(stts, ctts, stsc, offsets, head, m) else {
-        return Move::End;
-    };
+    let n = read_entries(stts, ctts, stsc, offsets, head, m)?;
     let sizes = heads.sizes;
-    moved(stsz, stss, sizes, n)
+    Some(moved(stsz, stss, sizes, n))
 }

@@ -5,7 +5,6 @@
 #![tactic(auto)]
 
 mod handles;
-mod show;
 
 use handles::by_handle;
 use program_input::{
@@ -14,68 +13,46 @@ use program_input::{
 use questions::samples::Sample;
 use std::io;
 use std::rt::{Env, Files};
-use stepping::{Start, Step, Stepper};
+use stepping::{Step, Stepper};
 use structure::source::Source;
 
 // Decode time, duration, composition time, whether sync, description ID, chunk, offset and size.
 fn line(rt: &impl Print, s: Sample) -> io::Result<()> {
-    show::text(rt, b"   ")?;
-    show::next(rt, s.decode)?;
-    show::next(rt, s.duration as u64)?;
-    show::text(rt, b" ")?;
-    show::signed(rt, s.composition)?;
-    show::next(rt, if s.sync { 1 } else { 0 })?;
-    show::next(rt, s.description as u64)?;
-    show::next(rt, s.chunk)?;
-    show::next(rt, s.offset)?;
-    show::next(rt, s.size as u64)?;
-    show::text(rt, b"\n")
+    let sync = u32::from(s.sync);
+    print!(rt; "    {} {} {} {sync}", s.decode, s.duration, s.composition)?;
+    println!(rt; " {} {} {} {}", s.description, s.chunk, s.offset, s.size)
 }
 
 // A step past the last sample, and once more.
 fn done_again(rt: &impl Print, film: &[u8], p: Stepper) -> io::Result<()> {
-    let r = p.step(film);
-    match r {
+    match p.step(film) {
         Step::Next(s, _) => line(rt, s),
-        Step::Done => show::text(rt, b"    done\n"),
+        Step::Done => println!(rt; "    done"),
     }
 }
 
 // The steps from a position to the end, a line each.
 fn walk(rt: &impl Print, film: &[u8], p: Stepper) -> io::Result<()> {
     let mut q = p;
-    let mut left: u64 = p.samples as u64 + 1;
-    while 0 < left {
-        let r = q.step(film);
-        match r {
-            Step::Next(s, n) => {
+    for _ in 0..=p.samples {
+        match q.step(film) {
+            Step::Next(s, next) => {
                 line(rt, s)?;
-                q = n;
-                left -= 1;
+                q = next;
             }
-            Step::Done => {
-                done_again(rt, film, q)?;
-                return Ok(());
-            }
+            Step::Done => return done_again(rt, film, q),
         }
     }
-    show::text(rt, b"    more\n")
+    println!(rt; "    more")
 }
 
 // Whether the steps from a position of another film end before one more than it has samples.
 fn ends(film: &[u8], p: Stepper) -> bool {
     let mut q = p;
-    let mut left: u64 = p.samples as u64 + 1;
-    while 0 < left {
-        let r = q.step(film);
-        match r {
-            Step::Next(_, n) => {
-                q = n;
-                left -= 1;
-            }
-            Step::Done => {
-                return true;
-            }
+    for _ in 0..=p.samples {
+        match q.step(film) {
+            Step::Next(_, next) => q = next,
+            Step::Done => return true,
         }
     }
     false
@@ -84,30 +61,23 @@ fn ends(film: &[u8], p: Stepper) -> bool {
 // The samples of the track; 0 where a start at sample 1 is refused.
 fn samples(film: &[u8], id: u32) -> u32 {
     match Stepper::at(film, Source::whole(), id, 1) {
-        Start::At(p) => p.samples,
-        Start::Refused(_) => 0,
+        Ok(p) => p.samples,
+        Err(_) => 0,
     }
 }
 
 fn started(rt: &impl Print, film: &[u8], other: &[u8], id: u32, n: u32) -> io::Result<()> {
-    show::text(rt, b"  track")?;
-    show::next(rt, id as u64)?;
-    show::text(rt, b" from")?;
-    show::next(rt, n as u64)?;
+    print!(rt; "  track {id} from {n}")?;
     match Stepper::at(film, Source::whole(), id, n) {
-        Start::At(p) => {
-            show::text(rt, b"\n")?;
+        Ok(p) => {
+            println!(rt)?;
             walk(rt, film, p)?;
             if ends(other, p) {
-                show::text(rt, b"    ends elsewhere\n")?;
+                println!(rt; "    ends elsewhere")?;
             }
             Ok(())
         }
-        Start::Refused(r) => {
-            show::text(rt, b" refused")?;
-            show::next(rt, r as u64)?;
-            show::text(rt, b"\n")
-        }
+        Err(refusal) => println!(rt; " refused {}", u32::from(refusal)),
     }
 }
 
@@ -124,16 +94,17 @@ fn track(rt: &impl Print, film: &[u8], other: &[u8], id: u32) -> io::Result<()> 
         both(rt, film, other, id, n / 2 + 1)?;
         both(rt, film, other, id, n)?;
     }
-    if n < 4294967295 {
-        both(rt, film, other, id, n + 1)?;
+    match n.checked_add(1) {
+        Some(past) => both(rt, film, other, id, past),
+        None => Ok(()),
     }
-    Ok(())
 }
 
 fn tracks(rt: &impl Print, film: &[u8], other: &[u8]) -> io::Result<()> {
-    track(rt, film, other, 1)?;
-    track(rt, film, other, 2)?;
-    track(rt, film, other, 3)
+    for id in 1..=3 {
+        track(rt, film, other, id)?;
+    }
+    Ok(())
 }
 
 // The file that an argument names, open for reading; none where it cannot be opened.
@@ -148,8 +119,7 @@ fn open_argument<R: Files + Eprint>(rt: &R, argument: Argument) -> io::Result<Op
 fn with_other(rt: &impl Print, film: &[u8], reader: &mut impl io::Read) -> io::Result<()> {
     let mut room = [0u8; MOST_FILM];
     let count = read_full(reader, &mut room);
-    let other = &room[..count];
-    tracks(rt, film, other)
+    tracks(rt, film, &room[..count])
 }
 
 fn beside(rt: &(impl Files + Print + Eprint), film: &[u8], other: Argument) -> io::Result<()> {
@@ -167,14 +137,13 @@ fn read_film(
 ) -> io::Result<()> {
     let mut room = [0u8; MOST_FILM];
     let count = read_full(reader, &mut room);
-    let film = &room[..count];
-    beside(rt, film, other)
+    beside(rt, &room[..count], other)
 }
 
 // A line with an argument.
 fn heading(rt: &impl Print, argument: Argument) -> io::Result<()> {
-    show::text(rt, argument.name())?;
-    show::text(rt, b"\n")
+    rt.write_all(argument.unwrap_or(&[]))?;
+    println!(rt)
 }
 
 fn pair(rt: &(impl Files + Print + Eprint), film: Argument, other: Argument) -> io::Result<()> {
@@ -205,12 +174,10 @@ fn pair_at(
 
 // The arguments after the program's own name, two by two.
 fn main(rt: HostRuntime) -> io::Result<()> {
-    let mut i = 1;
-    while i < usize::MAX - 1 {
-        if !pair_at(&rt, i, i + 1)? {
+    for pair in 0..usize::MAX / 2 {
+        if !pair_at(&rt, 2 * pair + 1, 2 * pair + 2)? {
             break;
         }
-        i += 2;
     }
     Ok(())
 }

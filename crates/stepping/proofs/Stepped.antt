@@ -27,9 +27,9 @@ use Rattle.positions.proofs.Standing.{may_known, Says, stands_ready, says_ready,
 use Rattle.questions.specs.Asked.{ask_refusal, track_asked}
 use Rattle.questions.specs.Samples.{sample_of, sample_values}
 use Rattle.questions.specs.declared.samples.Sample.{Sample}
-use Rattle.step_moves.specs.Moves.{sample_said, moved_past, moved_on, stepped_on}
-use Rattle.step_moves.specs.declared.Move.{Move}
-use Rattle.step_moves.specs.declared.Move.TheVariants.{To, End}
+use Rattle.step_moves.specs.Moves.{moved, sample_said, moved_past, moved_on, stepped_on}
+use Rattle.step_moves.specs.declared.Stepped.{Stepped}
+use Rattle.std.specs.Prelude.{Option, Some, None}
 use Rattle.step_moves.proofs.Answers.{moved_ready, stepped_past, stepped_by}
 use Rattle.stepping.specs.Parts.{bytes_in}
 use Rattle.stepping.specs.Stepping.{bytes_of, Stands, step_numbers, Onward, step_as, step_said, Elsewhere, Steps}
@@ -66,9 +66,9 @@ said t k m h e a g =
 -- ---- a step
 
 -- the sample with index k, and the places past it
-record Passes (s : List ℕ) (id k : ℕ) (v : Move) : Type 0 where
+record Passes (s : List ℕ) (id k : ℕ) (v : Option Stepped) : Type 0 where
   places : Moving
-  answer : v ≡ To (sample_of (track_of (track_asked s id)) k) places
+  answer : v ≡ Some (record { sample = sample_of (track_of (track_asked s id)) k; past = places })
   stands : StandsAt (bytes_of (track_asked s id)) (samples_of (track_asked s id)) (suc k) places
 
 passes : (s : List ℕ) (w : Source) (id k : ℕ) (p : Stepper) → Stands s w id k p → k < samples_of (track_asked s id)
@@ -89,7 +89,7 @@ passes s w id k p a h =
     let z : get_or (sizes x.stsz) m.index 0 ≡ get_or (sizes x.stsz) k 0 = ap (λ (j : ℕ). get_or (sizes x.stsz) j 0) a.moving.index in
     rw (b.stts, b.ctts, b.stsc, b.stsz, b.offsets, b.stss, q.may) (record {
       places = moved_past x.stsz x.stss r;
-      answer = ap (λ (v : Sample). To v (moved_past x.stsz x.stss r)) (said t k r h a.moving.index q l);
+      answer = ap (λ (v : Sample). Some (record { sample = v; past = moved_past x.stsz x.stss r })) (said t k r h a.moving.index q l);
       stands = stands_past x (samples_of t) k g h m a.moving _ y z f;
     })
 
@@ -111,7 +111,7 @@ steps_past s p h = record {
 }
 
 -- what `step_in` answers of the parts' bytes, it answers of the tables at their places
-pub stepped_parts : (s : List ℕ) (p : Stepper) (a b c z o y : List ℕ) (v : Move) → a ≡ part_in s p.tables.stts → b ≡ part_in s p.tables.ctts → c ≡ part_in s p.tables.stsc
+pub stepped_parts : (s : List ℕ) (p : Stepper) (a b c z o y : List ℕ) (v : Option Stepped) → a ≡ part_in s p.tables.stts → b ≡ part_in s p.tables.ctts → c ≡ part_in s p.tables.stsc
     → z ≡ part_in s p.tables.stsz → o ≡ part_in s p.tables.offsets → y ≡ part_in s p.tables.stss
     → v ≡ stepped_on (record { stts = a; ctts = b; stsc = c; stsz = z; offsets = o; stss = y }) p.samples p.moving
     → v ≡ stepped_on (bytes_in s p.tables) p.samples p.moving
@@ -120,7 +120,7 @@ stepped_parts s p a b c z o y v ea eb ec ez eo ey e =
 
 -- ---- the promise, of what `step_in` answers
 
-module _ (s : List ℕ) (p : Stepper) (v : Move) (d : v ≡ stepped_on (bytes_in s p.tables) p.samples p.moving) where
+module _ (s : List ℕ) (p : Stepper) (v : Option Stepped) (d : v ≡ stepped_on (bytes_in s p.tables) p.samples p.moving) where
   -- the places with the entries read
   abbrev ready : Moving
   ready = readied_moving (part_in s p.tables.stts) (part_in s p.tables.ctts) (part_in s p.tables.stsc) (part_in s p.tables.offsets) p.moving
@@ -130,28 +130,28 @@ module _ (s : List ℕ) (p : Stepper) (v : Move) (d : v ≡ stepped_on (bytes_in
     moved_is = d ∙ sym (stepped_by (bytes_in s p.tables) p.samples p.moving h)
 
     -- no more, of a position of another film
-    none_next : v ≡ End → Steps s p Done
+    none_next : v ≡ None → Steps s p Done
     unfolding step_said
     none_next u = record {
       next = λ w id k a l.
           let q = passes s w id k p a l in
-          let c : End ≡ To (sample_of (track_of (track_asked s id)) k) q.places = sym u ∙ moved_is ∙ q.answer in
+          let c : ◌≡◌ {A = Option Stepped} None (Some (record { sample = sample_of (track_of (track_asked s id)) k; past = q.places })) = sym u ∙ moved_is ∙ q.answer in
           let n : ◌≡◌ {A = ℕ} 0 1 = cc in
           absurd (omega arith);
       done = λ w id a. refl;
       elsewhere = done_elsewhere s p (ap (step_as p) (sym u ∙ d));
     }
 
-  pub steps_end : v ≡ End → Steps s p Done
+  pub steps_end : v ≡ None → Steps s p Done
   steps_end u = elim (dec_lt p.moving.index p.samples) [
     | yes h ↦ none_next h u
     | no h ↦ steps_past s p (omega arith)
   ]
 
-  module _ (x : Sample) (n : Moving) (u : v ≡ To x n) (l : n.dealt.chunk < 2 ^ 32) where
+  module _ (y : Stepped) (u : v ≡ Some y) (l : y.past.dealt.chunk < 2 ^ 32) where
     past_none : {A : Type 0} → p.samples ≤ p.moving.index → A
     past_none h =
-        let c : To x n ≡ End = sym u ∙ d ∙ sym (stepped_past (bytes_in s p.tables) p.samples p.moving h) in
+        let c : ◌≡◌ {A = Option Stepped} (Some y) None = sym u ∙ d ∙ sym (stepped_past (bytes_in s p.tables) p.samples p.moving h) in
         let z : ◌≡◌ {A = ℕ} 0 1 = cc in
         absurd (omega arith)
 
@@ -161,24 +161,33 @@ module _ (s : List ℕ) (p : Stepper) (v : Move) (d : v ≡ stepped_on (bytes_in
       | no h ↦ past_none (omega arith)
     ]
 
+    abbrev x : Sample
+    x = y.sample
+
+    abbrev n : Moving
+    n = y.past
+
     -- the places that it passes on are the ones moved
-    came : (b : Bool) → may_move ready ≡ b → cond b (To (sample_said (part_in s p.tables.stsz) (part_in s p.tables.stss) ready) (moved_past (part_in s p.tables.stsz) (part_in s p.tables.stss) ready)) End ≡ To x n
-        → (may_move ready ≡ true) × (sample_said (part_in s p.tables.stsz) (part_in s p.tables.stss) ready ≡ x) × (moved_past (part_in s p.tables.stsz) (part_in s p.tables.stss) ready ≡ n)
-    came true q c = let a : sample_said (part_in s p.tables.stsz) (part_in s p.tables.stss) ready ≡ x = cc in let b : moved_past (part_in s p.tables.stsz) (part_in s p.tables.stss) ready ≡ n = cc in (q, a, b)
+    came : (b : Bool) → may_move ready ≡ b → cond {A = Option Stepped} b (Some (moved (part_in s p.tables.stsz) (part_in s p.tables.stss) ready)) None ≡ Some y
+        → (may_move ready ≡ true) × (moved (part_in s p.tables.stsz) (part_in s p.tables.stss) ready ≡ y)
+    came true q c = let a : moved (part_in s p.tables.stsz) (part_in s p.tables.stss) ready ≡ y = cc in (q, a)
     came false q c = let a : ◌≡◌ {A = ℕ} 0 1 = cc in absurd (omega arith)
 
     known : (may_move ready ≡ true) × (sample_said (part_in s p.tables.stsz) (part_in s p.tables.stss) ready ≡ x) × (moved_past (part_in s p.tables.stsz) (part_in s p.tables.stss) ready ≡ n)
     unfolding moved_on
-    known = came (may_move ready) refl (sym (moved_is before_last) ∙ u)
+    known =
+        let k = came (may_move ready) refl (sym (moved_is before_last) ∙ u) in
+        (k.0, ap (λ (v : Stepped). v.sample) k.1, ap (λ (v : Stepped). v.past) k.1)
 
-    pub steps_next : Steps s p (Next x (record { tables = p.tables; samples = p.samples; moving = n }))
+    pub steps_next : Steps s p (Next y.sample (record { tables = p.tables; samples = p.samples; moving = y.past }))
     unfolding step_numbers step_said
     steps_next = record {
       next = λ w id k a h.
           let q = passes s w id k p a h in
-          let c : To (sample_of (track_of (track_asked s id)) k) q.places ≡ To x n = sym q.answer ∙ sym (moved_is before_last) ∙ u in
-          let i : x ≡ sample_of (track_of (track_asked s id)) k = cc in
-          let j : q.places ≡ n = cc in
+          let c : ◌≡◌ {A = Option Stepped} (Some (record { sample = sample_of (track_of (track_asked s id)) k; past = q.places })) (Some y) = sym q.answer ∙ sym (moved_is before_last) ∙ u in
+          let o : ◌≡◌ {A = Stepped} (record { sample = sample_of (track_of (track_asked s id)) k; past = q.places }) y = cc in
+          let i : x ≡ sample_of (track_of (track_asked s id)) k = sym (ap (λ (v : Stepped). v.sample) o) in
+          let j : q.places ≡ n = ap (λ (v : Stepped). v.past) o in
           record {
             position = record { tables = p.tables; samples = p.samples; moving = n };
             answer = ap (λ (r : Sample). Next r (record { tables = p.tables; samples = p.samples; moving = n })) i;

@@ -2,7 +2,7 @@
 -- position"; "Started at any sample, its answers equal the sample question's from there to the end, and each step itself moves the position
 -- on"; "A step after sample N answers done"; "from a position of another film or track it is safe, and its answer, which may differ from one
 -- correct program to another, is named with what holds of it".
-use Rattle.std.specs.Prelude.{ℕ, suc, ◌-◌, ◌≤◌, ◌<◌, ◌^◌, ◌≡◌, List, [], ◌∷◌, replicate, ℤ, pos}
+use Rattle.std.specs.Prelude.{ℕ, suc, ◌-◌, ◌≤◌, ◌<◌, ◌^◌, ◌≡◌, Option, Some, None, List, [], ◌∷◌, replicate, ℤ, pos, Result, Ok}
 use Rattle.atoms.specs.Kinds as kinds
 use Rattle.structure.specs.declared.source.Source.{Source}
 use Rattle.structure.specs.Track.{table_of, offset_table, samples_of}
@@ -13,13 +13,12 @@ use Rattle.positions.specs.declared.moving.Moving.{Moving}
 use Rattle.questions.specs.Asked.{ask_refusal, track_asked}
 use Rattle.questions.specs.Samples.{sample_of, sample_refusal, sample_values}
 use Rattle.questions.specs.declared.samples.Sample.{Sample}
+use Rattle.step_moves.specs.declared.Stepped.{Stepped}
 use Rattle.step_moves.specs.Moves.{stepped_on}
-use Rattle.step_moves.specs.declared.Move.{Move}
-use Rattle.step_moves.specs.declared.Move.TheVariants.{To, End}
 use Rattle.stepping.specs.Parts.{bytes_in}
 use Rattle.stepping.specs.declared.Stepper.{Stepper}
-use Rattle.stepping.specs.declared.Start.{Start}
-use Rattle.stepping.specs.declared.Start.TheVariants.{At, Refused}
+use Rattle.refusals.specs.Refusals.{refused, code}
+use Rattle.refusals.specs.declared.Refusal.{Refusal}
 use Rattle.stepping.specs.declared.Step.{Step}
 use Rattle.stepping.specs.declared.Step.TheVariants.{Next, Done}
 
@@ -46,21 +45,17 @@ pub record Stands (s : List ℕ) (w : Source) (id k : ℕ) (p : Stepper) : Type 
 
 -- ---- the start. "Refusals: the file's, 14, then 15 for a start outside 1 to N": those of the sample question
 
--- document 01's number for each case: of a refusal its own, else 0
-abbrev pub start_number : Start → ℕ
-start_number (At p) = 0
-start_number (Refused r) = r
-
 -- a position before sample n, which may be made in more than one way
-pub record Begins (s : List ℕ) (w : Source) (id n : ℕ) (r : Start) : Type 0 where
+pub record Begins (s : List ℕ) (w : Source) (id n : ℕ) (r : Result Stepper Refusal) : Type 0 where
   pub position : Stepper
-  pub answer : r ≡ At position
+  pub answer : r ≡ Ok position
   pub stands : Stands s w id (n - 1) position
 
 -- the promise of `Stepper::at`
-pub record Starts (s : List ℕ) (w : Source) (id n : ℕ) (r : Start) : Type 0 where
-  pub number : start_number r ≡ sample_refusal s w id n
-  pub refused : (sample_refusal s w id n ≡ 0 → ⊥) → r ≡ Refused (sample_refusal s w id n)
+pub record Starts (s : List ℕ) (w : Source) (id n : ℕ) (r : Result Stepper Refusal) : Type 0 where
+  -- document 01's number for each case: of a refusal its own, else 0
+  pub number : code r ≡ sample_refusal s w id n
+  pub refused : (sample_refusal s w id n ≡ 0 → ⊥) → r ≡ refused (sample_refusal s w id n)
   pub started : sample_refusal s w id n ≡ 0 → Begins s w id n r
 
 -- ---- a step
@@ -86,9 +81,9 @@ pub record Forward (m n : Moving) : Type 0 where
   pub stss : m.sync ≤ n.sync
 
 -- the answer of any position, by the tables at its places, whatever stands there: the sample and the position moved on, or done
-abbrev pub step_as : Stepper → Move → Step
-step_as p (To x m) = Next x (record { tables = p.tables; samples = p.samples; moving = m })
-step_as p End = Done
+abbrev pub step_as : Stepper → Option Stepped → Step
+step_as p (Some m) = Next m.sample (record { tables = p.tables; samples = p.samples; moving = m.past })
+step_as p None = Done
 
 unfoldable pub step_said : List ℕ → Stepper → Step
 step_said s p = step_as p (stepped_on (bytes_in s p.tables) p.samples p.moving)

@@ -10,9 +10,10 @@ use parts::start_in;
 use places::part_of;
 use places::tables::{Tables, tables_in};
 use positions::moving::Moving;
-use questions::Ask;
+use questions::Asked;
 use questions::samples::Sample;
-use step_moves::{Move, heads_of, step_in};
+use refusals::Refusal;
+use step_moves::{heads_of, step_in};
 use structure::source::Source;
 
 // The tables of the track, the number of its samples, and the places before the next of them. The sizes of headers and entries by which a step goes are
@@ -24,13 +25,6 @@ pub struct Stepper {
     pub moving: Moving,
 }
 
-// The answer of `Stepper::at`: the position; or the number of a refusal.
-#[derive(Clone, Copy)]
-pub enum Start {
-    At(Stepper),
-    Refused(u32),
-}
-
 // The answer of `step`: the next sample, and the position past it; or done, where no sample follows.
 #[derive(Clone, Copy)]
 pub enum Step {
@@ -40,14 +34,11 @@ pub enum Step {
 
 impl Stepper {
     // Before sample n of a track, numbered from 1.
-    pub fn at(lent: &[u8], source: Source, id: u32, n: u32) -> Start
+    pub fn at(lent: &[u8], source: Source, id: u32, n: u32) -> Result<Stepper, Refusal>
         ensures { Starts lent.now source id n result }
     {
-        let ask = Ask::of(lent, source, id);
-        if ask.refusal != 0 {
-            return Start::Refused(ask.refusal);
-        }
-        let trak = ask.trak;
+        let asked = Asked::of(lent, source, id)?;
+        let trak = asked.trak;
         let tables = tables_in(lent, trak.body, trak.parts);
         let stsz = tables.stsz;
         start_in(lent, tables, u32_at(part_of(lent, stsz), 16), n)
@@ -81,15 +72,15 @@ impl Stepper {
             m,
         );
         match r {
-            Move::To(sample, moving) => Step::Next(
-                sample,
+            Some(next) => Step::Next(
+                next.sample,
                 Stepper {
                     tables,
                     samples,
-                    moving,
+                    moving: next.past,
                 },
             ),
-            Move::End => Step::Done,
+            None => Step::Done,
         }
     }
 }

@@ -2,25 +2,26 @@
 ghost use Rattle.std.specs.Prelude.{◌≡◌};
 ghost use Rattle.stepping.specs.Parts.{start_said};
 
-use super::{Start, Stepper};
+use super::Stepper;
 use places::part_of;
 use places::tables::Tables;
 use position_seeks::moving_seek;
+use refusals::Refusal;
 
 // Before sample n, numbered from 1. `Stepper::at` goes by it, and the start by a handle.
-pub fn start_in(lent: &[u8], tables: Tables, samples: u32, n: u32) -> Start
+pub fn start_in(lent: &[u8], tables: Tables, samples: u32, n: u32) -> Result<Stepper, Refusal>
     ensures { result ≡ start_said lent.now tables samples n }
 {
     if n == 0 {
-        return Start::Refused(15);
+        return Err(Refusal::Outside);
     }
     if samples < n {
-        return Start::Refused(15);
+        return Err(Refusal::Outside);
     }
     let part = tables.stsc;
     let stsc = part_of(lent, part);
     if 4294967295 < stsc.len() {
-        return Start::Refused(15);
+        return Err(Refusal::Outside);
     }
     let stts = tables.stts;
     let ctts = tables.ctts;
@@ -36,7 +37,7 @@ pub fn start_in(lent: &[u8], tables: Tables, samples: u32, n: u32) -> Start
         part_of(lent, stss),
         n - 1,
     );
-    Start::At(Stepper {
+    Ok(Stepper {
         tables,
         samples,
         moving,

@@ -14,19 +14,17 @@ use Rattle.track.specs.Track.{track_of}
 use Rattle.questions.specs.Asked.{ask_refusal, track_asked}
 use Rattle.questions.specs.Samples.{sample_of, sample_refusal, sample_answer}
 use Rattle.questions.specs.declared.samples.Sample.{Sample}
-use Rattle.questions.specs.declared.samples.SampleAnswer.{SampleAnswer}
-use Rattle.questions.specs.declared.samples.SampleAnswer.TheVariants.{Found}
 use Rattle.stepping.specs.Stepping.{Stands, Starts, Forward, Steps, Onward, Chain}
 use Rattle.stepping.specs.declared.Stepper.{Stepper}
-use Rattle.stepping.specs.declared.Start.{Start}
-use Rattle.stepping.specs.declared.Start.TheVariants.{At}
 use Rattle.stepping.specs.declared.Step.{Step}
 use Rattle.stepping.specs.declared.Step.TheVariants.{Next, Done}
 use Rattle.stepping_theorems.specs.Walked.{answers_from, Walks, Keeps, StepsThrough, StepsFromAny, StepsAnywhere}
+use Rattle.std.specs.Prelude.{Result, Ok}
+use Rattle.refusals.specs.declared.Refusal.{Refusal}
 
 -- the sample question's answer for a sample of the track
 answered : (s : List ℕ) (w : Source) (id k : ℕ) → ask_refusal s w id ≡ 0 → k < samples_of (track_asked s id)
-    → sample_answer s w id (suc k) ≡ Found (sample_of (track_of (track_asked s id)) k)
+    → sample_answer s w id (suc k) ≡ Ok (sample_of (track_of (track_asked s id)) k)
 unfolding sample_refusal or_else
 answered s w id k e h =
     let z : suc k - 1 ≡ k = omega arith in
@@ -59,19 +57,19 @@ module _ (s : List ℕ) (w : Source) (id : ℕ) where
   ]
 
   walks : (k : ℕ) (p : Stepper) (xs : List Sample) (q : Stepper) → Stands s w id k p → Chain s p xs q
-      → (map Found xs ≡ answers_from (sample_answer s w id) (suc k) (length xs)) × Stands s w id (k + length xs) q
+      → (map Ok xs ≡ answers_from (sample_answer s w id) (suc k) (length xs)) × Stands s w id (k + length xs) q
   walks k p [] q a c = let z : k ≡ k + 0 = omega arith in (refl, rw (c, z) at a)
   walks k p (x ∷ xs) q a c =
       let o = passed k p x c.0 a c.1 in
       let f = walks (suc k) c.0 xs q o.stands c.2 in
       let z : suc k + length xs ≡ k + suc (length xs) = omega arith in (
-        λ i. ((ap Found o.sample ∙ sym (answered s w id k a.asked o.here)) i) ∷ f.0 i,
+        λ i. ((ap Ok o.sample ∙ sym (answered s w id k a.asked o.here)) i) ∷ f.0 i,
         rw z at f.1,
       )
 
   -- c steps from before sample k to the end
   ends : (f : Stepper → Step) → Keeps s w id f → (c k : ℕ) (p : Stepper) → Stands s w id k p → k + c ≡ samples_of (track_asked s id)
-      → (xs : List Sample) × Walks f p xs × (map Found xs ≡ answers_from (sample_answer s w id) (suc k) c)
+      → (xs : List Sample) × Walks f p xs × (map Ok xs ≡ answers_from (sample_answer s w id) (suc k) c)
   ends f g zero k p a e = let z : k ≡ samples_of (track_asked s id) = omega arith in ([], (g k p a).done w id (rw z at a), refl)
   ends f g (suc c) k p a e =
       let h : k < samples_of (track_asked s id) = omega arith in

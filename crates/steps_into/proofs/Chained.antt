@@ -1,12 +1,12 @@
 -- Samples put one after the other: the chain with one step more, and the room with one sample more.
 -- Assumes nothing.
 use Prim.Native.Nat.{ℕ, suc, ◌+◌, ◌*◌, ◌/◌, ◌≤◌, ◌<◌}
-use mathlib.Core.Path.{◌≡◌, refl, sym, ap, ◌∙◌}
+use mathlib.Core.Path.{◌≡◌, refl, ap, ◌∙◌}
 use mathlib.Core.List.{List, [], ◌∷◌, ◌++◌}
 use mathlib.Core.Logic.{◌⊎◌, inl, inr, ⊎_elim}
 use native.Mathlib.Omega.{arith}
 use native.Mathlib.Nat.{zero-add}
-use lib.ListN.{length, drop, set}
+use lib.ListN.{length, set}
 use lib.Seq.{sets, sets-eq, length-sets}
 use lib.IntN.{ℤ}
 use Rattle.movie.specs.Rooms.{filled_room}
@@ -17,7 +17,6 @@ use Rattle.stepping.specs.Stepping.{Steps, Chain}
 use Rattle.stepping.specs.declared.Stepper.{Stepper}
 use Rattle.stepping.specs.declared.Step.TheVariants.{Next, Done}
 use Rattle.steps_into.specs.Into.{flat_samples, StepsInto}
-use Rattle.steps_into.specs.declared.Reached.{Reached}
 
 -- a position of the same tables by other places
 abbrev pub at : Stepper → Moving → Stepper

@@ -10,7 +10,7 @@ use places::part_of;
 use places::tables::Tables;
 use positions::moving::Moving;
 use questions::samples::Sample;
-use step_moves::{Move, heads_of, step_in};
+use step_moves::{heads_of, step_in};
 use stepping::Stepper;
 
 // How many numbers a sample has.
@@ -83,12 +83,12 @@ pub fn steps_into(lent: &[u8], from: Stepper, room: &mut [i64]) -> Reached
     let mut at = 0;
     while SAMPLE <= room.len() - at {
         let step = step_in(stts, ctts, stsc, stsz, offsets, stss, heads, samples, m);
-        let Move::To(x, next) = step else {
+        let Some(next) = step else {
             return reached_at(at, tables, samples, m);
         };
-        put_sample(x, room, at);
+        put_sample(next.sample, room, at);
         at += SAMPLE;
-        m = next;
+        m = next.past;
     }
     reached_at(at, tables, samples, m)
 }

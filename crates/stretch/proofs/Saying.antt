@@ -1,7 +1,7 @@
 -- A stretch by the bytes of its tables: the ways out of the code, and of the tables of an accepted track the answer of the question.
 -- Assumes nothing.
 use Prim.Native.Nat.{ℕ, ◌/◌, ◌^◌, ◌≤◌, ◌<◌}
-use mathlib.Core.Path.{◌≡◌, refl, sym, ◌∙◌}
+use mathlib.Core.Path.{◌≡◌, refl, sym, ap, ◌∙◌}
 use mathlib.Core.Bool.{Bool, true, false, cond, ◌&&◌}
 use mathlib.Core.List.{List, []}
 use native.Mathlib.Omega.{arith}
@@ -24,69 +24,71 @@ use Rattle.pair_checks.specs.Fits.{pairs_fit}
 use Rattle.pair_checks.proofs.Fits.{fits_putting, fitting_fits}
 use Rattle.spans.specs.Spans.{Usable, Spans, span_of, is_span, span_said, span_pairs}
 use Rattle.spans.specs.declared.Span.{Span}
-use Rattle.spans.specs.declared.Asked.{Asked}
-use Rattle.spans.specs.declared.Asked.TheVariants as asks
+use Rattle.std.specs.Prelude.{Result, Ok, Err}
+use Rattle.refusals.specs.Refusals.{number}
+use Rattle.refusals.specs.declared.Refusal.{Refusal}
+use Rattle.refusals.specs.declared.Refusal.TheVariants.{Outside, NoRoom}
+use Rattle.movie.proofs.Refused.{or_err}
 use Rattle.spans.proofs.Spanning.{table_fits, track_span, count_same, pairs-fit}
 use Rattle.questions.specs.Asked.{ask_refusal, track_asked}
 use Rattle.edits.specs.declared.MediaTime.{MediaTime}
 use Rattle.stretch.specs.Stretches.{span_at, span_refusal, Stretches}
 use Rattle.stretch.specs.Said.{is_stretch, asked_said, said_refusal, said_pairs, PutsPairs, StretchSaid}
-use Rattle.stretch.specs.declared.StretchAnswer.{StretchAnswer}
-use Rattle.stretch.specs.declared.StretchAnswer.TheVariants.{Pairs, Refused}
+use Rattle.stretch.specs.declared.StretchTotals.{StretchTotals}
 use Rattle.stretch.proofs.Puts.{pairs_refused, pairs_no_room, pairs_put}
 use Rattle.stretch.proofs.Spanning.{InSpan, usable, span_order, pairs_are, bytes_are, no_span, as_stretches}
 
 -- ---- the ways out
 
--- samples, or the refusal 15
-by_span : (x : Bool) (q p : Span) → asks.Samples p ≡ cond x (asks.Samples q) (asks.Refused 15) → (x ≡ true) × (p ≡ q)
+-- samples, or refused
+by_span : (x : Bool) (q p : Span) → Ok p ≡ cond x (Ok q) (Err Outside) → (x ≡ true) × (p ≡ q)
 by_span true q p e = (refl, cc)
 by_span false q p e = let z : ◌≡◌ {A = ℕ} 0 1 = cc in absurd (omega arith)
 
-by_15 : (x : Bool) (q : Span) (r : ℕ) → asks.Refused r ≡ cond x (asks.Samples q) (asks.Refused 15) → (x ≡ false) × (r ≡ 15)
+by_15 : (x : Bool) (q : Span) (r : Refusal) → Err r ≡ cond x (Ok q) (Err Outside) → (x ≡ false) × (r ≡ Outside)
 by_15 true q r e = let z : ◌≡◌ {A = ℕ} 0 1 = cc in absurd (omega arith)
 by_15 false q r e = (refl, cc)
 
-module _ (d c z o : List ℕ) (samples chunks : ℕ) (a b : MediaTime) (g : Asked) where
+module _ (d c z o : List ℕ) (samples chunks : ℕ) (a b : MediaTime) (g : Result Span Refusal) where
   -- of `asked_of`
   module _ (eg : g ≡ span_said d samples a.0 b.0) where
-    pub not_asked : (r : ℕ) → g ≡ asks.Refused r → asks.Refused r ≡ asked_said d c z o samples chunks a b
+    pub not_asked : (r : Refusal) → g ≡ Err r → Err r ≡ asked_said d c z o samples chunks a b
     unfolding span_said asked_said is_stretch
     not_asked r e = let k = by_15 (is_span d samples a.0 b.0) _ r (sym e ∙ eg) in rw (k.0, k.1)
 
-    module _ (p : Span) (e : g ≡ asks.Samples p) (f : Bool) (h : f ≡ pairs_fit c z o chunks p.from p.stop) where
-      fits_asked : (x : Bool) → f ≡ x → cond x (asks.Samples p) (asks.Refused 15) ≡ asked_said d c z o samples chunks a b
+    module _ (p : Span) (e : g ≡ Ok p) (f : Bool) (h : f ≡ pairs_fit c z o chunks p.from p.stop) where
+      fits_asked : (x : Bool) → f ≡ x → cond x (Ok p) (Err Outside) ≡ asked_said d c z o samples chunks a b
       unfolding span_said asked_said is_stretch
       fits_asked x v = let k = by_span (is_span d samples a.0 b.0) _ p (sym e ∙ eg) in rw (k.0, k.1, sym (rw k.1 at h) ∙ v)
 
-      pub asked_fits : f ≡ true → asks.Samples p ≡ asked_said d c z o samples chunks a b
+      pub asked_fits : f ≡ true → Ok p ≡ asked_said d c z o samples chunks a b
       asked_fits = fits_asked true
 
-      pub asked_too_large : f ≡ false → asks.Refused 15 ≡ asked_said d c z o samples chunks a b
+      pub asked_too_large : f ≡ false → Err Outside ≡ asked_said d c z o samples chunks a b
       asked_too_large = fits_asked false
 
   -- the refusal, from what is asked
   module _ (eg : g ≡ asked_said d c z o samples chunks a b) where
-    pub none_said : (p : Span) → g ≡ asks.Samples p → 0 ≡ said_refusal d c z o samples chunks a b
+    pub none_said : (p : Span) → g ≡ Ok p → 0 ≡ said_refusal d c z o samples chunks a b
     unfolding asked_said said_refusal
     none_said p e = let k = by_span (is_stretch d c z o samples chunks a b) _ p (sym e ∙ eg) in rw k.0
 
-    pub refusal_said : (r : ℕ) → g ≡ asks.Refused r → r ≡ said_refusal d c z o samples chunks a b
+    pub refusal_said : (r : Refusal) → g ≡ Err r → number r ≡ said_refusal d c z o samples chunks a b
     unfolding asked_said said_refusal
-    refusal_said r e = let k = by_15 (is_stretch d c z o samples chunks a b) _ r (sym e ∙ eg) in rw k.0 k.1
+    refusal_said r e = let k = by_15 (is_stretch d c z o samples chunks a b) _ r (sym e ∙ eg) in rw k.0 (ap number k.1)
 
   -- of `stretch_in`
   module _ (eg : g ≡ asked_said d c z o samples chunks a b) (room : List ℕ) where
-    pub said_refused : (r : ℕ) → g ≡ asks.Refused r → StretchSaid d c z o samples chunks a b room (Refused r) room
+    pub said_refused : (r : Refusal) → g ≡ Err r → StretchSaid d c z o samples chunks a b room (Err r) room
     unfolding asked_said said_refusal or_else
-    said_refused r e = let k = by_15 (is_stretch d c z o samples chunks a b) _ r (sym e ∙ eg) in rw (k.0, k.1) (pairs_refused 15 (said_pairs d c z o chunks a b) room (λ y. omega arith) refl)
+    said_refused r e = let k = by_15 (is_stretch d c z o samples chunks a b) _ r (sym e ∙ eg) in rw (k.0, k.1) (pairs_refused Outside (said_pairs d c z o chunks a b) room)
 
-    module _ (p : Span) (e : g ≡ asks.Samples p) where
+    module _ (p : Span) (e : g ≡ Ok p) where
       pub said_fits : pairs_fit c z o chunks p.from p.stop ≡ true
       unfolding asked_said is_stretch
       said_fits = let k = by_span (is_stretch d c z o samples chunks a b) _ p (sym e ∙ eg) in rw k.1 (and_right (is_span d samples a.0 b.0) _ k.0)
 
-      pub said_put : (r : StretchAnswer) (after : List ℕ) → PutsPairs 0 (pairs_between c z o chunks p.from p.stop) room r after → StretchSaid d c z o samples chunks a b room r after
+      pub said_put : (r : Result StretchTotals Refusal) (after : List ℕ) → PutsPairs 0 (pairs_between c z o chunks p.from p.stop) room r after → StretchSaid d c z o samples chunks a b room r after
       unfolding asked_said said_refusal said_pairs
       said_put r after h = let k = by_span (is_stretch d c z o samples chunks a b) _ p (sym e ∙ eg) in let q = rw k.1 at h in rw k.0 q
 
@@ -95,7 +97,7 @@ module _ (c z o : List ℕ) (chunks : ℕ) (p : Span) (room : List ℕ) (n : ℕ
   many : n ≡ length (pairs_between c z o chunks p.from p.stop)
   many = e ∙ count_same c z o chunks p.from p.stop
 
-  pub span_no_room : length room / 2 < n → PutsPairs 0 (pairs_between c z o chunks p.from p.stop) room (Refused 16) room
+  pub span_no_room : length room / 2 < n → PutsPairs 0 (pairs_between c z o chunks p.from p.stop) room (Err NoRoom) room
   span_no_room = pairs_no_room (pairs_between c z o chunks p.from p.stop) room n many
 
   pub span_putting : pairs_fit c z o chunks p.from p.stop ≡ true → ((i : ℕ) → get_or z i 0 < 256) → p.stop ≤ 4294967295 → n ≤ length room / 2
@@ -103,15 +105,15 @@ module _ (c z o : List ℕ) (chunks : ℕ) (p : Span) (room : List ℕ) (n : ℕ
   span_putting f y l h = fits_putting c z o chunks p.from p.stop f y l (length room) (omega (arith, many))
 
   pub span_put : (bytes : ℕ) (after : List ℕ) → n ≤ length room / 2 → bytes ≡ sum (lengths_of (pairs_between c z o chunks p.from p.stop))
-      → after ≡ sets room 0 (flat (pairs_between c z o chunks p.from p.stop)) → PutsPairs 0 (pairs_between c z o chunks p.from p.stop) room (Pairs n bytes) after
+      → after ≡ sets room 0 (flat (pairs_between c z o chunks p.from p.stop)) → PutsPairs 0 (pairs_between c z o chunks p.from p.stop) room (Ok (record { pairs = n; bytes = bytes })) after
   span_put = pairs_put (pairs_between c z o chunks p.from p.stop) room n many
 
 -- ---- by the tables of the track that is asked
 
-abbrev pub SaidOf : List ℕ → MediaTime → MediaTime → List ℕ → StretchAnswer → List ℕ → Type 0
+abbrev pub SaidOf : List ℕ → MediaTime → MediaTime → List ℕ → Result StretchTotals Refusal → List ℕ → Type 0
 SaidOf t a b room r after = StretchSaid (table_of stts t) (table_of stsc t) (table_of stsz t) (offset_table t) (samples_of t) (chunks_of t) a b room r after
 
-module _ (s : List ℕ) (w : Source) (id : ℕ) (a b : MediaTime) (e : ask_refusal s w id ≡ 0) (room : List ℕ) (r : StretchAnswer) (after : List ℕ) where
+module _ (s : List ℕ) (w : Source) (id : ℕ) (a b : MediaTime) (e : ask_refusal s w id ≡ 0) (room : List ℕ) (r : Result StretchTotals Refusal) (after : List ℕ) where
   abbrev track : List ℕ
   track = track_asked s id
 
@@ -149,7 +151,7 @@ module _ (s : List ℕ) (w : Source) (id : ℕ) (a b : MediaTime) (e : ask_refus
   by_within false h p =
       let q = rw (refusal_is false h) at p in
       let z : 15 ≡ span_at s w id a.0 b.0 = rw (e, h) in
-      rw (q.answer, q.places) (no_span s w id a b room 15 z (λ y. omega arith))
+      rw (q.answer, q.places) (no_span s w id a b room Outside (sym z))
 
   -- the answer of the question
   pub said_stretches : SaidOf track a b room r after → Stretches s w id a b room r after
@@ -162,17 +164,16 @@ pub said_span : (s : List ℕ) (w : Source) (id : ℕ) (a b : MediaTime) → ask
 unfolding span_refusal or_else
 said_span s w id a b e =
     let t = track_asked s id in
-    refusal_is s w id a b e [] (Refused 0) [] (ltb a.0 b.0 && leb b.0 (total_in t)) refl ∙ rw e
+    refusal_is s w id a b e [] (Err Outside) [] (ltb a.0 b.0 && leb b.0 (total_in t)) refl ∙ rw e
 
 -- the same, from what the code has
-pub film_refused : (s : List ℕ) (w : Source) (id : ℕ) (a b : MediaTime) (room : List ℕ) (k : ℕ) → k ≡ ask_refusal s w id → (k ≡ 0 → ⊥) → Stretches s w id a b room (Refused k) room
-unfolding or_else
-film_refused s w id a b room k e n = no_span s w id a b room k (rw (← e, ne_eqb k 0 n)) n
+pub film_refused : (s : List ℕ) (w : Source) (id : ℕ) (a b : MediaTime) (room : List ℕ) (e : Refusal) → ask_refusal s w id ≡ number e → Stretches s w id a b room (Err e) room
+film_refused s w id a b room e h = no_span s w id a b room e (or_err (ask_refusal s w id) _ e h)
 
-pub said_asked : (s t : List ℕ) (w : Source) (id : ℕ) (a b : MediaTime) (k : ℕ) → k ≡ ask_refusal s w id → k ≡ 0 → t ≡ track_asked s id → (d c z o : List ℕ) (samples chunks : ℕ) → d ≡ table_of stts t
-    → c ≡ table_of stsc t → z ≡ table_of stsz t → o ≡ offset_table t → samples ≡ u32_at z 16 → chunks ≡ u32_at o 12 → (room : List ℕ) (r : StretchAnswer) (after : List ℕ)
+pub said_asked : (s t : List ℕ) (w : Source) (id : ℕ) (a b : MediaTime) → ask_refusal s w id ≡ 0 → t ≡ track_asked s id → (d c z o : List ℕ) (samples chunks : ℕ) → d ≡ table_of stts t
+    → c ≡ table_of stsc t → z ≡ table_of stsz t → o ≡ offset_table t → samples ≡ u32_at z 16 → chunks ≡ u32_at o 12 → (room : List ℕ) (r : Result StretchTotals Refusal) (after : List ℕ)
     → StretchSaid d c z o samples chunks a b room r after → Stretches s w id a b room r after
-said_asked s t w id a b k e q f d c z o samples chunks ed ec ez eo es eh room r after p =
+said_asked s t w id a b q f d c z o samples chunks ed ec ez eo es eh room r after p =
     let n : samples ≡ samples_of t = es ∙ rw ez in
     let m : chunks ≡ chunks_of t = eh ∙ rw eo in
-    said_stretches s w id a b (sym e ∙ q) room r after (rw (ed, ec, ez, eo, n, m, f) at p)
+    said_stretches s w id a b q room r after (rw (ed, ec, ez, eo, n, m, f) at p)

@@ -1,5 +1,5 @@
 -- "Stretch, from a to b in media time, 0 ≤ a < b ≤ total: samples from the one at a to the one at b-1, all numbers between included."
-use Rattle.std.specs.Prelude.{ℕ, suc, ◌-◌, List, [], ◌∷◌, cond, ◌&&◌, length, ltb, leb}
+use Rattle.std.specs.Prelude.{ℕ, suc, ◌-◌, List, [], ◌∷◌, cond, ◌&&◌, length, ltb, leb, Result, Ok, Err}
 use Rattle.lists.specs.Lists.{between, holder}
 use Rattle.pairs.specs.Pairs.{touched, flat}
 use Rattle.pairs.specs.declared.Pair.{Pair}
@@ -11,8 +11,9 @@ use Rattle.track.specs.Refusals.{total_in}
 use Rattle.movie.specs.Rooms.{no_room, refused_with}
 use Rattle.movie.specs.Answers.{given, Puts}
 use Rattle.questions.specs.Asked.{ask_refusal, track_asked}
-use Rattle.stretch.specs.declared.StretchAnswer.{StretchAnswer}
-use Rattle.stretch.specs.declared.StretchAnswer.TheVariants.{Pairs, Refused}
+use Rattle.refusals.specs.Refusals.{number, refused}
+use Rattle.refusals.specs.declared.Refusal.{Refusal}
+use Rattle.stretch.specs.declared.StretchTotals.{StretchTotals}
 
 -- the samples included, by index: from the one at a, and up to, not including, the one past that at b - 1
 unfoldable pub first_in : Track → MediaTime → ℕ
@@ -45,18 +46,18 @@ unfoldable pub stretch_refusal : List ℕ → Source → ℕ → MediaTime → M
 stretch_refusal s w id a b room = or_else (span_refusal s w id a b) (no_room (flat (stretch_pairs s id a b)) room)
 
 -- what is answered where nothing is refused: "with the number of pairs and the total of bytes"
-abbrev pub stretch_asked : List ℕ → ℕ → MediaTime → MediaTime → StretchAnswer
-stretch_asked s id a b = Pairs (length (stretch_pairs s id a b)) (bytes_in (track_of (track_asked s id)) a b)
+abbrev pub stretch_asked : List ℕ → ℕ → MediaTime → MediaTime → Result StretchTotals Refusal
+stretch_asked s id a b = Ok (record { pairs = length (stretch_pairs s id a b); bytes = bytes_in (track_of (track_asked s id)) a b })
 
-abbrev pub stretch_answer : List ℕ → Source → ℕ → MediaTime → MediaTime → List ℕ → StretchAnswer
-stretch_answer s w id a b room = given (stretch_refusal s w id a b room) (stretch_asked s id a b) Refused
+abbrev pub stretch_answer : List ℕ → Source → ℕ → MediaTime → MediaTime → List ℕ → Result StretchTotals Refusal
+stretch_answer s w id a b room = given (stretch_refusal s w id a b room) (stretch_asked s id a b) refused
 
 -- document 01's number and values for each case of the answer
-unfoldable pub stretch_numbers : StretchAnswer → List ℕ
-stretch_numbers (Pairs n bytes) = 0 ∷ n ∷ bytes ∷ []
-stretch_numbers (Refused r) = refused_with 2 r
+unfoldable pub stretch_numbers : Result StretchTotals Refusal → List ℕ
+stretch_numbers (Ok x) = 0 ∷ x.pairs ∷ x.bytes ∷ []
+stretch_numbers (Err e) = refused_with 2 (number e)
 
 -- the promise of the question: the answer r, and the room after it
-abbrev pub Stretches : List ℕ → Source → ℕ → MediaTime → MediaTime → List ℕ → StretchAnswer → List ℕ → Type 0
+abbrev pub Stretches : List ℕ → Source → ℕ → MediaTime → MediaTime → List ℕ → Result StretchTotals Refusal → List ℕ → Type 0
 Stretches s w id a b room r after =
-    Puts stretch_numbers (refused_with 2) Refused (stretch_refusal s w id a b room) (stretch_asked s id a b) r (flat (stretch_pairs s id a b)) room after
+    Puts stretch_numbers (refused_with 2) refused (stretch_refusal s w id a b room) (stretch_asked s id a b) r (flat (stretch_pairs s id a b)) room after

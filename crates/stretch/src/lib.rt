@@ -3,79 +3,112 @@
 
 pub mod tables;
 
-ghost use Rattle.std.specs.Prelude.{◌≡◌};
-ghost use Rattle.structure.specs.Source.{whole_file};
-ghost use Rattle.stretch.specs.Spans.{span_of_ask};
+ghost use Rattle.std.specs.Prelude.{◌≡◌, ◌<◌, map};
+ghost use Rattle.refusals.specs.Refusals.{code};
+ghost use Rattle.structure.specs.Source.{whole_file, length_of};
+ghost use Rattle.questions.specs.Asked.{ask_refusal};
+ghost use Rattle.stretch.specs.Spans.{SpanAsked};
 ghost use Rattle.stretch.specs.Stretches.{span_refusal, Stretches};
 
 use bigendian::u32_at;
 use edits::MediaTime;
 use places::part_of;
-use questions::Ask;
-use spans::{Asked, has_room, put_in, span_of};
+use places::trak::Trak;
+use questions::Asked;
+use refusals::Refusal;
+use room_pairs::RoomNumber;
+use spans::{Span, has_room, put_in, span_of};
 use structure::source::Source;
-use tables::stretch_in;
 
-// What the stretch from a to b of the track that is asked asks for.
-pub fn span_asked(lent: &[u8], ask: Ask, a: MediaTime, b: MediaTime) -> Asked
-    ensures { result ≡ span_of_ask lent.now ask a.0 b.0 }
+// The trak of the track that is asked, and the samples of the stretch.
+#[derive(Clone, Copy)]
+pub struct Stretched {
+    pub trak: Trak,
+    pub span: Span,
+}
+
+// What the stretch from a to b of a track asks for.
+pub fn span_asked(
+    lent: &[u8],
+    source: Source,
+    id: u32,
+    a: MediaTime,
+    b: MediaTime,
+) -> Result<Stretched, Refusal>
+    ensures { SpanAsked lent.now source id a.0 b.0 result }
 {
-    if ask.refusal != 0 {
-        return Asked::Refused(ask.refusal);
-    }
-    let trak = ask.trak;
+    let asked = Asked::of(lent, source, id)?;
+    let trak = asked.trak;
     let body = part_of(lent, trak.body);
     let p = trak.parts;
     let samples = u32_at(part_of(body, p.stsz), 16);
-    span_of(part_of(body, p.stts), samples, a, b)
+    let span = span_of(part_of(body, p.stts), samples, a, b)?;
+    Ok(Stretched { trak, span })
 }
 
-// The refusal before the room is looked at: the film's, 14, or 15; 0 where there is none.
-pub fn span_refusal(lent: &[u8], source: Source, id: u32, a: MediaTime, b: MediaTime) -> u32
-    ensures { result ≡ span_refusal lent.now source id a b }
+// The refusal before the room is looked at: the film's, 14, or 15.
+pub fn span_refusal(
+    lent: &[u8],
+    source: Source,
+    id: u32,
+    a: MediaTime,
+    b: MediaTime,
+) -> Result<(), Refusal>
+    ensures { code result ≡ span_refusal lent.now source id a b }
 {
-    let ask = Ask::of(lent, source, id);
-    match span_asked(lent, ask, a, b) {
-        Asked::Samples(_) => 0,
-        Asked::Refused(r) => r,
-    }
+    span_asked(lent, source, id, a, b)?;
+    Ok(())
 }
 
-// The answer of `stretch_of` and `stretch_wide`: how many pairs, and the total of bytes; or the number of a refusal.
+// How many pairs a stretch has, and the total of their bytes.
 #[derive(Clone, Copy)]
-pub enum StretchAnswer {
-    Pairs(usize, u64),
-    Refused(u32),
+pub struct StretchTotals {
+    pub pairs: usize,
+    pub bytes: u64,
 }
 
-// The stretch of a track of a whole file from a to b: a pair (offset, length) for each chunk touched, in the first places of the room. A refusal leaves
-// the room as it is.
+// The stretch of a track from a to b: a pair (offset, length) for each chunk touched, in the first places of the room, whose numbers count the bytes of the
+// file. A refusal leaves the room as it is.
+fn stretch_from<N: RoomNumber>(
+    lent: &[u8],
+    source: Source,
+    id: u32,
+    a: MediaTime,
+    b: MediaTime,
+    room: &mut [N],
+) -> Result<StretchTotals, Refusal>
+    requires { ask_refusal lent.now source id ≡ 0 → length_of source lent.now < N.limit }
+    ensures { Stretches lent.now source id a b (map N.value room.old) result (map N.value room.new) }
+{
+    let found = span_asked(lent, source, id, a, b)?;
+    let trak = found.trak;
+    let span = found.span;
+    let body = part_of(lent, trak.body);
+    let p = trak.parts;
+    if !has_room(body, p, span, room.len()) {
+        return Err(Refusal::NoRoom);
+    }
+    let q = put_in(body, p, span, room);
+    Ok(StretchTotals {
+        pairs: q.pairs,
+        bytes: q.bytes,
+    })
+}
+
+// That of a whole file.
 pub fn stretch_of(
     file: &[u8],
     id: u32,
     a: MediaTime,
     b: MediaTime,
     room: &mut [u32],
-) -> StretchAnswer
+) -> Result<StretchTotals, Refusal>
     ensures { Stretches file.now whole_file id a b room.old result room.new }
 {
-    let ask = Ask::of(file, Source::whole(), id);
-    match span_asked(file, ask, a, b) {
-        Asked::Refused(r) => StretchAnswer::Refused(r),
-        Asked::Samples(span) => {
-            let trak = ask.trak;
-            let body = part_of(file, trak.body);
-            let p = trak.parts;
-            if !has_room(body, p, span, room.len()) {
-                return StretchAnswer::Refused(16);
-            }
-            let q = put_in(body, p, span, room);
-            StretchAnswer::Pairs(q.pairs, q.bytes)
-        }
-    }
+    stretch_from(file, Source::whole(), id, a, b, room)
 }
 
-// The same of any film, lent whole or its moov alone, in 64-bit numbers: the file may be longer than 32 bits count.
+// That of any film, lent whole or its moov alone, in 64-bit numbers: the file may be longer than 32 bits count.
 pub fn stretch_wide(
     lent: &[u8],
     source: Source,
@@ -83,27 +116,8 @@ pub fn stretch_wide(
     a: MediaTime,
     b: MediaTime,
     room: &mut [u64],
-) -> StretchAnswer
+) -> Result<StretchTotals, Refusal>
     ensures { Stretches lent.now source id a b room.old result room.new }
 {
-    let ask = Ask::of(lent, source, id);
-    if ask.refusal != 0 {
-        return StretchAnswer::Refused(ask.refusal);
-    }
-    let trak = ask.trak;
-    let body = part_of(lent, trak.body);
-    let p = trak.parts;
-    let stsz = part_of(body, p.stsz);
-    let offsets = part_of(body, p.offsets);
-    stretch_in(
-        part_of(body, p.stts),
-        part_of(body, p.stsc),
-        stsz,
-        offsets,
-        u32_at(stsz, 16),
-        u32_at(offsets, 12),
-        a,
-        b,
-        room,
-    )
+    stretch_from(lent, source, id, a, b, room)
 }

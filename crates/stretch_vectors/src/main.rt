@@ -36,29 +36,27 @@ pub struct Ask {
 fn line(rt: &impl Print, film: &[u8], kind: u32, ask: Ask) -> io::Result<()> {
     match kind {
         STRETCH => {
-            show::asked(rt, b"  stretch ", ask)?;
+            show::asked(rt, "stretch", ask)?;
             stretches::stretch(rt, film, ask)?;
         }
         SLIP => {
-            show::asked(rt, b"  slip ", ask)?;
+            show::asked(rt, "slip", ask)?;
             slips::slip(rt, film, ask)?;
         }
-        _ => show::text(rt, b"  no question")?,
+        _ => print!(rt; "  no question")?,
     }
-    show::text(rt, b"\n")
+    println!(rt)
 }
 
 fn lines(rt: &impl Print, film: &[u8], questions: &[u8]) -> io::Result<()> {
-    let mut t = questions;
-    while QUESTION <= t.len() {
+    for question in questions.chunks_exact(QUESTION) {
         let ask = Ask {
-            id: u32_at(t, 4),
-            a: u32_at(t, 8),
-            b: u32_at(t, 12),
-            room: u32_at(t, 16),
+            id: u32_at(question, 4),
+            a: u32_at(question, 8),
+            b: u32_at(question, 12),
+            room: u32_at(question, 16),
         };
-        line(rt, film, u32_at(t, 0), ask)?;
-        t = &t[QUESTION..];
+        line(rt, film, u32_at(question, 0), ask)?;
     }
     Ok(())
 }
@@ -75,8 +73,7 @@ fn open_argument<R: Files + Eprint>(rt: &R, argument: Argument) -> io::Result<Op
 fn read_questions(rt: &impl Print, film: &[u8], reader: &mut impl io::Read) -> io::Result<()> {
     let mut room = [0u8; MOST_FILM];
     let count = read_full(reader, &mut room);
-    let questions = &room[..count];
-    lines(rt, film, questions)
+    lines(rt, film, &room[..count])
 }
 
 // Asks a film the questions in the file that an argument names.
@@ -95,14 +92,13 @@ fn read_film(
 ) -> io::Result<()> {
     let mut room = [0u8; FILM];
     let count = read_full(reader, &mut room);
-    let film = &room[..count];
-    ask_all(rt, film, questions)
+    ask_all(rt, &room[..count], questions)
 }
 
 // A line with an argument.
 fn heading(rt: &impl Print, argument: Argument) -> io::Result<()> {
-    show::text(rt, argument.name())?;
-    show::text(rt, b"\n")
+    rt.write_all(argument.unwrap_or(&[]))?;
+    println!(rt)
 }
 
 // A film and the questions that it is asked, each by the argument that names it.
@@ -134,12 +130,10 @@ fn pair_at(
 
 // The arguments after the program's own name, two by two.
 fn main(rt: HostRuntime) -> io::Result<()> {
-    let mut i = 1;
-    while i < usize::MAX - 1 {
-        if !pair_at(&rt, i, i + 1)? {
+    for pair in 0..usize::MAX / 2 {
+        if !pair_at(&rt, 2 * pair + 1, 2 * pair + 2)? {
             break;
         }
-        i += 2;
     }
     Ok(())
 }

@@ -2,92 +2,51 @@
 use super::Ask;
 use std::io;
 
-pub fn text(rt: &impl Print, s: &[u8]) -> io::Result<()> {
-    rt.write_all(s)
-}
-
-pub fn number(rt: &impl Print, n: u64) -> io::Result<()> {
-    print!(rt; "{n}")
-}
-
-// Words, and a number after them.
-pub fn field(rt: &impl Print, words: &[u8], n: u32) -> io::Result<()> {
-    text(rt, words)?;
-    number(rt, n as u64)
-}
-
 // The question.
-pub fn asked(rt: &impl Print, words: &[u8], ask: Ask) -> io::Result<()> {
-    field(rt, words, ask.id)?;
-    field(rt, b" ", ask.a)?;
-    field(rt, b" ", ask.b)?;
-    field(rt, b" room ", ask.room)?;
-    text(rt, b": ")
+pub fn asked(rt: &impl Print, words: &str, ask: Ask) -> io::Result<()> {
+    print!(rt;
+        "  {words} {} {} {} room {}: ",
+        ask.id, ask.a, ask.b, ask.room
+    )
 }
 
-// The number of a refusal, and whether the room is as it was.
-pub fn refused(rt: &impl Print, number: u32, is_left: bool) -> io::Result<()> {
-    field(rt, b"refused ", number)?;
-    text(rt, b",")?;
-    untouched(rt, is_left)
-}
-
-pub fn untouched(rt: &impl Print, is_left: bool) -> io::Result<()> {
-    if is_left {
-        text(rt, b" untouched")
+// Whether every place holds what it held, as a word.
+pub fn left<T: Copy + PartialEq>(room: &[T], guard: T) -> &'static str {
+    if room.iter().all(|place| *place == guard) {
+        "untouched"
     } else {
-        text(rt, b" touched")
+        "touched"
     }
 }
 
-// Two hex digits.
-fn hex(rt: &impl Print, byte: u8) -> io::Result<()> {
-    print!(rt; "{byte:02x}")
-}
-
 pub fn bytes(rt: &impl Print, s: &[u8]) -> io::Result<()> {
-    let mut i = 0;
-    while i < s.len() {
-        hex(rt, s[i])?;
-        i += 1;
+    for byte in s {
+        print!(rt; "{byte:02x}")?;
     }
     Ok(())
 }
 
 // A pair, and how many of it there are in a row if there is more than one.
 fn pair(rt: &impl Print, offset: u32, length: u32, times: u64) -> io::Result<()> {
-    field(rt, b" ", offset)?;
-    field(rt, b"+", length)?;
+    print!(rt; " {offset}+{length}")?;
     if times > 1 {
-        text(rt, b" x")?;
-        number(rt, times)?;
+        print!(rt; " x{times}")?;
     }
     Ok(())
 }
 
-// Whether the second pair is the first again.
-fn is_repeated(s: &[u32]) -> bool {
-    if s.len() < 4 {
-        return false;
-    }
-    if s[0] != s[2] {
-        return false;
-    }
-    s[1] == s[3]
-}
-
 // Each pair with a blank before it; of pairs in a row that are alike the last.
 pub fn pairs(rt: &impl Print, s: &[u32]) -> io::Result<()> {
-    let mut times = 1;
-    let mut t = s;
-    while 2 <= t.len() {
-        if is_repeated(t) {
-            times = std::num::wrapping_add_u64(times, 1);
+    let mut times: u64 = 1;
+    let mut rest = s;
+    while let [offset, length, next @ ..] = rest {
+        if next.starts_with(&[*offset, *length]) {
+            times = times.saturating_add(1);
         } else {
-            pair(rt, t[0], t[1], times)?;
+            pair(rt, *offset, *length, times)?;
             times = 1;
         }
-        t = &t[2..];
+        rest = next;
     }
     Ok(())
 }

@@ -1,4 +1,5 @@
 pub mod Rows
+pub mod Earlier
 pub mod Places
 pub mod Callers
 pub mod Lengths

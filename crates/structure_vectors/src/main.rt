@@ -5,6 +5,7 @@
 use program_input::{
     Argument, MOST_FILM, MOST_NAME, argument_at, name_given, open_named, read_full,
 };
+use refusals::code;
 use std::io;
 use std::rt::Files;
 use structure::source::Source;
@@ -13,15 +14,7 @@ use structure::source::Source;
 fn judge(reader: &mut impl io::Read) -> u32 {
     let mut room = [0u8; MOST_FILM];
     let count = read_full(reader, &mut room);
-    let film = &room[..count];
-    shape::judge(film, Source::whole()).refusal
-}
-
-fn print(rt: &impl Print, name: &[u8], number: u32) -> io::Result<()> {
-    rt.write_all(name)?;
-    rt.write_all(b": ")?;
-    print!(rt; "{number}")?;
-    rt.write_all(b"\n")
+    code(&shape::judge(&room[..count], Source::whole()))
 }
 
 fn film(rt: &(impl Files + Print + Eprint), argument: Argument) -> io::Result<()> {
@@ -32,7 +25,8 @@ fn film(rt: &(impl Files + Print + Eprint), argument: Argument) -> io::Result<()
         return Ok(());
     };
     let number = judge(&mut file);
-    print(rt, name, number)
+    rt.write_all(name)?;
+    println!(rt; ": {number}")
 }
 
 fn main(rt: HostRuntime) -> io::Result<()> {

@@ -41,7 +41,7 @@ fn of_runs(rt: &impl Print, set: &[u8], question: u32, n: u32) -> io::Result<()>
         asks::CTTS_COUNTS => show::truth(rt, runs::counts(ctts, n)),
         asks::TIMING_OF => show::timing(rt, runs::timing_of(stts, n)),
         asks::SAMPLE_AT => show::found(rt, runs::sample_at(stts, n)),
-        _ => show::signed(rt, runs::composition_offset(ctts, n)),
+        _ => print!(rt; "{}", runs::composition_offset(ctts, n)),
     }
 }
 
@@ -53,8 +53,8 @@ fn of_samples(rt: &impl Print, set: &[u8], ask: Ask, n: u32) -> io::Result<()>
     let stss = table(set, kinds::STSS);
     let question = ask.question;
     match question {
-        asks::SIZE_OF => show::number_32(rt, words::size_of(stsz, n)),
-        asks::BYTES_BETWEEN => show::number(rt, words::bytes_between(stsz, ask.a, n)),
+        asks::SIZE_OF => print!(rt; "{}", words::size_of(stsz, n)),
+        asks::BYTES_BETWEEN => print!(rt; "{}", words::bytes_between(stsz, ask.a, n)),
         asks::SYNCS_AGREE => show::truth(rt, words::syncs_agree(stss, n)),
         _ => show::truth(rt, words::is_sync(stss, n)),
     }
@@ -84,8 +84,8 @@ fn of_chunks(rt: &impl Print, set: &[u8], ask: Ask, n: u32) -> io::Result<()>
             show::truth(rt, deals_samples(stsc, u32_at(stco, 12), ask.a, n))
         }
         asks::LOCATE => show::located(rt, place(set, n)),
-        asks::OFFSET_AT => show::number(rt, chunks::located_offset(stsz, stco, place(set, n), n)),
-        asks::CHUNK_OFFSET => show::number(rt, words::chunk_offset(stco, n as u64)),
+        asks::OFFSET_AT => print!(rt; "{}", chunks::located_offset(stsz, stco, place(set, n), n)),
+        asks::CHUNK_OFFSET => print!(rt; "{}", words::chunk_offset(stco, n as u64)),
         _ => show::truth(
             rt,
             chunk_ends::chunks_end_within(stsc, stsz, stco, n as u64),
@@ -122,25 +122,18 @@ fn totals(rt: &impl Print, set: &[u8]) -> io::Result<()>
     requires { length set.now < 2 ^ 32 }
 {
     let stts = table(set, kinds::STTS);
-    show::text(rt, b"total_duration ")?;
+    let least = runs::least_duration(stts);
+    let bytes = words::all_bytes(table(set, kinds::STSZ));
+    print!(rt; "total_duration ")?;
     show::total(rt, runs::total_duration(stts))?;
-    show::text(rt, b", least_duration ")?;
-    show::number_32(rt, runs::least_duration(stts))?;
-    show::text(rt, b", all_bytes ")?;
-    show::number(rt, words::all_bytes(table(set, kinds::STSZ)))
+    print!(rt; ", least_duration {least}, all_bytes {bytes}")
 }
 
 fn edits_total(rt: &impl Print, set: &[u8]) -> io::Result<()>
     requires { length set.now < 2 ^ 32 }
 {
-    show::text(rt, b"edits_total ")?;
+    print!(rt; "edits_total ")?;
     show::total(rt, edits::edits_total(table(set, kinds::ELST)))
-}
-
-fn scales(rt: &impl Print, words: &[u8], ask: Ask) -> io::Result<()> {
-    show::text(rt, words)?;
-    show::field(rt, b" scale ", ask.a)?;
-    show::field(rt, b" movie ", ask.b)
 }
 
 // The name of a question, with the numbers that belong to the whole line.
@@ -149,29 +142,26 @@ fn heading(rt: &impl Print, set: &[u8], ask: Ask) -> io::Result<()>
 {
     let question = ask.question;
     match question {
-        asks::STTS_COUNTS => show::text(rt, b"counts in stts"),
-        asks::CTTS_COUNTS => show::text(rt, b"counts in ctts"),
+        asks::STTS_COUNTS => print!(rt; "counts in stts"),
+        asks::CTTS_COUNTS => print!(rt; "counts in ctts"),
         asks::TOTALS => totals(rt, set),
-        asks::TIMING_OF => show::text(rt, b"timing_of"),
-        asks::SAMPLE_AT => show::text(rt, b"sample_at"),
-        asks::SHIFT_AT => show::text(rt, b"composition_offset"),
-        asks::SIZE_OF => show::text(rt, b"size_of"),
-        asks::BYTES_BETWEEN => show::field(rt, b"bytes_between from ", ask.a),
-        asks::SYNCS_AGREE => show::text(rt, b"syncs_agree"),
-        asks::IS_SYNC => show::text(rt, b"is_sync"),
-        asks::DEALS_BY_DESCRIPTIONS => show::field(rt, b"deals_samples samples ", ask.a),
-        asks::DEALS_BY_SAMPLES => show::field(rt, b"deals_samples descriptions ", ask.a),
-        asks::LOCATE => show::text(rt, b"locate"),
-        asks::OFFSET_AT => show::text(rt, b"located_offset"),
-        asks::CHUNK_OFFSET => show::text(rt, b"chunk_offset"),
-        asks::ENDS_WITHIN => show::text(rt, b"chunks_end_within"),
+        asks::TIMING_OF => print!(rt; "timing_of"),
+        asks::SAMPLE_AT => print!(rt; "sample_at"),
+        asks::SHIFT_AT => print!(rt; "composition_offset"),
+        asks::SIZE_OF => print!(rt; "size_of"),
+        asks::BYTES_BETWEEN => print!(rt; "bytes_between from {}", ask.a),
+        asks::SYNCS_AGREE => print!(rt; "syncs_agree"),
+        asks::IS_SYNC => print!(rt; "is_sync"),
+        asks::DEALS_BY_DESCRIPTIONS => print!(rt; "deals_samples samples {}", ask.a),
+        asks::DEALS_BY_SAMPLES => print!(rt; "deals_samples descriptions {}", ask.a),
+        asks::LOCATE => print!(rt; "locate"),
+        asks::OFFSET_AT => print!(rt; "located_offset"),
+        asks::CHUNK_OFFSET => print!(rt; "chunk_offset"),
+        asks::ENDS_WITHIN => print!(rt; "chunks_end_within"),
         asks::EDITS_TOTAL => edits_total(rt, set),
-        asks::EDITS_OK => scales(rt, b"edits_ok", ask),
-        asks::MEDIA_AT => {
-            scales(rt, b"media_at", ask)?;
-            show::field(rt, b" total ", ask.c)
-        }
-        _ => show::text(rt, b"no question"),
+        asks::EDITS_OK => print!(rt; "edits_ok scale {} movie {}", ask.a, ask.b),
+        asks::MEDIA_AT => { print!(rt; "media_at scale {} movie {} total {}", ask.a, ask.b, ask.c) }
+        _ => print!(rt; "no question"),
     }
 }
 
@@ -179,17 +169,12 @@ pub fn line(rt: &impl Print, set: &[u8], atom: &[u8]) -> io::Result<()>
     requires { length set.now < 2 ^ 32 }
 {
     let ask = asks::ask_in(atom);
-    show::text(rt, b"  ")?;
+    print!(rt; "  ")?;
     heading(rt, set, ask)?;
-    let numbers = after(atom, asks::HEAD);
-    let count = numbers.len() / 4;
-    let mut i = 0;
-    while i < count {
-        let n = u32_at(numbers, 4 * i);
-        show::field(rt, b" ", n)?;
-        show::text(rt, b":")?;
+    for number in after(atom, asks::HEAD).chunks_exact(4) {
+        let n = u32_at(number, 0);
+        print!(rt; " {n}:")?;
         answer(rt, set, ask, n)?;
-        i += 1;
     }
-    show::text(rt, b"\n")
+    println!(rt)
 }

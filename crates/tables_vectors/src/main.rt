@@ -18,14 +18,12 @@ use std::rt::Files;
 fn lines(rt: &impl Print, set: &[u8]) -> io::Result<()>
     requires { length set.now < 2 ^ 32 }
 {
-    let mut i = 0;
-    while i < set.len() {
+    for i in 0..set.len() {
         let atom = answers::child(set, asks::ASKS, i);
-        if atom.len() == 0 {
-            return Ok(());
+        if atom.is_empty() {
+            break;
         }
         answers::line(rt, set, atom)?;
-        i += 1;
     }
     Ok(())
 }
@@ -34,8 +32,7 @@ fn lines(rt: &impl Print, set: &[u8]) -> io::Result<()>
 fn read(rt: &impl Print, reader: &mut impl io::Read) -> io::Result<()> {
     let mut room = [0u8; MOST_FILM];
     let count = read_full(reader, &mut room);
-    let set = &room[..count];
-    lines(rt, set)
+    lines(rt, &room[..count])
 }
 
 fn set(rt: &(impl Files + Print + Eprint), argument: Argument) -> io::Result<()> {
@@ -45,8 +42,8 @@ fn set(rt: &(impl Files + Print + Eprint), argument: Argument) -> io::Result<()>
     let Some(mut file) = open_named(rt, name)? else {
         return Ok(());
     };
-    show::text(rt, name)?;
-    show::text(rt, b"\n")?;
+    rt.write_all(name)?;
+    println!(rt)?;
     read(rt, &mut file)
 }
 

@@ -22,15 +22,12 @@ use Rattle.track.specs.Track.{track_of}
 use Rattle.track.proofs.Agreed.{agreed_tables}
 use Rattle.questions.specs.Asked.{ask_refusal, track_asked}
 use Rattle.questions.proofs.Asking.{asked}
-use Rattle.movie.proofs.Answers.{gives}
+use Rattle.movie.proofs.Answers.{gives_answer}
 use Rattle.questions.specs.Samples.{sample_of, sample_refusal, sample_asked, sample_answer, sample_zeros, sample_numbers, Samples}
 use Rattle.time_questions.specs.Times.{at_entry, at_answer}
 use Rattle.pairs.proofs.Counting.{touched_length}
 use Rattle.stretch.specs.Stretches.{first_in, past_in, pairs_in, bytes_in, stretch_pairs}
 use Rattle.questions.specs.declared.samples.Sample.{Sample}
-use Rattle.questions.specs.declared.samples.SampleAnswer.{SampleAnswer}
-use Rattle.questions.specs.declared.samples.SampleAnswer.TheVariants.{Found, Refused}
-use Rattle.time_questions.specs.declared.NumberAnswer.TheVariants as number
 use Rattle.theorems.specs.Entries.{media_total}
 use Rattle.theorems.specs.Demand.{HasTime, part_in, size_answered, how_many, AllSamples, added, NoZeroDuration, OfTrack, Demand3}
 use Rattle.theorems.proofs.Added.{sizes_added, parts_added, cut_at}
@@ -40,7 +37,10 @@ use Rattle.theorems.proofs.Lists.{tables_asked, Listed, listed}
 use Rattle.theorems.proofs.Entries.{total_is, count_is, entry_counts, size_at, offset_at, entry_holds}
 use Rattle.questions.proofs.Own.{own_asked, own_itself}
 use Rattle.pairs.proofs.Filling.{flat_length}
-use Rattle.theorems.proofs.Answers.{Known, found_is, none_is, past_is, found_known, entry_is, at_is, at_outside, at_known, pairs_is, short_is, no_stretch, pairs_known}
+use Rattle.theorems.proofs.Answers.{Known, found_is, found_clear, none_is, past_is, found_known, entry_is, at_is, at_outside, at_known, pairs_is, short_is, no_stretch, pairs_known}
+use Rattle.std.specs.Prelude.{Result, Ok, Err}
+use Rattle.refusals.specs.declared.Refusal.{Refusal}
+use Rattle.time_questions.specs.declared.Numbered.{Numbered}
 
 -- ---- what a sample's answer says of the lists
 
@@ -76,10 +76,12 @@ has_of s id i t h = record { from = h.from; to = h.to }
 
 -- the sample with an index keeps the promise of the question
 found_kept : (s : List ℕ) (source : Source) (id : ℕ) (e : ask_refusal s source id ≡ 0) (i : ℕ) → i < samples_of (track_asked s id)
-    → Samples s source id (suc i) (Found (sample_of (tables_asked s id) i))
+    → Samples s source id (suc i) (Ok (sample_of (tables_asked s id) i))
 unfolding sample_numbers
 found_kept s source id e i h =
-    gives sample_numbers sample_zeros Refused (λ k. refl) (sample_asked s id (suc i)) (sample_refusal s source id (suc i)) _ (sym (found_is s source id e (suc i) i refl h))
+    let w : suc i - 1 ≡ i = omega arith in
+    gives_answer sample_numbers sample_zeros (λ k. refl) (sample_asked s id (suc i)) (sample_refusal s source id (suc i)) (Ok (sample_of (tables_asked s id) i))
+    (found_clear s source id e (suc i) i refl h) (ap (λ (k : ℕ). Ok (sample_of (tables_asked s id) k)) (sym w))
 
 -- the duration of an index is not zero where it stands at m and no answer there is of zero duration
 lasting : (s : List ℕ) (source : Source) (id m : ℕ) (e : ask_refusal s source id ≡ 0) (i : ℕ) → i < samples_of (track_asked s id) → NoZeroDuration s source id m → before (tables_asked s id).durations i ≡ m
@@ -103,7 +105,7 @@ record Run (s : List ℕ) (id : ℕ) (a b : MediaTime) (first last : ℕ) : Type
 
 module _ (s : List ℕ) (source : Source) (id : ℕ) (e : ask_refusal s source id ≡ 0) (l : Listed s id) where
   run_of : (a b z : MediaTime) (first last i j : ℕ) → a.0 < b.0 → b.0 ≤ sum (tables_asked s id).durations → z.0 ≡ b.0 - 1
-      → at_answer s source id a ≡ number.Number first i → at_answer s source id z ≡ number.Number last j → Run s id a b first last
+      → at_answer s source id a ≡ Ok (record { sample = first; entry = i }) → at_answer s source id z ≡ Ok (record { sample = last; entry = j }) → Run s id a b first last
   run_of a b z first last i₁ j₁ o w d p q =
       let ds = (tables_asked s id).durations in
       let i = holder ds a.0 in
@@ -129,10 +131,10 @@ module _ (s : List ℕ) (source : Source) (id : ℕ) (e : ask_refusal s source i
 
   module _ (a b : MediaTime) (first last : ℕ) (r : Run s id a b first last) where
     -- the answer of each
-    each : (j : ℕ) → j < r.n → sample_answer s source id (first + j) ≡ Found (sample_of (tables_asked s id) (r.i + j))
+    each : (j : ℕ) → j < r.n → sample_answer s source id (first + j) ≡ Ok (sample_of (tables_asked s id) (r.i + j))
     each j h = found_is s source id e (first + j) (r.i + j) (omega (arith, r.begin)) (omega (arith, r.few))
 
-    sizes_fit : (rs : ℕ → SampleAnswer) → AllSamples s source id rs first last → bytes_in (tables_asked s id) a b ≡ added rs size_answered first last
+    sizes_fit : (rs : ℕ → Result Sample Refusal) → AllSamples s source id rs first last → bytes_in (tables_asked s id) a b ≡ added rs size_answered first last
     unfolding sample_of bytes_in first_in past_in
     sizes_fit rs keep =
         rw (r.count, ← r.here, ← r.there)
@@ -165,7 +167,7 @@ pairs-fit s id l a b h =
 
 -- the parts of all samples
 all_parts : (s : List ℕ) (source : Source) (id : ℕ) → ask_refusal s source id ≡ 0 → Listed s id → (a b : ℕ) → a < b → b ≤ sum (tables_asked s id).durations
-    → (rs : ℕ → SampleAnswer) → AllSamples s source id rs 1 (samples_of (track_asked s id)) → added rs (part_in a b) 1 (samples_of (track_asked s id)) ≡ b - a
+    → (rs : ℕ → Result Sample Refusal) → AllSamples s source id rs 1 (samples_of (track_asked s id)) → added rs (part_in a b) 1 (samples_of (track_asked s id)) ≡ b - a
 unfolding sample_of
 all_parts s source id e l a b o w rs keep =
     let n = samples_of (track_asked s id) in
@@ -249,7 +251,7 @@ module _ (s t : List ℕ) (source : Source) (e : ask_refusal s source (id_of t) 
             let g : at_entry s id time ≡ suc c.0 = entry_is s id time ∙ ap (λ u. entry_of (runs_of (table_of stts u)) i) itself ∙ c.3 in (
               suc i,
               c.0,
-              kept.answer ∙ at_is s source id e time (omega (arith, total)) ∙ ap (number.Number (suc i)) g,
+              kept.answer ∙ at_is s source id e time (omega (arith, total)) ∙ ap (λ (k : ℕ). Ok (record { sample = suc i; entry = k })) g,
               c.1,
               λ q v. (sample_of (tables_asked s id) i, v.answer ∙ f, has_of s id i time.0 k),
               λ m y q w.

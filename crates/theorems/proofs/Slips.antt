@@ -19,7 +19,8 @@ use Rattle.edits.specs.declared.MediaTime.{MediaTime}
 use Rattle.slip_head.specs.Bytes.{slip_bytes, Rules}
 use Rattle.slip_head.specs.declared.Head.{Head}
 use Rattle.slip.specs.Slip.{bound_of, Reads}
-use Rattle.slip.specs.declared.SlipRead.TheVariants.{Accepted}
+use Rattle.std.specs.Prelude.{Ok, Err}
+use Rattle.slip.specs.declared.SlipError.TheVariants.{Malformed, NoRoom}
 use Rattle.slip.proofs.Promises.{reads_back, accepted_only}
 use Rattle.slip.proofs.Readers.{old_as_new, old_refuses}
 use Rattle.structure.specs.declared.source.Source.{Source}
@@ -35,8 +36,6 @@ use Rattle.movie.proofs.Strict.{strict_less}
 use Rattle.questions.specs.Asked.{ask_refusal, track_asked}
 use Rattle.stretch.specs.Stretches.{first_in, past_in, pairs_in, bytes_in, stretch_pairs}
 use Rattle.slip_writing.specs.Slips.{slip_head, slip_of_stretch, slip_refusal, slip_answer, Slips}
-use Rattle.stretch.specs.declared.StretchAnswer.TheVariants as stretch
-use Rattle.slip_writing.specs.declared.SlipAnswer.TheVariants as slip
 use Rattle.questions.proofs.Asking.{asked}
 use Rattle.theorems.specs.Slips.{Bytes, head_of, ReadsBack, OnlyWriting, BothReaders}
 use Rattle.theorems.proofs.Bytes.{scale_small, asked_id, id_small}
@@ -45,15 +44,18 @@ use Rattle.theorems.proofs.Lists.{tables_asked, listed}
 use Rattle.pairs.proofs.Filling.{flat_length}
 use Rattle.theorems.proofs.Answers.{Span, pairs_is, span_known, pairs_known}
 use Rattle.theorems.proofs.Entries.{total_is}
+use Rattle.std.specs.Prelude.{Result, Ok}
+use Rattle.refusals.specs.Refusals.{refused}
+use Rattle.refusals.specs.declared.Refusal.{Refusal}
 
 -- ---- what an answer that is not refused tells
 
 -- the slip was written: nothing was refused, and n is its length
-slip_known : (s : List ℕ) (source : Source) (id : ℕ) (a b : MediaTime) (out : List ℕ) (n : ℕ) → slip_answer s source id a b out ≡ slip.Written n
+slip_known : (s : List ℕ) (source : Source) (id : ℕ) (a b : MediaTime) (out : List ℕ) (n : ℕ) → slip_answer s source id a b out ≡ Ok n
     → (slip_refusal s source id a b out ≡ 0) × (n ≡ length (slip_of_stretch s id a b))
 slip_known s source id a b out n e = go (eqb (slip_refusal s source id a b out) 0) refl e
   where
-    go : (t : Bool) → eqb (slip_refusal s source id a b out) 0 ≡ t → cond t (slip.Written (length (slip_of_stretch s id a b))) (slip.Refused (slip_refusal s source id a b out)) ≡ slip.Written n
+    go : (t : Bool) → eqb (slip_refusal s source id a b out) 0 ≡ t → cond t (Ok (length (slip_of_stretch s id a b))) (refused (slip_refusal s source id a b out)) ≡ Ok n
         → (slip_refusal s source id a b out ≡ 0) × (n ≡ length (slip_of_stretch s id a b))
     go true q w = (eqb-true _ _ q, cc)
     go false q w = let z : ◌≡◌ {A = ℕ} 0 1 = cc in absurd (omega arith)
@@ -138,7 +140,7 @@ record Wrote (s : List ℕ) (source : Source) (id : ℕ) (a b : MediaTime) (out 
   count : n ≡ length (slip_of_stretch s id a b)
   span : Span s (strictly source) id a b
 
-wrote : (s : List ℕ) (source : Source) (id : ℕ) (a b : MediaTime) (out after : List ℕ) (n : ℕ) → Slips s source id a b out (slip.Written n) after → Wrote s source id a b out n
+wrote : (s : List ℕ) (source : Source) (id : ℕ) (a b : MediaTime) (out after : List ℕ) (n : ℕ) → Slips s source id a b out (Ok n) after → Wrote s source id a b out n
 unfolding slip_refusal
 wrote s source id a b out after n slips =
     let u = slip_known s source id a b out n (sym slips.answer) in
@@ -163,7 +165,7 @@ written_reads_back s source id a b = record {
       let g = filled_known _ (flat ps) room put v.refusal stretches.places in
       let h = reads_back any (take n after) places r read reads (slip_head s id a b) (flat ps) (record { bytes = f; rules = slip_rules s (strictly source) id a b bytes u.span any ok }) (omega (arith, e)) in
       let m : length ps ≡ k = sym v.count in (
-        h.0 ∙ ap (λ (x : ℕ). Accepted (head_of s id a b x)) m,
+        h.0 ∙ ap (λ (x : ℕ). Ok (head_of s id a b x)) m,
         ap (take (2 * k)) h.1 ∙ take_at (flat ps) (drop (length (flat ps)) places) (2 * k) e ∙ sym (ap (take (2 * k)) g ∙ take_at (flat ps) (drop (length (flat ps)) room) (2 * k) e),
         ap (drop (2 * k)) h.1 ∙ drop_at (flat ps) (drop (length (flat ps)) places) (2 * k) e ∙ ap (λ (x : ℕ). drop x places) e,
       );
@@ -178,9 +180,9 @@ written_reads_back s source id a b = record {
 pairs-in : (pairs room after : List ℕ) (n : ℕ) → length pairs ≡ 2 * n → after ≡ pairs ++ drop (length pairs) room → take (2 * n) after ≡ pairs
 pairs-in pairs room after n c e = ap (take (2 * n)) e ∙ take_at pairs (drop (length pairs) room) (2 * n) c
 
-writing : (h : Head) (any : Bool) (bs room after : List ℕ) → Reads any bs room (Accepted h) after → bs ≡ slip_bytes h (take (2 * h.pairs) after)
+writing : (h : Head) (any : Bool) (bs room after : List ℕ) → Reads any bs room (Ok h) after → bs ≡ slip_bytes h (take (2 * h.pairs) after)
 writing h any bs room after p =
-    let u = accepted_only any bs room (Accepted h) after p h refl in
+    let u = accepted_only any bs room (Ok h) after p h refl in
     u.1.bytes ∙ ap (slip_bytes h) (sym (pairs-in u.0 room after h.pairs u.1.rules.all_pairs u.2))
 
 pub only_writing : (h : Head) → OnlyWriting h

@@ -1,7 +1,7 @@
 -- What holds of the lists of a track whose sample tables do not contradict each other: the clauses of refusal 9, one by one.
 -- Assumes nothing.
 use Prim.Native.Nat.{ℕ}
-use mathlib.Core.Path.{◌≡◌, ap, ◌∙◌}
+use mathlib.Core.Path.{◌≡◌, sym, ap, ◌∙◌}
 use mathlib.Core.Bool.{true, false, not, ◌&&◌}
 use mathlib.Core.List.{List}
 use lib.ListN.{length}
@@ -23,6 +23,12 @@ use Rattle.track.proofs.Clauses.{counts_clauses}
 pub stts_counts : (t : List ℕ) → contradicts t ≡ false → counting (samples_of t) (runs_of (table_of stts t)) ≡ true
 unfolding contradicts
 stts_counts t e = counts_clauses (samples_of t) (table_of stts t) ∙ ap not (or_left (miscounted (samples_of t) (table_of stts t)) _ e)
+
+pub stts_miscounts : (t : List ℕ) → counting (samples_of t) (runs_of (table_of stts t)) ≡ false → contradicts t ≡ true
+unfolding contradicts
+stts_miscounts t e =
+    let m : miscounted (samples_of t) (table_of stts t) ≡ true = not-false _ (sym (counts_clauses (samples_of t) (table_of stts t)) ∙ e) in
+    rw m
 
 pub record Agreed (t : List ℕ) : Type 0 where
   -- as many durations as samples

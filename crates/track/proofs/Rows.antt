@@ -1,5 +1,6 @@
 -- One row of the table of a track after the other: the first whose condition holds gives its number.
 -- Assumes nothing.
+use Rattle.std.specs.Prelude.{Option, Some, None}
 use Prim.Native.Nat.{ℕ, ◌<◌}
 use mathlib.Core.Path.{◌≡◌, sym, ap, ◌∙◌}
 use mathlib.Core.Bool.{Bool, true, false, not, ◌&&◌}
@@ -7,8 +8,6 @@ use mathlib.Core.List.{List}
 use native.Mathlib.Omega.{arith}
 use lib.Dec.{ltb, eqb}
 use borrow.Author.Tests.{lt-ltb, le-ltb, eq-eqb, ne_eqb}
-use Rattle.lists.specs.declared.Total.{Total}
-use Rattle.lists.specs.declared.Total.TheVariants.{Sum, Over}
 use Rattle.lists.specs.Totals.{total_of}
 use Rattle.lists.proofs.Totals.{total_known, over_known}
 use Rattle.structure.specs.Rows.{first}
@@ -31,18 +30,18 @@ use Rattle.track.specs.TrackRows.{timed_rows, track_rows}
 
 -- ---- totals
 
-module _ (x : ℕ) (r : Total) (is : r ≡ total_of x) where
-  pub sum_is : (n : ℕ) → r ≡ Sum n → x ≡ n
+module _ (x : ℕ) (r : Option ℕ) (is : r ≡ total_of x) where
+  pub sum_is : (n : ℕ) → r ≡ Some n → x ≡ n
   sum_is n q = (total_known x n (sym is ∙ q)).0
 
-  pub sum_within : (n : ℕ) → r ≡ Sum n → ltb 4294967295 x ≡ false
+  pub sum_within : (n : ℕ) → r ≡ Some n → ltb 4294967295 x ≡ false
   sum_within n q = le-ltb 4294967295 x (total_known x n (sym is ∙ q)).1
 
-  pub over_is : r ≡ Over → ltb 4294967295 x ≡ true
+  pub over_is : r ≡ None → ltb 4294967295 x ≡ true
   over_is q = lt-ltb 4294967295 x (over_known x (sym is ∙ q))
 
   -- a total that fits is not over
-  pub not_over : r ≡ Over → x < 4294967296 → ⊥
+  pub not_over : r ≡ None → x < 4294967296 → ⊥
   not_over q h = let k = over_known x (sym is ∙ q) in omega arith
 
 -- ---- rows 10 to 13 and 19

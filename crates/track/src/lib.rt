@@ -1,7 +1,8 @@
 // The refusals of a track, 7 to 13 and 19, from the body of its trak.
 #![tactic(auto)]
 
-ghost use Rattle.std.specs.Prelude.{◌≡◌, ◌||◌, ◌<◌, ◌^◌, length, ltb, eqb};
+ghost use Rattle.std.specs.Prelude.{◌≡◌, ◌||◌, ◌<◌, ◌^◌, true, length, ltb, eqb};
+ghost use Rattle.refusals.specs.Refusals.{code};
 ghost use Rattle.structure.specs.ByTracks.{of_track};
 ghost use Rattle.atoms.specs.Kinds.{stts};
 ghost use Rattle.structure.specs.Track.{id_of, subtype_of, scale_of, table_of, samples_of};
@@ -18,11 +19,11 @@ use bigendian::u32_at;
 use chunk_checks::deals_samples;
 use chunk_ends::chunks_end_within;
 use edits::{edits_ok, edits_total};
-use lists::Total;
 use places::part_of;
 use places::trak::Parts;
 use presence::both;
 use references::all_in_this_file;
+use refusals::Refusal;
 use runs::{count_and_total, counts, total_duration};
 use structure::source::Source;
 use words::syncs_agree;
@@ -33,8 +34,8 @@ pub fn media_total(trak: &[u8], p: Parts) -> u32
     ensures { result ≡ total_in trak.now }
 {
     match total_duration(part_of(trak, p.stts)) {
-        Total::Sum(n) => n,
-        Total::Over => 0,
+        Some(n) => n,
+        None => 0,
     }
 }
 
@@ -49,15 +50,15 @@ fn may_count(ctts: &[u8], samples: u32) -> bool
 }
 
 // Whether the sample tables contradict each other, where it is known whether stts counts the samples.
-fn is_contradictory(trak: &[u8], p: Parts, counted: bool) -> bool
-    requires { (AreParts trak.now p) × (counted ≡ counting (samples_of trak.now) (runs_of (table_of stts trak.now))) }
+fn is_contradictory(trak: &[u8], p: Parts) -> bool
+    requires { (AreParts trak.now p) × (counting (samples_of trak.now) (runs_of (table_of stts trak.now)) ≡ true) }
     ensures { result ≡ contradicts trak.now }
 {
     let samples = u32_at(part_of(trak, p.stsz), 16);
     let chunks = u32_at(part_of(trak, p.offsets), 12);
     let descriptions = u32_at(part_of(trak, p.stsd), 12);
     let stsc = part_of(trak, p.stsc);
-    let b = both(counted, may_count(part_of(trak, p.ctts), samples));
+    let b = may_count(part_of(trak, p.ctts), samples);
     let d = both(b, deals_samples(stsc, chunks, descriptions, samples));
     !both(d, syncs_agree(part_of(trak, p.stss), samples))
 }
@@ -67,8 +68,8 @@ fn is_over(elst: &[u8]) -> bool
     ensures { result ≡ ltb 4294967295 (edit_total elst.now) }
 {
     match edits_total(elst) {
-        Total::Sum(_) => false,
-        Total::Over => true,
+        Some(_) => false,
+        None => true,
     }
 }
 
@@ -132,49 +133,57 @@ fn has_data_elsewhere(trak: &[u8], p: Parts) -> bool
 }
 
 // 10 to 13 and 19, in the order of judging, of a track whose durations total `total`.
-fn timed_refusal(trak: &[u8], p: Parts, movie: u32, len: u64, source: Source, total: u32) -> u32
+fn timed_refusal(
+    trak: &[u8],
+    p: Parts,
+    movie: u32,
+    len: u64,
+    source: Source,
+    total: u32,
+) -> Result<(), Refusal>
     requires { (AreParts trak.now p) × ((total ≡ total_in trak.now) × (length trak.now < 2 ^ 32)) }
-    ensures { result ≡ of_track (timed_rows source movie len) trak.now }
+    ensures { code result ≡ of_track (timed_rows source movie len) trak.now }
 {
     let elst = part_of(trak, p.elst);
     if is_over(elst) {
-        return 10;
+        return Err(Refusal::TotalTooLarge);
     }
     if has_other_duration(trak, p, total, source) {
-        return 11;
+        return Err(Refusal::OtherDuration);
     }
     if has_data_elsewhere(trak, p) {
-        return 19;
+        return Err(Refusal::DataElsewhere);
     }
     let stsz = part_of(trak, p.stsz);
     if !chunks_end_within(part_of(trak, p.stsc), stsz, part_of(trak, p.offsets), len) {
-        return 12;
+        return Err(Refusal::ChunkPastEnd);
     }
     if !edits_ok(elst, scale_in(trak, p), movie, total) {
-        return 13;
+        return Err(Refusal::WrongEdits);
     }
-    0
+    Ok(())
 }
 
-// The first of 7 to 13 and 19 that applies to a track, in a movie of that time scale and a file of that length, by that source; 0 where none does.
-pub fn refusal(trak: &[u8], p: Parts, movie: u32, len: u64, source: Source) -> u32
+// The first of 7 to 13 and 19 that applies to a track, in a movie of that time scale and a file of that length, by that source.
+pub fn refusal(trak: &[u8], p: Parts, movie: u32, len: u64, source: Source) -> Result<(), Refusal>
     requires { (AreParts trak.now p) × (length trak.now < 2 ^ 32) }
-    ensures { result ≡ of_track (track_rows source movie len) trak.now }
+    ensures { code result ≡ of_track (track_rows source movie len) trak.now }
 {
     if id_in(trak, p) == 0 {
-        return 7;
+        return Err(Refusal::TrackId);
     }
     if scale_in(trak, p) == 0 {
-        return 8;
+        return Err(Refusal::ZeroScale);
     }
     let samples = u32_at(part_of(trak, p.stsz), 16);
-    let c = count_and_total(part_of(trak, p.stts), samples);
-    if is_contradictory(trak, p, c.agrees) {
-        return 9;
+    let Some(total) = count_and_total(part_of(trak, p.stts), samples) else {
+        return Err(Refusal::Contradiction);
+    };
+    if is_contradictory(trak, p) {
+        return Err(Refusal::Contradiction);
     }
-    let total = c.total;
     if 4294967295 < total {
-        return 10;
+        return Err(Refusal::TotalTooLarge);
     }
     timed_refusal(trak, p, movie, len, source, total as u32)
 }

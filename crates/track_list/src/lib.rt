@@ -14,6 +14,7 @@ use bigendian::u32_at;
 use places::moov::{Traks, trak_at};
 use places::part_of;
 use places::trak::Parts;
+use refusals::Refusal;
 use structure::source::Source;
 use track::media_total;
 
@@ -80,27 +81,16 @@ fn put_lines(lent: &[u8], traks: Traks, room: &mut [u32])
     }
 }
 
-// The answer of `track_list`: how many tracks; or the number of a refusal.
-#[derive(Clone, Copy)]
-pub enum TrackList {
-    Tracks(usize),
-    Refused(u32),
-}
-
-// Lists the tracks of a film: eight numbers for each, in the first places of the room. A refusal leaves the room as it is.
-pub fn track_list(lent: &[u8], source: Source, room: &mut [u32]) -> TrackList
+// Lists the tracks of a film: eight numbers for each, in the first places of the room; how many tracks it has. A refusal leaves the room as it is.
+pub fn track_list(lent: &[u8], source: Source, room: &mut [u32]) -> Result<usize, Refusal>
     ensures { Lists lent.now source room.old result room.new }
 {
-    let judged = movie::judge(lent, source);
-    if judged.refusal != 0 {
-        return TrackList::Refused(judged.refusal);
-    }
-    let movie = judged.movie;
+    let movie = movie::judge(lent, source)?;
     let traks = movie.traks;
     let n = traks.count;
     if room.len() < LINE * n {
-        return TrackList::Refused(16);
+        return Err(Refusal::NoRoom);
     }
     put_lines(lent, traks, room);
-    TrackList::Tracks(n)
+    Ok(n)
 }

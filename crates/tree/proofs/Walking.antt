@@ -12,7 +12,7 @@ use Rattle.atoms.specs.Tree.{all, everywhere}
 use Rattle.presence.specs.declared.Counts.{Counts}
 use Rattle.presence.specs.Present.{present}
 use Rattle.presence.specs.Counts.{nothing_counted, with_kind, with_atoms, present_by}
-use Rattle.leaves.specs.declared.LeafRule.TheVariants.{Version, Size}
+use Rattle.leaves.specs.Leaves.{Version, Size}
 use Rattle.leaves.specs.declared.Form.TheVariants.{Skipped}
 use Rattle.leaves.specs.Leaves.{form_of, skipped, version_ok, size_ok, leaf_ok, atom_ok, leaves_ok}
 use Rattle.tree.specs.declared.Checks.{Checks}

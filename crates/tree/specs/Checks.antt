@@ -8,7 +8,7 @@ use Rattle.presence.specs.Present.{present}
 use Rattle.presence.specs.declared.Counts.{Counts}
 use Rattle.presence.specs.Counts.{with_kind}
 use Rattle.leaves.specs.declared.Form.TheVariants.{Skipped}
-use Rattle.leaves.specs.declared.LeafRule.TheVariants.{Version, Size}
+use Rattle.leaves.specs.Leaves.{Version, Size}
 use Rattle.leaves.specs.Leaves.{form_of, leaf_ok, leaves_ok}
 use Rattle.tree.specs.declared.Checks.{Checks}
 

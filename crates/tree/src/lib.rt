@@ -6,11 +6,11 @@ ghost use Rattle.tree.specs.Checks.{all_right, none_right, both_checks, leaf_che
 
 use atoms::{body_of, is_container, kinds, size_in};
 use bigendian::u32_at;
-use leaves::{LeafRule, form_of, leaf_ok};
-use presence::{both, has_its_atoms, nothing_counted, with_kind};
+use leaves::{form_of, size_ok, version_ok};
+use presence::{has_its_atoms, nothing_counted, with_kind};
 
 // Whether each rule holds: atoms fill a body exactly; it has the atoms that it must have; each read leaf has its version, and its size.
-#[derive(Clone, Copy)]
+#[derive(Clone, Copy, Debug, PartialEq, Eq)]
 pub struct Checks {
     pub filled: bool,
     pub present: bool,
@@ -44,10 +44,10 @@ fn both_checks(a: Checks, b: Checks) -> Checks
     ensures { result ≡ both_checks a b }
 {
     Checks {
-        filled: both(a.filled, b.filled),
-        present: both(a.present, b.present),
-        versions: both(a.versions, b.versions),
-        sizes: both(a.sizes, b.sizes),
+        filled: a.filled && b.filled,
+        present: a.present && b.present,
+        versions: a.versions && b.versions,
+        sizes: a.sizes && b.sizes,
     }
 }
 
@@ -59,39 +59,40 @@ fn leaf_checks(atom: &[u8], parent: u32, kind: u32, wide: bool) -> Checks
     Checks {
         filled: true,
         present: true,
-        versions: leaf_ok(LeafRule::Version, f, atom),
-        sizes: leaf_ok(LeafRule::Size, f, atom),
+        versions: version_ok(f, atom),
+        sizes: size_ok(f, atom),
     }
 }
 
 // Whether a rule speaks of atoms of that kind. The walk passes over all others at once.
+#[tactic(auto, unfolding(presence::specs::Counts::with_kind, presence::specs::Counts::bump, leaves::specs::Leaves::form_of, atoms::specs::Kinds::container))]
 fn is_ruled(kind: u32) -> bool
     ensures { result ≡ false → Unruled kind }
 {
-    match kind {
+    matches!(
+        kind,
         kinds::MOOV
-        | kinds::TRAK
-        | kinds::EDTS
-        | kinds::MDIA
-        | kinds::MINF
-        | kinds::STBL
-        | kinds::DINF => true,
-        kinds::MVHD
-        | kinds::TKHD
-        | kinds::ELST
-        | kinds::MDHD
-        | kinds::HDLR
-        | kinds::DREF
-        | kinds::STSD => true,
-        kinds::STTS
-        | kinds::CTTS
-        | kinds::STSC
-        | kinds::STSZ
-        | kinds::STCO
-        | kinds::CO64
-        | kinds::STSS => true,
-        _ => false,
-    }
+            | kinds::TRAK
+            | kinds::EDTS
+            | kinds::MDIA
+            | kinds::MINF
+            | kinds::STBL
+            | kinds::DINF
+            | kinds::MVHD
+            | kinds::TKHD
+            | kinds::ELST
+            | kinds::MDHD
+            | kinds::HDLR
+            | kinds::DREF
+            | kinds::STSD
+            | kinds::STTS
+            | kinds::CTTS
+            | kinds::STSC
+            | kinds::STSZ
+            | kinds::STCO
+            | kinds::CO64
+            | kinds::STSS
+    )
 }
 
 // The rules of the body of that parent and of the body of every container below it, with that many levels to go.

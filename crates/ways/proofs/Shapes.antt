@@ -12,8 +12,8 @@ use Rattle.atoms.specs.Kinds.{file, moov, stbl, stco, co64}
 use Rattle.atoms.specs.Atoms.{kind_of, atoms, of_kind, count_in, filled}
 use Rattle.atoms.specs.Tree.{all, everywhere}
 use Rattle.atoms.proofs.Lengths.{child_short}
-use Rattle.leaves.specs.declared.LeafRule.{LeafRule}
-use Rattle.leaves.specs.declared.LeafRule.TheVariants.{Version, Size}
+use Rattle.leaves.specs.Leaves.{LeafRule}
+use Rattle.leaves.specs.Leaves.{Version, Size}
 use Rattle.leaves.specs.Leaves.{form_of, leaf_ok, atom_ok, leaves_ok}
 use Rattle.presence.specs.Present.{one, one_offsets, tables, present}
 use Rattle.structure.specs.declared.source.Source.{Source}

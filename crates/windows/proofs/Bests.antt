@@ -1,5 +1,6 @@
 -- Laws of the better of two runs: it may be taken in any grouping, of a run with itself it is that run, and none takes nothing away.
 -- Assumes nothing.
+use Rattle.std.specs.Prelude.{Option, Some, None}
 use Prim.Native.Nat.{ℕ, ◌*◌, ◌≤◌, ◌<◌}
 use mathlib.Core.Path.{◌≡◌, refl, sym, ap, ◌∙◌}
 use mathlib.Core.Bool.{true, false}
@@ -11,12 +12,8 @@ use lib.Dec.{ltb, leb, eqb}
 use Rattle.bigendian.specs.BigEndian.{u32_at}
 use Rattle.lists.proofs.Booleans.{cond_unless, and_both}
 use Rattle.rates.specs.Rates.{rate_of}
-use Rattle.rates.specs.declared.Feature.{Feature}
-use Rattle.rates.specs.declared.Feature.TheVariants as features
 use Rattle.rates.proofs.Orders.{eightfold, no-higher}
 use Rattle.windows.specs.declared.RatedRun.{RatedRun}
-use Rattle.windows.specs.declared.Best.{Best}
-use Rattle.windows.specs.declared.Best.TheVariants.{Run, NotComputed}
 use Rattle.windows.specs.Windows.{rated_as, rated_run, better, no_run, no_higher, no_higher_run, are_single}
 
 -- what the comparison says where it tells
@@ -42,14 +39,14 @@ single_known a b e = let t = and_both (eqb (u32_at a 0) 1) (eqb (u32_at b 0) 1) 
 pub untrue : {A : Type 0} → false ≡ true → A
 untrue e = let z : ◌≡◌ {A = ℕ} 0 1 = cc in absurd (omega arith)
 
-pub better_second : (a b : RatedRun) → a.rate < b.rate → better (Run a) (Run b) ≡ Run b
+pub better_second : (a b : RatedRun) → a.rate < b.rate → better (Some a) (Some b) ≡ Some b
 better_second a b h = rw (lt-ltb a.rate b.rate h)
 
-pub better_first : (a b : RatedRun) → b.rate ≤ a.rate → better (Run a) (Run b) ≡ Run a
+pub better_first : (a b : RatedRun) → b.rate ≤ a.rate → better (Some a) (Some b) ≡ Some a
 better_first a b h = rw (le-ltb a.rate b.rate h)
 
-pub better_assoc : (x y z : Best) → better (better x y) z ≡ better x (better y z)
-better_assoc (Run a) (Run b) (Run c) = elim (dec_lt a.rate b.rate) [
+pub better_assoc : (x y z : Option RatedRun) → better (better x y) z ≡ better x (better y z)
+better_assoc (Some a) (Some b) (Some c) = elim (dec_lt a.rate b.rate) [
   | yes l ↦ elim (dec_lt b.rate c.rate) [
     | yes k ↦ let m : a.rate < c.rate = omega arith in rw (lt-ltb a.rate b.rate l, lt-ltb b.rate c.rate k, lt-ltb a.rate c.rate m)
     | no k ↦ let m : c.rate ≤ b.rate = omega arith in rw (lt-ltb a.rate b.rate l, le-ltb b.rate c.rate m, lt-ltb a.rate b.rate l)
@@ -64,30 +61,30 @@ better_assoc (Run a) (Run b) (Run c) = elim (dec_lt a.rate b.rate) [
             rw (le-ltb a.rate b.rate n, le-ltb b.rate c.rate m, le-ltb a.rate c.rate o, le-ltb a.rate b.rate n)
       ]
 ]
-better_assoc (Run a) (Run b) NotComputed = uncomputed (better (Run a) (Run b))
+better_assoc (Some a) (Some b) None = uncomputed (better (Some a) (Some b))
   where
-    uncomputed : (x : Best) → better x NotComputed ≡ NotComputed
-    uncomputed (Run x) = refl
-    uncomputed NotComputed = refl
-better_assoc (Run a) NotComputed z = refl
-better_assoc NotComputed y z = refl
+    uncomputed : (x : Option RatedRun) → better x None ≡ None
+    uncomputed (Some x) = refl
+    uncomputed None = refl
+better_assoc (Some a) None z = refl
+better_assoc None y z = refl
 
-pub better_same : (x : Best) → better x x ≡ x
-better_same (Run a) = better_first a a (omega arith)
-better_same NotComputed = refl
+pub better_same : (x : Option RatedRun) → better x x ≡ x
+better_same (Some a) = better_first a a (omega arith)
+better_same None = refl
 
-pub better_none : (x : Best) → better x no_run ≡ x
-better_none (Run a) = rw (le-ltb a.rate 0 (omega arith))
-better_none NotComputed = refl
+pub better_none : (x : Option RatedRun) → better x no_run ≡ x
+better_none (Some a) = rw (le-ltb a.rate 0 (omega arith))
+better_none None = refl
 
 -- a run taken twice counts once
-pub better_again : (x y : Best) → better x (better x y) ≡ better x y
-better_again x y = sym (better_assoc x x y) ∙ ap (λ (z : Best). better z y) (better_same x)
+pub better_again : (x y : Option RatedRun) → better x (better x y) ≡ better x y
+better_again x y = sym (better_assoc x x y) ∙ ap (λ (z : Option RatedRun). better z y) (better_same x)
 
 -- a run that, by cross-multiplication, is no higher than the best so far leaves it as it is
-pub better_kept : (s : ℕ) (b : RatedRun) (i n bytes span : ℕ) → rate_of (8 * b.bytes * s) b.span ≡ features.Value b.rate → 0 < span → span < 4294967296
-    → bytes * b.span ≤ b.bytes * span → better (Run b) (rated_run s i n bytes span) ≡ Run b
+pub better_kept : (s : ℕ) (b : RatedRun) (i n bytes span : ℕ) → rate_of (8 * b.bytes * s) b.span ≡ Some b.rate → 0 < span → span < 4294967296
+    → bytes * b.span ≤ b.bytes * span → better (Some b) (rated_run s i n bytes span) ≡ Some b
 better_kept s b i n bytes span r p l h =
     let x = no-higher (8 * s) bytes span b.bytes b.span b.rate p l h (rw (eightfold b.bytes s) r) in
-    let e : rate_of (8 * bytes * s) span ≡ features.Value x.rate = rw (eightfold bytes s) at x.computed in
-    ap (λ (f : Feature). better (Run b) (rated_as f i n bytes span)) e ∙ better_first b _ x.low
+    let e : rate_of (8 * bytes * s) span ≡ Some x.rate = rw (eightfold bytes s) at x.computed in
+    ap (λ (f : Option ℕ). better (Some b) (rated_as f i n bytes span)) e ∙ better_first b _ x.low

@@ -1,6 +1,6 @@
 -- What one pass keeps: the window, which is the run of the sample at its tail, and the best run so far. This need not be believed: it is between the
 -- crates' own functions.
-use Rattle.std.specs.Prelude.{ℕ, suc, ◌+◌, ◌-◌, ◌*◌, ◌≤◌, ◌<◌, ◌≡◌, Bool, false, cond, ◌&&◌, List, [], ◌∷◌, length, take, drop, ltb, leb, eqb}
+use Rattle.std.specs.Prelude.{ℕ, suc, ◌+◌, ◌-◌, ◌*◌, ◌≤◌, ◌<◌, ◌≡◌, Bool, false, cond, ◌&&◌, List, [], ◌∷◌, length, take, drop, ltb, leb, eqb, Option, Some, None}
 use Rattle.bigendian.specs.BigEndian.{u32_at}
 use Rattle.lists.specs.Lists.{sum, before}
 use Rattle.runs.specs.Runs.{per_sample}
@@ -8,13 +8,9 @@ use Rattle.runs.specs.Cursors.{run_ahead, RunStands, start_run, readied_run, pas
 use Rattle.runs.specs.declared.cursor.RunCursor.{RunCursor}
 use Rattle.words.specs.Words.{sizes}
 use Rattle.rates.specs.Rates.{rate_of}
-use Rattle.rates.specs.declared.Feature.{Feature}
-use Rattle.rates.specs.declared.Feature.TheVariants.{Value, NotComputed}
 use Rattle.windows.specs.Lengths.{run_length}
 use Rattle.windows.specs.declared.Window.{Window}
 use Rattle.windows.specs.declared.RatedRun.{RatedRun}
-use Rattle.windows.specs.declared.Best.{Best}
-use Rattle.windows.specs.declared.Best.TheVariants as best
 
 -- ---- what an accepted track's time scale, durations and sizes are
 pub record Timed (s : ℕ) (ds zs : List ℕ) : Type 0 where
@@ -71,25 +67,25 @@ pub record Reaches (s : ℕ) (t z : List ℕ) (i : ℕ) (w : Window) : Type 0 wh
 -- ---- the best run
 
 -- the run of the sample with index i, by its rate, how many samples it has, their bytes and their span
-abbrev pub rated_as : Feature → ℕ → ℕ → ℕ → ℕ → Best
-rated_as (Value v) i n bytes span = best.Run (record { rate = v; first = i + 1; count = n; bytes = bytes; span = span })
-rated_as NotComputed i n bytes span = best.NotComputed
+abbrev pub rated_as : Option ℕ → ℕ → ℕ → ℕ → ℕ → Option RatedRun
+rated_as (Some v) i n bytes span = Some (record { rate = v; first = i + 1; count = n; bytes = bytes; span = span })
+rated_as None i n bytes span = None
 
-abbrev pub rated_run : ℕ → ℕ → ℕ → ℕ → ℕ → Best
+abbrev pub rated_run : ℕ → ℕ → ℕ → ℕ → ℕ → Option RatedRun
 rated_run s i n bytes span = rated_as (rate_of (8 * bytes * s) span) i n bytes span
 
 -- the better of two, the first of them the earlier: the first, unless the rate of the second is higher
-abbrev pub better : Best → Best → Best
-better (best.Run a) (best.Run b) = cond (ltb a.rate b.rate) (best.Run b) (best.Run a)
-better (best.Run a) best.NotComputed = best.NotComputed
-better best.NotComputed b = best.NotComputed
+abbrev pub better : Option RatedRun → Option RatedRun → Option RatedRun
+better (Some a) (Some b) = cond (ltb a.rate b.rate) (Some b) (Some a)
+better (Some a) None = None
+better None b = None
 
 -- none of the runs that get there
-abbrev pub no_run : Best
-no_run = best.Run (record { rate = 0; first = 0; count = 0; bytes = 0; span = 0 })
+abbrev pub no_run : Option RatedRun
+no_run = Some (record { rate = 0; first = 0; count = 0; bytes = 0; span = 0 })
 
 -- the best of the runs that get there, the first sample's index being i
-abbrev pub best_from : ℕ → ℕ → List ℕ → List ℕ → Best
+abbrev pub best_from : ℕ → ℕ → List ℕ → List ℕ → Option RatedRun
 best_from s i [] zs = no_run
 best_from s i (d ∷ ds) zs =
     cond (leb s (sum (d ∷ ds)))
@@ -98,7 +94,7 @@ best_from s i (d ∷ ds) zs =
     (best_from s (suc i) ds (drop 1 zs)))
     (best_from s (suc i) ds (drop 1 zs))
 
-unfoldable pub best_of : ℕ → List ℕ → List ℕ → Best
+unfoldable pub best_of : ℕ → List ℕ → List ℕ → Option RatedRun
 best_of s ds zs = cond (ltb (sum ds) s) (rated_run s 0 (length ds) (sum zs) (sum ds)) (best_from s 0 ds zs)
 
 -- whether it is told in 64 bits that so many bytes in so long are no more a second than another run's, by cross-multiplication
@@ -115,10 +111,10 @@ unfoldable pub are_single : List ℕ → List ℕ → Bool
 are_single a b = eqb (u32_at a 0) 1 && eqb (u32_at b 0) 1
 
 -- a best run whose rate is that of its bytes and its span
-abbrev pub IsRated : ℕ → Best → Type 0
-IsRated s x = (b : RatedRun) → x ≡ best.Run b → (rate_of (8 * b.bytes * s) b.span ≡ Value b.rate) × (b.span < 4294967296)
+abbrev pub IsRated : ℕ → Option RatedRun → Type 0
+IsRated s x = (b : RatedRun) → x ≡ Some b → (rate_of (8 * b.bytes * s) b.span ≡ Some b.rate) × (b.span < 4294967296)
 
 -- the best run so far and that of a window
-pub record Raises (s : ℕ) (x : Best) (w : Window) (r : Best) : Type 0 where
+pub record Raises (s : ℕ) (x : Option RatedRun) (w : Window) (r : Option RatedRun) : Type 0 where
   pub kept : r ≡ better x (rated_run s w.first (w.stop - w.first) w.bytes w.span)
   pub rated : IsRated s r

@@ -8,7 +8,7 @@ ghost use Rattle.words.specs.Words.{sizes};
 ghost use Rattle.windows.specs.Windows.{Timed, start_window, grown_by, Slides, Reaches, rated_run, IsRated, no_higher, no_higher_run, are_single, Raises};
 
 use bigendian::whole32;
-use rates::{Feature, rate};
+use rates::rate;
 use runs::cursor::{RunCursor, run_pass, run_ready, run_start};
 use words::size_of;
 
@@ -31,13 +31,6 @@ pub struct RatedRun {
     pub count: u32,
     pub bytes: u64,
     pub span: u64,
-}
-
-// The best run so far, or that the rate of one cannot be computed.
-#[derive(Clone, Copy)]
-pub enum Best {
-    Run(RatedRun),
-    NotComputed,
 }
 
 // The window before the first sample.
@@ -107,24 +100,22 @@ pub fn next_window(stts: &[u8], stsz: &[u8], w: Window, scale: u32) -> Window
     extended(stts, stsz, rest, scale)
 }
 
-// A window's run with its rate.
-pub fn rated(w: Window, scale: u32) -> Best
+// A window's run with its rate, where that can be computed.
+pub fn rated(w: Window, scale: u32) -> Option<RatedRun>
     requires { (w.first ≤ w.stop) × (w.stop ≤ 1048576) × (w.span < 4294967296) }
     ensures { (result ≡ rated_run scale w.first (w.stop - w.first) w.bytes w.span) × IsRated scale result }
 {
     let first = w.first;
     let bytes = w.bytes;
     let span = w.span;
-    match rate(bytes, 8 * (scale as u64), span) {
-        Feature::Value(v) => Best::Run(RatedRun {
-            rate: v,
-            first: first + 1,
-            count: w.stop - first,
-            bytes,
-            span,
-        }),
-        Feature::NotComputed => Best::NotComputed,
-    }
+    let rate = rate(bytes, 8 * (scale as u64), span)?;
+    Some(RatedRun {
+        rate,
+        first: first + 1,
+        count: w.stop - first,
+        bytes,
+        span,
+    })
 }
 
 // Whether so many bytes in so long are, by cross-multiplication, no more a second than another run's. Where that is not told in 64 bits, the answer is no.
@@ -166,22 +157,18 @@ pub fn are_single(a: &[u8], b: &[u8]) -> bool
     whole32(b, 0) == 1
 }
 
-// The better of the best run so far and a window's. Only a run that may be higher has its rate computed.
-pub fn raised(best: Best, w: Window, scale: u32) -> Best
+// The better of the best run so far and a window's, where the rates of all can be computed. Only a run that may be higher has its rate computed.
+pub fn raised(best: Option<RatedRun>, w: Window, scale: u32) -> Option<RatedRun>
     requires { IsRated scale best × (w.first ≤ w.stop) × (w.stop ≤ 1048576) × (0 < w.span) × (w.span < 4294967296) }
     ensures { Raises scale best w result }
 {
-    let Best::Run(b) = best else {
-        return best;
-    };
+    let b = best?;
     if is_no_higher(w.bytes, w.span, b) {
-        return Best::Run(b);
+        return Some(b);
     }
-    let Best::Run(r) = rated(w, scale) else {
-        return Best::NotComputed;
-    };
+    let r = rated(w, scale)?;
     if b.rate < r.rate {
-        return Best::Run(r);
+        return Some(r);
     }
-    Best::Run(b)
+    Some(b)
 }

@@ -24,10 +24,7 @@ pub const LONG: usize = 8;
 fn front(s: &[u8], n: usize) -> &[u8]
     ensures { result.now ≡ take n s.now }
 {
-    if n <= s.len() {
-        return &s[..n];
-    }
-    s
+    s.get(..n).unwrap_or(s)
 }
 
 // The number of a part with an index.
@@ -51,11 +48,9 @@ pub fn sum_words(part: &[u8]) -> u64
     if part.len() == 8 {
         return u32_at(part, 0) as u64 + u32_at(part, 4) as u64;
     }
-    let mut t = part;
     let mut total: u64 = 0;
-    while 4 <= t.len() {
-        total += u32_at(t, 0) as u64;
-        t = &t[4..];
+    for entry in part.chunks_exact(4) {
+        total += u32_at(entry, 0) as u64;
     }
     total
 }
@@ -64,13 +59,7 @@ pub fn sum_words(part: &[u8]) -> u64
 pub fn span(from: u32, to: u32) -> u32
     ensures { result ≡ to - from }
 {
-    if from < to { to - from } else { 0 }
-}
-
-fn smaller(a: u32, b: u32) -> u32
-    ensures { result ≡ min a b }
-{
-    if a < b { a } else { b }
+    to.saturating_sub(from)
 }
 
 // The first `count` numbers of a part, added. The bound follows from the equation; callers need it to add more.
@@ -84,7 +73,7 @@ pub fn first_sum(part: &[u8], count: u32) -> u64
 fn listed_between(part: &[u8], from: u32, to: u32) -> u64
     ensures { (result ≡ between (words_in part.now) from to) × (result ≤ (to - from) * 4294967295) }
 {
-    first_sum(after(part, (from as usize) * 4), span(from, to))
+    first_sum(after(part, (from as usize) * 4), to.saturating_sub(from))
 }
 
 // What the head of stsz says: the size that all samples have, or 0 where sizes are listed, and how many samples there are.
@@ -130,8 +119,8 @@ pub fn bytes_between(stsz: &[u8], from: u32, to: u32) -> u64
     if each == 0 {
         return listed_between(after(stsz, SIZES_HEAD), from, to);
     }
-    let end = smaller(to, u32_at(stsz, 16));
-    span(from, end) as u64 * each as u64
+    let end = to.min(u32_at(stsz, 16));
+    end.saturating_sub(from) as u64 * each as u64
 }
 
 // All sizes, added, in a table so short that the sum fits.
@@ -150,10 +139,7 @@ pub fn all_bytes(stsz: &[u8]) -> u64
 pub fn saturating_sum(a: u64, b: u64) -> u64
     ensures { result ≡ min (a + b) 18446744073709551615 }
 {
-    if b <= 18446744073709551615 - a {
-        return a + b;
-    }
-    18446744073709551615
+    a.saturating_add(b)
 }
 
 // Whether the numbers of a table of chunk offsets have 64 bits.
@@ -201,16 +187,13 @@ pub fn chunk_offset(table: &[u8], index: u64) -> u64
 pub fn syncs_agree(stss: &[u8], samples: u32) -> bool
     ensures { result ≡ syncs_agree stss.now samples }
 {
-    let part = after(stss, HEAD);
-    let mut t = part;
     let mut last: u32 = 0;
-    while 4 <= t.len() {
-        let number = u32_at(t, 0);
+    for entry in after(stss, HEAD).chunks_exact(4) {
+        let number = u32_at(entry, 0);
         if number <= last {
             return false;
         }
         last = number;
-        t = &t[4..];
     }
     last <= samples
 }
@@ -222,13 +205,10 @@ pub fn is_sync(stss: &[u8], number: u32) -> bool
     if stss.len() == 0 {
         return true;
     }
-    let part = after(stss, HEAD);
-    let mut t = part;
-    while 4 <= t.len() {
-        if u32_at(t, 0) == number {
+    for entry in after(stss, HEAD).chunks_exact(4) {
+        if u32_at(entry, 0) == number {
             return true;
         }
-        t = &t[4..];
     }
     false
 }

@@ -1,6 +1,6 @@
 -- `bigendian::number_at` meets its contract: it goes as the definition does, one byte less at each call.
 -- Assumes nothing.
-use Rattle.std.proofs.Common.{arith, ℕ, ◌+◌, ◌*◌, ◌-◌, ◌^◌, ◌<◌, ◌≤◌, ◌≡◌, List, refl, sym, ap}
+use Rattle.std.proofs.Common.{arith, ℕ, ◌+◌, ◌*◌, ◌^◌, ◌<◌, ◌≤◌, ◌≡◌, List, sym, ap}
 use native.Mathlib.Nat.{pow-le-pow_right}
 use lib.ListN.{get_or}
 use Rattle.bigendian.specs.BigEndian.{be_at}

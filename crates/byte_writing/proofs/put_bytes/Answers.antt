@@ -1,34 +1,14 @@
--- `byte_writing::put_bytes` meets its contract: at each turn, what is still to be written makes of the output what it will be.
+-- `byte_writing::put_bytes` meets its contract: the part of the output holds the bytes.
 -- Assumes nothing.
+use Prim.Native.Nat.{◌+◌, ◌-◌}
+use mathlib.Core.Path.{refl, ◌≡◌}
 use native.Mathlib.Omega.{arith}
-use mathlib.Core.Path.{refl}
-use lib.ListN.{length-set, length-drop}
-use Rattle.bigendian.proofs.Parts.{rest}
-use Rattle.byte_writing.proofs.Writing.{bytes_next, bytes_end}
+use lib.ListN.{length}
+use Rattle.byte_writing.proofs.Writing.{part_written}
 use Rattle.byte_writing.proofs.put_bytes.Goals as goal
-
-pub loop-t-init : goal.loop-t-init
-loop-t-init c = (c.requires, refl, refl, refl)
-
-pub loop-t-smaller : goal.loop-t-smaller
-loop-t-smaller c =
-    let t = c.loop-t.t.now in
-    rw (rest 1 t) (omega (arith, length-drop 1 t, c.loop-t-test.true))
-
-pub loop-t-preserved : goal.loop-t-preserved
-loop-t-preserved c =
-    let l = c.loop-t in
-    let t = l.t.now in
-    let h = c.loop-t-test.true in
-    let e = l.invariant in
-    rw (rest 1 t, length-set)
-    (omega (arith, length-drop 1 t, e.0, h), e.1, omega (arith, length-drop 1 t, e.2, h), bytes_next _ l.k t _ h e.3)
-
-pub shape_of-out : goal.shape_of-out
-shape_of-out c = c.loop-t.invariant.1
 
 pub returns : goal.returns
 returns c =
-    let l = c.loop-t in
-    let t = l.t.now in
-    (omega (arith, l.invariant.2, c.loop-t-test.false), bytes_end _ l.k t _ c.loop-t-test.false l.invariant.3)
+    let a = c.args in
+    let e : a.at + length a.from.now - a.at ≡ length a.from.now = omega arith in
+    (refl, part_written a.out.now a.from.now _ a.at _ c.requires e c.copy_from_slice.ensures.after)

@@ -1,28 +1,18 @@
--- `byte_writing::put_zeros` meets its contract: at each turn, what is still to be written makes of the output what it will be.
+-- `byte_writing::put_zeros` meets its contract: the part of the output holds zeros.
 -- Assumes nothing.
+use Prim.Native.Nat.{ℕ, ◌+◌, ◌-◌, ◌≤◌}
+use mathlib.Core.Path.{refl, ◌≡◌, ap, ◌∙◌}
 use native.Mathlib.Omega.{arith}
-use mathlib.Core.Path.{◌≡◌, refl}
-use lib.ListN.{length-set}
-use Rattle.byte_writing.proofs.Writing.{zeros_next}
+use lib.ListN.{length, replicate, drop, take, length-replicate, length-drop}
+use lib.Seq.{length-take-le}
+use Rattle.byte_writing.proofs.Writing.{part_written}
 use Rattle.byte_writing.proofs.put_zeros.Goals as goal
-
-pub loop-left-init : goal.loop-left-init
-loop-left-init c = (c.requires, refl, refl, refl)
-
-pub loop-left-smaller : goal.loop-left-smaller
-loop-left-smaller c = omega (arith, c.loop-left-test.true)
-
-pub loop-left-preserved : goal.loop-left-preserved
-loop-left-preserved c =
-    let l = c.loop-left in
-    let h = c.loop-left-test.true in
-    (rw (length-set) (omega (arith, l.invariant.0, h)), rw (length-set) l.invariant.1, omega (arith, l.invariant.2, h), zeros_next l.out l.k l.left _ h l.invariant.3)
-
-pub shape_of-out : goal.shape_of-out
-shape_of-out c = c.loop-left.invariant.1
 
 pub returns : goal.returns
 returns c =
-    let l = c.loop-left in
-    let z : l.left ≡ 0 = omega (arith, c.loop-left-test.false) in
-    (omega (arith, l.invariant.2, z), rw z at l.invariant.3)
+    let a = c.args in
+    let e : a.at + a.n - a.at ≡ length (replicate {A = ℕ} a.n 0) = omega (arith, length-replicate {A = ℕ} a.n 0) in
+    let h : a.at + length (replicate {A = ℕ} a.n 0) ≤ length a.out.now = omega (arith, length-replicate {A = ℕ} a.n 0, c.requires) in
+    let n : length (take (a.at + a.n - a.at) (drop a.at a.out.now)) ≡ a.n =
+    length-take-le (a.at + a.n - a.at) (drop a.at a.out.now) (omega (arith, length-drop a.at a.out.now, c.requires)) ∙ omega arith in
+    (refl, part_written a.out.now (replicate a.n 0) _ a.at _ h e (c.fill.ensures.after (λ y q. q) ∙ ap (λ (k : ℕ). replicate k 0) n))

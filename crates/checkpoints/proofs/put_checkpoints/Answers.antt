@@ -37,12 +37,6 @@ after-requires c = tt
 pub sums_past-r-requires : goal.sums_past-r-requires
 sums_past-r-requires c = tt
 
-pub overflow_add-i-in-loop-i : goal.overflow_add-i-in-loop-i
-overflow_add-i-in-loop-i c = omega arith
-
-pub loop-i-smaller : goal.loop-i-smaller
-loop-i-smaller c = omega arith
-
 pub loop-i-preserved : goal.loop-i-preserved
 loop-i-preserved c =
     let l = c.loop-i in

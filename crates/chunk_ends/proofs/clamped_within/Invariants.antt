@@ -11,6 +11,3 @@ abbrev pub invariant-loop-i : goal.invariant-loop-i
 invariant-loop-i l =
     end_within l.limit (replicate (l.count - l.i) l.per) (drop l.i (numbers_in (width_of l.long) l.offsets)) (replicate l.stock l.each)
     ≡ end_within l.limit (replicate l.count l.per) (numbers_in (width_of l.long) l.offsets) (replicate l.samples l.each)
-
-abbrev pub decreases-loop-i : goal.decreases-loop-i
-decreases-loop-i l = l.count - l.i

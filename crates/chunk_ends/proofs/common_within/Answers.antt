@@ -45,7 +45,7 @@ loop-c-preserved c =
     let l = c.loop-c in (
       ending_next l.invariant.0 l.c.remaining (omega arith) c.pass.ensures c.ready-c-in-loop-c.ensures.0 c.run_within.ensures c.if-not-run_within.false
           (ap (numbers_in (width_of a.long)) (c.after-others.ensures ∙ ap (λ (n : ℕ). drop (l.c.remaining * n) l.t.now) c.width_of-width.ensures) ∙ numbers_drop (width_of a.long) (width_above a.long) l.c.remaining l.t.now)
-          (ap (λ (n : ℕ). replicate n a.each) c.remaining-stock.ensures ∙ sym (same_after l.stock a.each (l.c.remaining * l.c.per))),
+          (ap (λ (n : ℕ). replicate n a.each) c.saturating_sub-stock.ensures ∙ sym (same_after l.stock a.each (l.c.remaining * l.c.per))),
       c.ready-c-in-loop-c.ensures.1 (omega (arith, ap (λ (y : ChunkCursor). y.remaining) c.pass.ensures, l.invariant.1)),
     )
 

@@ -23,10 +23,10 @@ loop-c-init c =
     )
 
 pub slice_bounds-sum_words-end : goal.slice_bounds-sum_words-end
-slice_bounds-sum_words-end c = sym (length-take-le c.smaller-n.result c.loop-c.z.now (omega (arith, c.smaller-n.ensures)))
+slice_bounds-sum_words-end c = sym (length-take-le c.min-n.result c.loop-c.z.now (omega (arith, c.min-n.ensures)))
 
 pub sum_words-bytes-requires : goal.sum_words-bytes-requires
-sum_words-bytes-requires c = omega (arith, length-take c.smaller-n.result c.loop-c.z.now, c.smaller-n.ensures)
+sum_words-bytes-requires c = omega (arith, length-take c.min-n.result c.loop-c.z.now, c.min-n.ensures)
 
 pub returns-then-passes : goal.returns-then-passes
 returns-then-passes c =
@@ -34,7 +34,7 @@ returns-then-passes c =
     let cs = numbers_in (width_of a.long) a.offsets.now in
     let l = c.loop-c in
     sym (ends_past l.invariant.0 1 (omega (arith, c.loop-c-test.true))
-    (one_asked a.limit l.c.per (drop l.index cs) (words_in l.z.now) (c.number_in.ensures ∙ at_front l.index cs) (c.sum_words-bytes.ensures.0 ∙ first_part l.z.now l.c.per c.smaller-n.ensures) c.passes.ensures) (ap not c.if-passes.true))
+    (one_asked a.limit l.c.per (drop l.index cs) (words_in l.z.now) (c.number_in.ensures ∙ at_front l.index cs) (c.sum_words-bytes.ensures.0 ∙ first_part l.z.now l.c.per c.min-n.ensures) c.passes.ensures) (ap not c.if-passes.true))
 
 pub overflow_add-index : goal.overflow_add-index
 overflow_add-index c = omega (arith, c.loop-c.invariant.1)
@@ -50,9 +50,9 @@ loop-c-preserved c =
     let h : 1 ≤ l.c.remaining = omega (arith, c.loop-c-test.true) in
     let e : 1 * l.c.per ≡ l.c.per = omega arith in (
       ending_next l.invariant.0 1 h c.pass.ensures c.ready-c-in-loop-c.ensures.0
-          (one_asked a.limit l.c.per (drop l.index cs) (words_in l.z.now) (c.number_in.ensures ∙ at_front l.index cs) (c.sum_words-bytes.ensures.0 ∙ first_part l.z.now l.c.per c.smaller-n.ensures) c.passes.ensures) (ap not c.if-passes.false)
+          (one_asked a.limit l.c.per (drop l.index cs) (words_in l.z.now) (c.number_in.ensures ∙ at_front l.index cs) (c.sum_words-bytes.ensures.0 ∙ first_part l.z.now l.c.per c.min-n.ensures) c.passes.ensures) (ap not c.if-passes.false)
           (sym (drop-drop 1 l.index cs))
-          (ap words_in (part-rest c.smaller-n.result l.z.now) ∙ later_part l.z.now l.c.per c.smaller-n.ensures ∙ ap (λ (k : ℕ). drop k (words_in l.z.now)) (sym e)),
+          (ap words_in (part-rest c.min-n.result l.z.now) ∙ later_part l.z.now l.c.per c.min-n.ensures ∙ ap (λ (k : ℕ). drop k (words_in l.z.now)) (sym e)),
       omega (arith, ending_length l.invariant.0 1 h c.pass.ensures c.ready-c-in-loop-c.ensures.0, l.invariant.1),
     )
 

@@ -17,10 +17,10 @@ overflow_mul-step c = record { fits = width_fits c.args.long {count = 2} (omega 
 pub loop-t-init : goal.loop-t-init
 loop-t-init c = (ap (λ k. 2 * k) c.width_of-step.ensures, ap (none_above c.args.most) c.first_numbers-these.ensures)
 
-pub returns-then-most-larger : goal.returns-then-most-larger
-returns-then-most-larger c =
+pub returns-then-most-max : goal.returns-then-most-max
+returns-then-most-max c =
     let a = c.args in
-    sym (two_above a.most (numbers_in (width_of a.long) c.loop-t.t.now) c.number_in.ensures c.number_in-in-loop-t.ensures (rw (← c.larger.ensures) c.if-most-larger.true)) ∙ c.loop-t.invariant.1
+    sym (two_above a.most (numbers_in (width_of a.long) c.loop-t.t.now) c.number_in.ensures c.number_in-in-loop-t.ensures (rw (← c.max.ensures) c.if-most-max.true)) ∙ c.loop-t.invariant.1
 
 pub loop-t-smaller : goal.loop-t-smaller
 loop-t-smaller c =
@@ -31,7 +31,7 @@ pub loop-t-preserved : goal.loop-t-preserved
 loop-t-preserved c =
     let a = c.args in
     let l = c.loop-t.t.now in
-    (c.loop-t.invariant.0, rw (part-rest _ l) (ap (none_above a.most) (past_two a.long l c.loop-t.invariant.0) ∙ two_below a.most (numbers_in (width_of a.long) l) c.number_in.ensures c.number_in-in-loop-t.ensures (rw (← c.larger.ensures) c.if-most-larger.false) ∙ c.loop-t.invariant.1))
+    (c.loop-t.invariant.0, rw (part-rest _ l) (ap (none_above a.most) (past_two a.long l c.loop-t.invariant.0) ∙ two_below a.most (numbers_in (width_of a.long) l) c.number_in.ensures c.number_in-in-loop-t.ensures (rw (← c.max.ensures) c.if-most-max.false) ∙ c.loop-t.invariant.1))
 
 pub returns : goal.returns
 returns c =

@@ -39,14 +39,8 @@ slice_bounds-d-end c = sym (length-take-le _ _ c.entry_size-z.ensures.upper_boun
 pub u16_at-requires : goal.u16_at-requires
 u16_at-requires c = tt
 
-pub larger-width-requires : goal.larger-width-requires
-larger-width-requires c = tt
-
 pub u16_at-requires-in-loop-t : goal.u16_at-requires-in-loop-t
 u16_at-requires-in-loop-t c = tt
-
-pub larger-height-requires : goal.larger-height-requires
-larger-height-requires c = tt
 
 pub loop-t-smaller : goal.loop-t-smaller
 loop-t-smaller c =
@@ -59,8 +53,8 @@ loop-t-preserved c =
     let l = c.loop-t in
     let d = c.entry_size-z in
     let t = l.t.now in
-    let w = c.larger-width.ensures ∙ ap (max l.width) c.u16_at.ensures in
-    let h = c.larger-height.ensures ∙ ap (max l.height) c.u16_at-in-loop-t.ensures in
+    let w = c.max-width.ensures ∙ ap (max l.width) c.u16_at.ensures in
+    let h = c.max-height.ensures ∙ ap (max l.height) c.u16_at-in-loop-t.ensures in
     rw (rest d.result t) (
       greatest_next _ t d.ensures.value width_of _ _ _ c.if-z-eq0.false d.ensures.upper_bound w l.invariant.0,
       greatest_next _ t d.ensures.value height_of _ _ _ c.if-z-eq0.false d.ensures.upper_bound h l.invariant.1,

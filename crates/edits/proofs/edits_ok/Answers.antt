@@ -2,10 +2,10 @@
 -- Assumes nothing.
 use mathlib.Core.Path.{sym, ap, ◌∙◌}
 use native.Mathlib.Omega.{arith}
-use lib.ListN.{length, length-drop}
-use Rattle.bigendian.proofs.Parts.{rest as part-rest}
+use lib.ListN.{length}
+use Rattle.bigendian.proofs.Entries.{begins, comes, none_comes}
 use Rattle.edits.specs.Edits.{edits_in, all_ok}
-use Rattle.edits.proofs.Turns.{all_wrong, all_right, all_end, ok_absent, ok_empty, ok_each}
+use Rattle.edits.proofs.Turns.{entry_edit, all_wrong, all_right, all_end, ok_absent, ok_empty, ok_each}
 use Rattle.edits.proofs.edits_ok.Goals as goal
 
 pub returns-then-elst-eq0 : goal.returns-then-elst-eq0
@@ -16,31 +16,35 @@ returns-then-part-lt12 c =
     let a = c.args in
     sym (ok_empty _ _ _ a.elst.now c.if-elst-eq0.false (omega (arith, ap length c.after-part.ensures, c.if-part-lt12.true)))
 
-pub loop-rows-init : goal.loop-rows-init
-loop-rows-init c =
+pub loop-entry-init : goal.loop-entry-init
+loop-entry-init c =
+    let begin = begins c.into_iter-entry-iterator.ensures.into_iter_gives c.chunks_exact-entry-items.ensures.rest c.chunks_exact-entry-items.ensures.size c.after-part.ensures in
     let a = c.args in
-    let e = c.after-part.ensures in
-    ap (λ l. all_ok a.scale a.movie a.total (edits_in l)) e
-    ∙ ok_each _ _ _ a.elst.now c.if-elst-eq0.false (omega (arith, ap length e, c.if-part-lt12.false))
+    let e = begin.rest in (
+      begin.size,
+      ap (λ l. all_ok a.scale a.movie a.total (edits_in l)) e
+          ∙ ok_each _ _ _ a.elst.now c.if-elst-eq0.false (omega (arith, ap length c.after-part.ensures, c.if-part-lt12.false)),
+    )
 
 pub edit_ok-requires : goal.edit_ok-requires
 edit_ok-requires c = c.edit_at-e.ensures.1
 
 pub returns-then-not-edit_ok : goal.returns-then-not-edit_ok
 returns-then-not-edit_ok c =
+    let e = comes c.loop-entry.entry-iterator c.next.new.self c.loop-entry.invariant.0 c.in-Some.entry c.in-Some.ensures.steps in
     sym
-    (all_wrong _ _ _ _ c.loop-rows-test.true c.edit_at-e.ensures.0
-    (sym c.edit_ok.ensures ∙ c.if-not-edit_ok.true)) ∙ c.loop-rows.invariant
+    (all_wrong _ _ _ _ e.long (c.edit_at-e.ensures.0 ∙ entry_edit e)
+    (sym c.edit_ok.ensures ∙ c.if-not-edit_ok.true)) ∙ c.loop-entry.invariant.1
 
-pub loop-rows-smaller : goal.loop-rows-smaller
-loop-rows-smaller c = rw part-rest (simp length-drop (omega (arith, c.loop-rows-test.true)))
-
-pub loop-rows-preserved : goal.loop-rows-preserved
-loop-rows-preserved c =
-    rw part-rest
-    (sym
-    (all_right _ _ _ _ c.loop-rows-test.true c.edit_at-e.ensures.0
-    (sym c.edit_ok.ensures ∙ c.if-not-edit_ok.false)) ∙ c.loop-rows.invariant)
+pub loop-entry-preserved : goal.loop-entry-preserved
+loop-entry-preserved c =
+    let e = comes c.loop-entry.entry-iterator c.next.new.self c.loop-entry.invariant.0 c.in-Some.entry c.in-Some.ensures.steps in (
+      e.size,
+      rw e.rest
+          (sym
+          (all_right _ _ _ _ e.long (c.edit_at-e.ensures.0 ∙ entry_edit e)
+          (sym c.edit_ok.ensures ∙ c.if-not-edit_ok.false)) ∙ c.loop-entry.invariant.1),
+    )
 
 pub returns : goal.returns
-returns c = sym (all_end _ _ _ _ c.loop-rows-test.false) ∙ c.loop-rows.invariant
+returns c = let end = none_comes c.loop-entry.entry-iterator c.next.new.self c.loop-entry.invariant.0 c.in-None.ensures.steps in sym (all_end _ _ _ _ end) ∙ c.loop-entry.invariant.1

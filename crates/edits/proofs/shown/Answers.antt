@@ -5,7 +5,6 @@ use mathlib.Core.Path.{◌≡◌, sym, ap, ◌∙◌}
 use native.Mathlib.Omega.{arith}
 use Rattle.bigendian.proofs.Halves.{kept}
 use Rattle.edits.specs.Edits.{start_of, placed, shown_at}
-use Rattle.edits.specs.declared.EditStart.{EditStart}
 use Rattle.edits.proofs.Signs.{from_mag}
 use Rattle.edits.proofs.shown.Goals as goal
 

@@ -4,10 +4,10 @@ use Rattle.feature_checks.specs.Bounds.{bound_of}
 use borrow.Author.Rules.{rules}
 use Rattle.feature_checks.proofs.bound_of.Goals as goal
 
-pub returns-in-Value : goal.returns-in-Value
+pub returns-in-Some : goal.returns-in-Some
 unfolding bound_of
-returns-in-Value c = search rules
+returns-in-Some c = search rules
 
-pub returns-in-NotComputed : goal.returns-in-NotComputed
+pub returns-in-None : goal.returns-in-None
 unfolding bound_of
-returns-in-NotComputed c = search rules
+returns-in-None c = search rules

@@ -3,8 +3,8 @@
 use Rattle.feature_questions.proofs.Computing.{to_computed, to_refused}
 use Rattle.feature_questions.proofs.to_value.Goals as goal
 
-pub returns-in-Value : goal.returns-in-Value
-returns-in-Value c = to_computed _ _ c.in-Value.is
+pub returns-in-Some : goal.returns-in-Some
+returns-in-Some c = to_computed _ _ c.in-Some.is
 
-pub returns-in-NotComputed : goal.returns-in-NotComputed
-returns-in-NotComputed c = to_refused _ c.in-NotComputed.is
+pub returns-in-None : goal.returns-in-None
+returns-in-None c = to_refused _ c.in-None.is

@@ -1,11 +1,11 @@
--- `features::peak_rate` meets its contract, case by case of the peak.
+-- `features::peak_rate` meets its contract: its rate alone.
 -- Assumes nothing.
 use mathlib.Core.Path.{sym, ap, ◌∙◌}
 use Rattle.peaks.specs.Peaks.{rate_in}
 use Rattle.features.proofs.peak_rate.Goals as goal
 
-pub returns-in-Highest : goal.returns-in-Highest
-returns-in-Highest c = sym (ap rate_in c.in-Highest.is) ∙ ap rate_in c.peak_for.ensures
+pub returns-in_err-peak : goal.returns-in_err-peak
+returns-in_err-peak c = c.from_residual.ensures ∙ sym (ap rate_in c.in_err-peak.was) ∙ ap rate_in c.peak_for.ensures
 
-pub returns-in-NotComputed : goal.returns-in-NotComputed
-returns-in-NotComputed c = sym (ap rate_in c.in-NotComputed.is) ∙ ap rate_in c.peak_for.ensures
+pub returns : goal.returns
+returns c = sym (ap rate_in c.in_ok-peak.was) ∙ ap rate_in c.peak_for.ensures

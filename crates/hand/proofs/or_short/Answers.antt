@@ -8,6 +8,6 @@ pub returns-then-refusal-ne0 : goal.returns-then-refusal-ne0
 unfolding or_else
 returns-then-refusal-ne0 c = rw (ne_eqb _ _ c.if-refusal-ne0.true)
 
-pub returns : goal.returns
+pub returns-else-refusal-ne0 : goal.returns-else-refusal-ne0
 unfolding or_else
-returns c = rw (eq-eqb _ _ c.if-refusal-ne0.false)
+returns-else-refusal-ne0 c = rw (eq-eqb _ _ c.if-refusal-ne0.false)

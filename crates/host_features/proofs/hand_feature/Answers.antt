@@ -4,16 +4,16 @@ use Rattle.hand.proofs.Answered.{handed, of_case}
 use Rattle.feature_questions.specs.Feature.{feature_numbers}
 use Rattle.host_features.proofs.hand_feature.Goals as goal
 
-pub returns-in-Value : goal.returns-in-Value
+pub returns-in-Ok : goal.returns-in-Ok
 unfolding feature_numbers
-returns-in-Value c =
+returns-in-Ok c =
     handed _ _ _ _ _ _
-    (of_case feature_numbers c.feature_by_code.ensures.answer c.in-Value.is)
+    (of_case feature_numbers c.feature_by_code.ensures.answer c.in-Ok.is)
     c.hand.ensures
 
-pub returns-in-Refused : goal.returns-in-Refused
+pub returns-in-Err : goal.returns-in-Err
 unfolding feature_numbers
-returns-in-Refused c =
+returns-in-Err c =
     handed _ _ _ _ _ _
-    (of_case feature_numbers c.feature_by_code.ensures.answer c.in-Refused.is)
-    c.hand-in-Refused.ensures
+    (of_case feature_numbers c.feature_by_code.ensures.answer c.in-Err.is)
+    (rw c.from.ensures at c.hand-in-Err.ensures)

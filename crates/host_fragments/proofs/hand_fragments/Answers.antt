@@ -6,14 +6,14 @@ use Rattle.hand.proofs.Answered.{handed, of_case}
 use Rattle.fragments.specs.Fragments.{fragments_numbers}
 use Rattle.host_fragments.proofs.hand_fragments.Goals as goal
 
-pub returns-in-Told : goal.returns-in-Told
+pub returns-in-Ok : goal.returns-in-Ok
 unfolding fragments_numbers
-returns-in-Told c =
-    let e = of_case fragments_numbers c.fragments.ensures.answer c.in-Told.is in
-    handed _ _ _ _ _ _ (e ∙ (λ i. 0 ∷ sym c.bit.ensures i ∷ sym c.bit-in-Told.ensures i ∷ [])) c.hand.ensures
+returns-in-Ok c =
+    let e = of_case fragments_numbers c.fragments.ensures.answer c.in-Ok.is in
+    handed _ _ _ _ _ _ (e ∙ (λ i. 0 ∷ sym c.bit.ensures i ∷ sym c.bit-in-Ok.ensures i ∷ [])) c.hand.ensures
 
-pub returns-in-Refused : goal.returns-in-Refused
+pub returns-in-Err : goal.returns-in-Err
 unfolding fragments_numbers
-returns-in-Refused c =
-    let e = of_case fragments_numbers c.fragments.ensures.answer c.in-Refused.is in
-    handed _ _ _ _ _ _ e c.hand-in-Refused.ensures
+returns-in-Err c =
+    let e = of_case fragments_numbers c.fragments.ensures.answer c.in-Err.is in
+    handed _ _ _ _ _ _ e (rw c.from.ensures at c.hand-in-Err.ensures)

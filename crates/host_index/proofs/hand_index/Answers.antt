@@ -11,7 +11,7 @@ pub returns-then-places-lt1 : goal.returns-then-places-lt1
 returns-then-places-lt1 c = index_no_place _ _ _ _ c.if-handle-lt-NUMBERS.false c.if-places-lt1.true
 
 pub returns-then-refused-ne0 : goal.returns-then-refused-ne0
-returns-then-refused-ne0 c = index_refused _ _ _ _ c.if-handle-lt-NUMBERS.false _ c.handle_in-h.ensures c.if-places-lt1.false _ _ c.index_into-refused.ensures c.if-refused-ne0.true _ _ c.hand.ensures
+returns-then-refused-ne0 c = index_refused _ _ _ _ c.if-handle-lt-NUMBERS.false _ c.handle_in-h.ensures c.if-places-lt1.false _ _ (rw c.code-refused.ensures c.index_into-filled.ensures) c.if-refused-ne0.true _ _ c.hand.ensures
 
 pub returns : goal.returns
-returns c = index_done _ _ _ _ c.if-handle-lt-NUMBERS.false _ c.handle_in-h.ensures c.if-places-lt1.false _ _ c.index_into-refused.ensures c.if-refused-ne0.false _ _ _ _ c.checkpoints_of.ensures.0 refl c.hand-2.ensures
+returns c = index_done _ _ _ _ c.if-handle-lt-NUMBERS.false _ c.handle_in-h.ensures c.if-places-lt1.false _ _ (rw c.code-refused.ensures c.index_into-filled.ensures) c.if-refused-ne0.false _ _ _ _ c.checkpoints_of.ensures.0 refl c.hand-2.ensures

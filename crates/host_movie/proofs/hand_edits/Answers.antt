@@ -8,20 +8,20 @@ use Rattle.host_movie.proofs.hand_edits.Goals as goal
 
 pub returns-then-places-lt1 : goal.returns-then-places-lt1
 unfolding edits_refusal
-returns-then-places-lt1 c = too_few _ _ _ _ _ _ _ _ (edits_judged _ _ _ _) refl c.if-places-lt1.true (rw (← c.ask_refusal.ensures) c.or_short.ensures)
+returns-then-places-lt1 c = too_few _ _ _ _ _ _ _ _ (edits_judged _ _ _ _) refl c.if-places-lt1.true (rw (← c.ask_refusal-asked.ensures, ← c.code.ensures) c.or_short.ensures)
 
-pub returns-in-Entries : goal.returns-in-Entries
+pub returns-in-Ok : goal.returns-in-Ok
 unfolding edits_numbers
-returns-in-Entries c =
-    fills _ _ _ _ _ _ _ _ _ _ _ (edits_judged _ _ _ _) (of_case edits_numbers c.stored_edits.ensures.answer c.in-Entries.is)
+returns-in-Ok c =
+    fills _ _ _ _ _ _ _ _ _ _ _ (edits_judged _ _ _ _) (of_case edits_numbers c.stored_edits.ensures.answer c.in-Ok.is)
     c.if-places-lt1.false
     c.hand.ensures
     c.stored_edits.ensures.places
 
-pub returns-in-Refused : goal.returns-in-Refused
+pub returns-in-Err : goal.returns-in-Err
 unfolding edits_numbers
-returns-in-Refused c =
-    fills _ _ _ _ _ _ _ _ _ _ _ (edits_judged _ _ _ _) (of_case edits_numbers c.stored_edits.ensures.answer c.in-Refused.is)
+returns-in-Err c =
+    fills _ _ _ _ _ _ _ _ _ _ _ (edits_judged _ _ _ _) (of_case edits_numbers c.stored_edits.ensures.answer c.in-Err.is)
     c.if-places-lt1.false
-    c.hand-in-Refused.ensures
+    (rw c.from.ensures at c.hand-in-Err.ensures)
     c.stored_edits.ensures.places

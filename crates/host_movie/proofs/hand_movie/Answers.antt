@@ -4,10 +4,10 @@ use Rattle.hand.proofs.Answered.{handed, of_case}
 use Rattle.movie_times.specs.Header.{movie_numbers}
 use Rattle.host_movie.proofs.hand_movie.Goals as goal
 
-pub returns-in-Movie : goal.returns-in-Movie
+pub returns-in-Ok : goal.returns-in-Ok
 unfolding movie_numbers
-returns-in-Movie c = handed _ _ _ _ _ _ (of_case movie_numbers c.movie_header.ensures.answer c.in-Movie.is) c.hand.ensures
+returns-in-Ok c = handed _ _ _ _ _ _ (of_case movie_numbers c.movie_header.ensures.answer c.in-Ok.is) c.hand.ensures
 
-pub returns-in-Refused : goal.returns-in-Refused
+pub returns-in-Err : goal.returns-in-Err
 unfolding movie_numbers
-returns-in-Refused c = handed _ _ _ _ _ _ (of_case movie_numbers c.movie_header.ensures.answer c.in-Refused.is) c.hand-in-Refused.ensures
+returns-in-Err c = handed _ _ _ _ _ _ (of_case movie_numbers c.movie_header.ensures.answer c.in-Err.is) (rw c.from.ensures at c.hand-in-Err.ensures)

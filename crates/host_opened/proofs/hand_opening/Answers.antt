@@ -4,9 +4,9 @@ use Rattle.host_opened.specs.Hands.{open_values}
 use Rattle.host_opened.proofs.Handed.{opened_track, opened_refused}
 use Rattle.host_opened.proofs.hand_opening.Goals as goal
 
-pub returns-in-Track : goal.returns-in-Track
-returns-in-Track c = opened_track _ _ _ _ _ _ _ _ c.of.ensures c.in-Track.is c.hand_handle.ensures
+pub returns-in-Ok : goal.returns-in-Ok
+returns-in-Ok c = opened_track _ _ _ _ _ _ _ _ c.of.ensures c.in-Ok.is c.hand_handle.ensures
 
-pub returns-in-Refused : goal.returns-in-Refused
+pub returns-in-Err : goal.returns-in-Err
 unfolding open_values
-returns-in-Refused c = opened_refused _ _ _ _ _ _ _ _ c.of.ensures c.in-Refused.is c.hand.ensures
+returns-in-Err c = opened_refused _ _ _ _ _ _ _ _ c.of.ensures c.in-Err.is (rw c.from.ensures at c.hand.ensures)

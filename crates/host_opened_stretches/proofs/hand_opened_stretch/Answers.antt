@@ -13,18 +13,18 @@ pub returns-then-places-lt2 : goal.returns-then-places-lt2
 returns-then-places-lt2 c =
     let h = c.handle_in-h.result in
     stretch_whole _ _ _ _ _ _ _ _ _ c.if-handle-lt-NUMBERS.false h c.handle_in-h.ensures (
-    too_few _ _ _ _ _ _ _ _ (by_judged _ h _ _ _) refl c.if-places-lt2.true (rw (← c.refusal_by.ensures.said) c.or_short.ensures))
+    too_few _ _ _ _ _ _ _ _ (by_judged _ h _ _ _) refl c.if-places-lt2.true (rw (← c.refusal_by-asked.ensures.said, ← c.code.ensures) c.or_short.ensures))
 
-pub returns-in-Pairs : goal.returns-in-Pairs
+pub returns-in-Ok : goal.returns-in-Ok
 unfolding stretch_numbers
-returns-in-Pairs c =
+returns-in-Ok c =
     let h = c.handle_in-h.result in
     stretch_whole _ _ _ _ _ _ _ _ _ c.if-handle-lt-NUMBERS.false h c.handle_in-h.ensures (
-    fills _ _ _ _ _ _ _ _ _ _ _ (by_judged _ h _ _ _) (of_case stretch_numbers c.stretch_by.ensures.said.answer c.in-Pairs.is) c.if-places-lt2.false c.hand.ensures c.stretch_by.ensures.said.places)
+    fills _ _ _ _ _ _ _ _ _ _ _ (by_judged _ h _ _ _) (of_case stretch_numbers c.stretch_by.ensures.said.answer c.in-Ok.is) c.if-places-lt2.false c.hand.ensures c.stretch_by.ensures.said.places)
 
-pub returns-in-Refused : goal.returns-in-Refused
+pub returns-in-Err : goal.returns-in-Err
 unfolding stretch_numbers
-returns-in-Refused c =
+returns-in-Err c =
     let h = c.handle_in-h.result in
     stretch_whole _ _ _ _ _ _ _ _ _ c.if-handle-lt-NUMBERS.false h c.handle_in-h.ensures (
-    fills _ _ _ _ _ _ _ _ _ _ _ (by_judged _ h _ _ _) (of_case stretch_numbers c.stretch_by.ensures.said.answer c.in-Refused.is) c.if-places-lt2.false c.hand-in-Refused.ensures c.stretch_by.ensures.said.places)
+    fills _ _ _ _ _ _ _ _ _ _ _ (by_judged _ h _ _ _) (of_case stretch_numbers c.stretch_by.ensures.said.answer c.in-Err.is) c.if-places-lt2.false (rw c.from.ensures at c.hand-in-Err.ensures) c.stretch_by.ensures.said.places)

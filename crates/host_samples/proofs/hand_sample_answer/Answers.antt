@@ -18,20 +18,20 @@ as_number : (b : Bool) → to_z w64 (bool_byte b) ≡ pos (cond b 1 0)
 as_number true = refl
 as_number false = refl
 
-pub overflow_cast-s-in-Found : goal.overflow_cast-s-in-Found
-overflow_cast-s-in-Found c = record { sfits = omega (arith, (c.requires _ c.in-Found.is).0) }
+pub overflow_cast-s-in-Ok : goal.overflow_cast-s-in-Ok
+overflow_cast-s-in-Ok c = record { sfits = omega (arith, (c.requires _ c.in-Ok.is).0) }
 
-pub overflow_cast-s-in-Found-4 : goal.overflow_cast-s-in-Found-4
-overflow_cast-s-in-Found-4 c = record { sfits = omega (arith, (c.requires _ c.in-Found.is).1) }
+pub overflow_cast-s-in-Ok-4 : goal.overflow_cast-s-in-Ok-4
+overflow_cast-s-in-Ok-4 c = record { sfits = omega (arith, (c.requires _ c.in-Ok.is).1) }
 
-pub overflow_cast-s-in-Found-5 : goal.overflow_cast-s-in-Found-5
-overflow_cast-s-in-Found-5 c = record { sfits = omega (arith, (c.requires _ c.in-Found.is).2) }
+pub overflow_cast-s-in-Ok-5 : goal.overflow_cast-s-in-Ok-5
+overflow_cast-s-in-Ok-5 c = record { sfits = omega (arith, (c.requires _ c.in-Ok.is).2) }
 
-pub returns-in-Found : goal.returns-in-Found
+pub returns-in-Ok : goal.returns-in-Ok
 unfolding sample_numbers
-returns-in-Found c =
-    let s = c.in-Found.s in
-    let q = c.requires _ c.in-Found.is in
+returns-in-Ok c =
+    let s = c.in-Ok.s in
+    let q = c.requires _ c.in-Ok.is in
     let z =
     rw (
       to_z_pos w64 s.decode (omega (arith, q.0)),
@@ -41,10 +41,10 @@ returns-in-Found c =
       to_z_pos w64 s.offset (omega (arith, q.2)),
       to_z_pos w64 s.size (omega arith),
     )
-    at c.hand_signed.ensures in
+    at c.hand.ensures in
     let f : SFits w64 s.composition = search rules in
-    handed_signed _ _ _ _ _ _ (ap sample_numbers c.in-Found.is) (rw (to_z-of_z w64 s.composition f, as_number s.sync) at z)
+    handed_signed _ _ _ _ _ _ (ap sample_numbers c.in-Ok.is) (rw (to_z-of_z w64 s.composition f, as_number s.sync) at z)
 
-pub returns-in-Refused : goal.returns-in-Refused
+pub returns-in-Err : goal.returns-in-Err
 unfolding sample_numbers sample_zeros
-returns-in-Refused c = handed_signed _ _ _ _ _ _ (ap sample_numbers c.in-Refused.is) c.hand_signed-in-Refused.ensures
+returns-in-Err c = handed_signed _ _ _ _ _ _ (ap sample_numbers c.in-Err.is) (rw c.from.ensures at c.hand-in-Err.ensures)

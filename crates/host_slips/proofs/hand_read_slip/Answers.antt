@@ -9,29 +9,29 @@ use Rattle.host_slips.proofs.hand_read_slip.Goals as goal
 pub returns-then-places-lt6 : goal.returns-then-places-lt6
 returns-then-places-lt6 c = too_few_first _ _ _ _ _ _ _ _ (read_first _ _) (read_six _ _) refl c.if-places-lt6.true (rw (← c.slip_refusal.ensures) c.or_short.ensures)
 
-pub returns-in-Accepted : goal.returns-in-Accepted
+pub returns-in-Ok : goal.returns-in-Ok
 unfolding slip_read_numbers
-returns-in-Accepted c =
+returns-in-Ok c =
     let q = c.read_slip.ensures in
-    fills_first _ _ _ _ _ _ _ _ _ _ (read_first _ _) (sym q.numbers ∙ ap slip_read_numbers c.in-Accepted.is)
+    fills_first _ _ _ _ _ _ _ _ _ _ (read_first _ _) (sym q.numbers ∙ ap slip_read_numbers c.in-Ok.is)
     c.if-places-lt6.false
     c.hand.ensures
     (q.places ∙ read_room _ _)
 
-pub returns-in-Malformed : goal.returns-in-Malformed
+pub returns-in-Err-Malformed : goal.returns-in-Err-Malformed
 unfolding slip_read_numbers
-returns-in-Malformed c =
+returns-in-Err-Malformed c =
     let q = c.read_slip.ensures in
-    fills_first _ _ _ _ _ _ _ _ _ _ (read_first _ _) (sym q.numbers ∙ ap slip_read_numbers c.in-Malformed.is)
+    fills_first _ _ _ _ _ _ _ _ _ _ (read_first _ _) (sym q.numbers ∙ ap slip_read_numbers (rw c.in-Err-Malformed.field-0-is at c.in-Err-Malformed.is))
     c.if-places-lt6.false
-    c.hand-in-Malformed.ensures
+    c.hand-in-Err-Malformed.ensures
     (q.places ∙ read_room _ _)
 
-pub returns-in-NoRoom : goal.returns-in-NoRoom
+pub returns-in-Err-NoRoom : goal.returns-in-Err-NoRoom
 unfolding slip_read_numbers
-returns-in-NoRoom c =
+returns-in-Err-NoRoom c =
     let q = c.read_slip.ensures in
-    fills_first _ _ _ _ _ _ _ _ _ _ (read_first _ _) (sym q.numbers ∙ ap slip_read_numbers c.in-NoRoom.is)
+    fills_first _ _ _ _ _ _ _ _ _ _ (read_first _ _) (sym q.numbers ∙ ap slip_read_numbers (rw c.in-Err-NoRoom.field-0-is at c.in-Err-NoRoom.is))
     c.if-places-lt6.false
-    c.hand-in-NoRoom.ensures
+    c.hand-in-Err-NoRoom.ensures
     (q.places ∙ read_room _ _)

@@ -3,8 +3,8 @@
 use Rattle.host_step_starts.proofs.Handed.{start_at, start_refused}
 use Rattle.host_step_starts.proofs.hand_start.Goals as goal
 
-pub returns-in-At : goal.returns-in-At
-returns-in-At c = start_at _ _ _ _ _ c.in-At.is c.hand_position.ensures
+pub returns-in-Ok : goal.returns-in-Ok
+returns-in-Ok c = start_at _ _ _ _ _ c.in-Ok.is c.hand_position.ensures
 
-pub returns-in-Refused : goal.returns-in-Refused
-returns-in-Refused c = start_refused _ _ _ _ _ c.in-Refused.is c.hand.ensures
+pub returns-in-Err : goal.returns-in-Err
+returns-in-Err c = start_refused _ _ _ _ _ c.in-Err.is (rw c.from.ensures at c.hand.ensures)

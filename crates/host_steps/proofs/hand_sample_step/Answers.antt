@@ -12,7 +12,7 @@ pub returns-then-places-le-SAMPLE : goal.returns-then-places-le-SAMPLE
 returns-then-places-le-SAMPLE c = short_step _ _ _ (inr (omega (arith, c.if-places-le-SAMPLE.true)))
 
 pub returns-then-n-eq0 : goal.returns-then-n-eq0
-returns-then-n-eq0 c = step_done _ _ _ _ _ _ c.advance-n.ensures c.if-stepper-lt-NUMBERS.false (omega (arith, c.if-places-le-SAMPLE.false)) _ _ c.if-n-eq0.true c.hand_signed.ensures
+returns-then-n-eq0 c = step_done _ _ _ _ _ _ c.advance-n.ensures c.if-stepper-lt-NUMBERS.false (omega (arith, c.if-places-le-SAMPLE.false)) _ _ c.if-n-eq0.true c.hand.ensures
 
 pub returns : goal.returns
 returns c = step_next _ _ _ _ _ _ c.advance-n.ensures c.if-stepper-lt-NUMBERS.false (omega (arith, c.if-places-le-SAMPLE.false)) c.if-n-eq0.false

@@ -10,20 +10,20 @@ pub returns-then-places-lt2 : goal.returns-then-places-lt2
 unfolding stretch_refusal
 returns-then-places-lt2 c =
     too_few _ _ _ _ _ _ _ _ (stretch_judged _ _ _ _ _ _) refl c.if-places-lt2.true
-    (rw (← c.whole-source.ensures, ← c.span_refusal.ensures) c.or_short.ensures)
+    (rw (← c.whole-source.ensures, ← c.span_refusal-asked.ensures, ← c.code.ensures) c.or_short.ensures)
 
-pub returns-in-Pairs : goal.returns-in-Pairs
+pub returns-in-Ok : goal.returns-in-Ok
 unfolding stretch_numbers
-returns-in-Pairs c =
-    fills _ _ _ _ _ _ _ _ _ _ _ (stretch_judged _ _ _ _ _ _) (of_case stretch_numbers c.stretch_of.ensures.answer c.in-Pairs.is)
+returns-in-Ok c =
+    fills _ _ _ _ _ _ _ _ _ _ _ (stretch_judged _ _ _ _ _ _) (of_case stretch_numbers c.stretch_of.ensures.answer c.in-Ok.is)
     c.if-places-lt2.false
     c.hand.ensures
     c.stretch_of.ensures.places
 
-pub returns-in-Refused : goal.returns-in-Refused
+pub returns-in-Err : goal.returns-in-Err
 unfolding stretch_numbers
-returns-in-Refused c =
-    fills _ _ _ _ _ _ _ _ _ _ _ (stretch_judged _ _ _ _ _ _) (of_case stretch_numbers c.stretch_of.ensures.answer c.in-Refused.is)
+returns-in-Err c =
+    fills _ _ _ _ _ _ _ _ _ _ _ (stretch_judged _ _ _ _ _ _) (of_case stretch_numbers c.stretch_of.ensures.answer c.in-Err.is)
     c.if-places-lt2.false
-    c.hand-in-Refused.ensures
+    (rw c.from.ensures at c.hand-in-Err.ensures)
     c.stretch_of.ensures.places

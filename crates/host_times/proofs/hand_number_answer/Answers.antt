@@ -5,10 +5,10 @@ use Rattle.hand.proofs.Answered.{handed}
 use Rattle.time_questions.specs.Times.{number_numbers}
 use Rattle.host_times.proofs.hand_number_answer.Goals as goal
 
-pub returns-in-Number : goal.returns-in-Number
+pub returns-in-Ok : goal.returns-in-Ok
 unfolding number_numbers
-returns-in-Number c = handed _ _ _ _ _ _ (ap number_numbers c.in-Number.is) c.hand.ensures
+returns-in-Ok c = handed _ _ _ _ _ _ (ap number_numbers c.in-Ok.is) c.hand.ensures
 
-pub returns-in-Refused : goal.returns-in-Refused
+pub returns-in-Err : goal.returns-in-Err
 unfolding number_numbers
-returns-in-Refused c = handed _ _ _ _ _ _ (ap number_numbers c.in-Refused.is) c.hand-in-Refused.ensures
+returns-in-Err c = handed _ _ _ _ _ _ (ap number_numbers c.in-Err.is) (rw c.from.ensures at c.hand-in-Err.ensures)

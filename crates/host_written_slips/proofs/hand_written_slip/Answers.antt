@@ -10,20 +10,20 @@ pub returns-then-places-lt1 : goal.returns-then-places-lt1
 unfolding slip_refusal
 returns-then-places-lt1 c =
     too_few _ _ _ _ _ _ _ _ (slip_judged _ c.args.source _ _ _ _) refl c.if-places-lt1.true
-    (rw (c.span_refusal.ensures, c.strictly-strict.ensures) at c.or_short.ensures)
+    (rw (c.code.ensures, c.span_refusal-asked.ensures, c.strictly-strict.ensures) at c.or_short.ensures)
 
-pub returns-in-Written : goal.returns-in-Written
+pub returns-in-Ok : goal.returns-in-Ok
 unfolding slip_numbers
-returns-in-Written c =
-    fills _ _ _ _ _ _ _ _ _ _ _ (slip_judged _ _ _ _ _ _) (of_case slip_numbers c.write_slip_of.ensures.answer c.in-Written.is)
+returns-in-Ok c =
+    fills _ _ _ _ _ _ _ _ _ _ _ (slip_judged _ _ _ _ _ _) (of_case slip_numbers c.write_slip_of.ensures.answer c.in-Ok.is)
     c.if-places-lt1.false
     c.hand.ensures
     c.write_slip_of.ensures.places
 
-pub returns-in-Refused : goal.returns-in-Refused
+pub returns-in-Err : goal.returns-in-Err
 unfolding slip_numbers
-returns-in-Refused c =
-    fills _ _ _ _ _ _ _ _ _ _ _ (slip_judged _ _ _ _ _ _) (of_case slip_numbers c.write_slip_of.ensures.answer c.in-Refused.is)
+returns-in-Err c =
+    fills _ _ _ _ _ _ _ _ _ _ _ (slip_judged _ _ _ _ _ _) (of_case slip_numbers c.write_slip_of.ensures.answer c.in-Err.is)
     c.if-places-lt1.false
-    c.hand-in-Refused.ensures
+    (rw c.from.ensures at c.hand-in-Err.ensures)
     c.write_slip_of.ensures.places

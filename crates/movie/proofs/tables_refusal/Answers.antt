@@ -1,8 +1,8 @@
 -- `movie::tables_refusal` meets its contract; the loop's invariant: the earlier of what was found and of the tracks from i on is the refusal.
 -- Assumes nothing.
-use Prim.Native.Nat.{◌-◌}
 use mathlib.Core.Path.{sym, ap, ◌∙◌}
 use native.Mathlib.Omega.{arith}
+use Rattle.refusals.specs.Refusals.{code}
 use Rattle.structure.specs.ByTracks.{earlier_of, of_track, of_tracks}
 use Rattle.structure.specs.Movie.{moov_of, tracks_of}
 use Rattle.movie.specs.TableRows.{table_rows}
@@ -46,8 +46,8 @@ loop-i-preserved c =
     let rs = table_rows a.source a.scale a.len in
     let b = body_is _ _ _ c.requires.0 c.loop-i.i c.loop-i-test.true _ c.trak_at-trak.ensures _ c.part_of.ensures in (
       omega (arith, c.loop-i-test.true),
-      found_more _ c.loop-i.i (in_tracks _ _ _ c.requires.0 c.loop-i.i c.loop-i-test.true) rs c.loop-i.found _ _ (c.refusal-next.ensures ∙ track-rows _ _ _ _ ∙ ap (of_track rs) b) c.earlier_of-found.ensures ∙ c.loop-i.invariant.1,
+      found_more _ c.loop-i.i (in_tracks _ _ _ c.requires.0 c.loop-i.i c.loop-i-test.true) rs (code c.loop-i.found) _ _ (c.refusal-next.ensures ∙ track-rows _ _ _ _ ∙ ap (of_track rs) b) c.earlier_of-found.ensures ∙ c.loop-i.invariant.1,
     )
 
 pub returns : goal.returns
-returns c = sym (found_past _ c.loop-i.i _ c.loop-i.found (omega (arith, c.requires.0.count, c.loop-i-test.false))) ∙ c.loop-i.invariant.1
+returns c = sym (found_past _ c.loop-i.i _ (code c.loop-i.found) (omega (arith, c.requires.0.count, c.loop-i-test.false))) ∙ c.loop-i.invariant.1

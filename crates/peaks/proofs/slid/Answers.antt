@@ -11,17 +11,17 @@ returns-in_default c = skips_none _ _ _ _ _ c.requires.0 c.requires.2 c.requires
 
 pub slide_entries-requires : goal.slide_entries-requires
 slide_entries-requires c =
-    let g = c.in-Run.is in
+    let g = c.in-Some.is in
     (c.requires.0, c.requires.1, c.requires.2, rw g at c.requires.3, rw g at c.requires.4, c.has_entries.ensures c.if-has_entries.true)
 
 pub returns-then-has_entries : goal.returns-then-has_entries
-returns-then-has_entries c = rw c.in-Run.is c.slide_entries.ensures
+returns-then-has_entries c = rw c.in-Some.is c.slide_entries.ensures
 
 pub returns-then-steps-lt8 : goal.returns-then-steps-lt8
 returns-then-steps-lt8 c = skips_none _ _ _ _ _ c.requires.0 c.requires.2 c.requires.4
 
 pub most_bytes-most-requires : goal.most_bytes-most-requires
-most_bytes-most-requires c = ((rate_known _ _ _ (c.requires.3 _ c.in-Run.is).0).divides, span_fits _ _ _ c.requires.1 _ c.requires.0)
+most_bytes-most-requires c = ((rate_known _ _ _ (c.requires.3 _ c.in-Some.is).0).divides, span_fits _ _ _ c.requires.1 _ c.requires.0)
 
 pub returns-then-most-w : goal.returns-then-most-w
 returns-then-most-w c = skips_none _ _ _ _ _ c.requires.0 c.requires.2 c.requires.4
@@ -37,5 +37,5 @@ moved_by-requires c =
 
 pub returns : goal.returns
 returns c =
-    let g = c.in-Run.is in
+    let g = c.in-Some.is in
     rw (c.moved_by.ensures, g) (skips _ _ _ c.requires.1 _ c.requires.0 c.requires.2 _ _ c.level_steps-steps.ensures _ c.slide_over.ensures _ (c.requires.3 _ g).0 c.most_bytes-most.ensures)

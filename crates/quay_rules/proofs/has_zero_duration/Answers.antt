@@ -1,9 +1,8 @@
 -- `quay_rules::has_zero_duration` meets its contract: a 0 is among the durations of the runs not yet read exactly if it is among all.
 -- Assumes nothing.
-use native.Mathlib.Omega.{arith}
+use lib.Dec.{lit≤}
 use mathlib.Core.Path.{sym, ap, ◌∙◌}
-use lib.ListN.{length-drop}
-use Rattle.bigendian.proofs.Parts.{rest as part-rest}
+use Rattle.bigendian.proofs.Entries.{begins, comes, none_comes, entry_u32}
 use Rattle.lists.specs.Lists.{expand}
 use Rattle.runs.specs.Runs.{runs_in}
 use Rattle.runs.proofs.Turns.{spread_in}
@@ -11,17 +10,14 @@ use Rattle.quay_rules.specs.Rules.{has_zero}
 use Rattle.quay_rules.proofs.Zeros.{zero_here, zero_on, zero_end}
 use Rattle.quay_rules.proofs.has_zero_duration.Goals as goal
 
-pub loop-t-init : goal.loop-t-init
-loop-t-init c = ap (λ l. has_zero (expand (runs_in l))) c.after-part.ensures ∙ ap has_zero (spread_in c.args.stts.now)
+pub loop-entry-init : goal.loop-entry-init
+loop-entry-init c = let begin = begins c.into_iter-entry-iterator.ensures.into_iter_gives c.chunks_exact-entry-items.ensures.rest c.chunks_exact-entry-items.ensures.size c.after.ensures in (begin.size, ap (λ l. has_zero (expand (runs_in l))) begin.rest ∙ ap has_zero (spread_in c.args.stts.now))
 
 pub returns-then-is_zero_run : goal.returns-then-is_zero_run
-returns-then-is_zero_run c = sym (zero_here _ c.loop-t-test.true c.u32_at.ensures c.u32_at-in-loop-t.ensures c.is_zero_run.ensures c.if-is_zero_run.true) ∙ c.loop-t.invariant
+returns-then-is_zero_run c = let e = comes c.loop-entry.entry-iterator c.next.new.self c.loop-entry.invariant.0 c.in-Some.entry c.in-Some.ensures.steps in sym (zero_here _ e.long (c.u32_at.ensures ∙ entry_u32 e 0 (lit≤ tt)) (c.u32_at-in-loop-entry.ensures ∙ entry_u32 e 4 (lit≤ tt)) c.is_zero_run.ensures c.if-is_zero_run.true) ∙ c.loop-entry.invariant.1
 
-pub loop-t-smaller : goal.loop-t-smaller
-loop-t-smaller c = let l = c.loop-t.t.now in rw (part-rest 8 l) (omega (arith, length-drop 8 l, c.loop-t-test.true))
-
-pub loop-t-preserved : goal.loop-t-preserved
-loop-t-preserved c = let l = c.loop-t in rw (part-rest 8 l.t.now) (sym (zero_on _ c.loop-t-test.true c.u32_at.ensures c.u32_at-in-loop-t.ensures c.is_zero_run.ensures c.if-is_zero_run.false) ∙ l.invariant)
+pub loop-entry-preserved : goal.loop-entry-preserved
+loop-entry-preserved c = let e = comes c.loop-entry.entry-iterator c.next.new.self c.loop-entry.invariant.0 c.in-Some.entry c.in-Some.ensures.steps in let l = c.loop-entry in (e.size, rw e.rest (sym (zero_on _ e.long (c.u32_at.ensures ∙ entry_u32 e 0 (lit≤ tt)) (c.u32_at-in-loop-entry.ensures ∙ entry_u32 e 4 (lit≤ tt)) c.is_zero_run.ensures c.if-is_zero_run.false) ∙ l.invariant.1))
 
 pub returns : goal.returns
-returns c = sym (zero_end _ c.loop-t-test.false) ∙ c.loop-t.invariant
+returns c = let end = none_comes c.loop-entry.entry-iterator c.next.new.self c.loop-entry.invariant.0 c.in-None.ensures.steps in sym (zero_end _ end) ∙ c.loop-entry.invariant.1

@@ -1,6 +1,5 @@
 -- `questions::place_of` meets its contract. The loop's invariant: no track before the place has the ID.
 -- Assumes nothing.
-use Prim.Native.Nat.{◌-◌}
 use mathlib.Core.Path.{ap, ◌∙◌}
 use native.Mathlib.Omega.{arith}
 use Rattle.structure.specs.Track.{id_of}

@@ -1,23 +1,20 @@
--- `rates::rate` meets its contract: a return for each ground that a rate cannot be computed on, and the quotient by the promise of `ceiling` alone.
+-- `rates::rate` meets its contract: none on each ground that a rate cannot be computed on, and the quotient by the promise of `ceiling` alone.
 -- Assumes nothing.
-use Prim.Native.Nat.{◌*◌}
-use mathlib.Core.Path.{◌≡◌, sym, ◌∙◌}
-use Rattle.rates.specs.Rates.{value_of, rate_of}
-use Rattle.rates.proofs.Products.{rate_zero, rate_large, rate_is, value_small, value_large}
+use Prim.Native.Nat.{◌*◌, ◌≤◌}
+use mathlib.Core.Path.{sym, ◌∙◌}
+use native.Mathlib.Omega.{arith}
+use Rattle.rates.proofs.Values.{rate_zero, rate_over, rate_is, value_is}
 use Rattle.rates.proofs.rate.Goals as goal
 
 pub returns-then-d-eq0 : goal.returns-then-d-eq0
 returns-then-d-eq0 c = sym (rate_zero _ _ c.if-d-eq0.true)
 
-pub returns-in_default : goal.returns-in_default
-returns-in_default c = sym (rate_large _ _ _ c.if-d-eq0.false (sym c.in_default.is ∙ c.multiply-p.ensures))
-
-pub returns-then-v-lt4294967296 : goal.returns-then-v-lt4294967296
-returns-then-v-lt4294967296 c =
-    let rated : rate_of (c.args.a * c.args.b) c.args.d ≡ value_of c.ceiling-v.result = rate_is _ _ _ c.if-d-eq0.false (sym c.in-Exact.is ∙ c.multiply-p.ensures) c.ceiling-v.ensures in
-    sym (rated ∙ value_small _ c.if-v-lt4294967296.true)
+pub returns-in_err-n : goal.returns-in_err-n
+returns-in_err-n c =
+    let large : 18446744073709551616 ≤ c.args.a * c.args.b = omega (arith, c.in_err-n.ensures) in
+    c.from_residual.ensures ∙ sym (rate_over _ _ c.if-d-eq0.false large)
 
 pub returns : goal.returns
 returns c =
-    let rated : rate_of (c.args.a * c.args.b) c.args.d ≡ value_of c.ceiling-v.result = rate_is _ _ _ c.if-d-eq0.false (sym c.in-Exact.is ∙ c.multiply-p.ensures) c.ceiling-v.ensures in
-    sym (rated ∙ value_large _ c.if-v-lt4294967296.false)
+    let told = rate_is (c.args.a * c.args.b) c.args.d c.if-d-eq0.false c.in_ok-n.ensures.0 (rw c.in_ok-n.ensures.1 at c.ceiling-v.ensures) in
+    c.ok.ensures.value ∙ value_is _ _ c.try_from.ensures ∙ sym told

@@ -1,7 +1,6 @@
 -- `return_numbers::put_return` meets its contract: five parts, one after the other.
 -- Assumes nothing.
 use native.Mathlib.Omega.{arith}
-use Rattle.return_totals.proofs.Overs.{array_length}
 use Rattle.return_numbers.proofs.Again.{Whole, array_low, put_again, puts}
 use Rattle.return_numbers.proofs.put_return.Goals as goal
 
@@ -10,9 +9,9 @@ put-requires-2 c =
     let whole : Whole c.args.r = let g = c.well_formed.0.1.1 in
     let s = g.1.1.1.1.1.1.0 in
     record {
-      refused = array_length c.args.r.refused 14 g.1.0.1.0.1;
-      scales = array_length c.args.r.scales 32 s.1.0.1;
-      units = array_length c.args.r.units 32 g.1.1.1.1.1.1.1.0.1.0.1;
+      refused = g.1.0.1.0.1;
+      scales = s.1.0.1;
+      units = g.1.1.1.1.1.1.1.0.1.0.1;
       low = array_low c.args.r.scales s.0 s.1.1;
     } in
     omega (arith, (whole).refused)
@@ -22,9 +21,9 @@ put_low-requires c =
     let whole : Whole c.args.r = let g = c.well_formed.0.1.1 in
     let s = g.1.1.1.1.1.1.0 in
     record {
-      refused = array_length c.args.r.refused 14 g.1.0.1.0.1;
-      scales = array_length c.args.r.scales 32 s.1.0.1;
-      units = array_length c.args.r.units 32 g.1.1.1.1.1.1.1.0.1.0.1;
+      refused = g.1.0.1.0.1;
+      scales = s.1.0.1;
+      units = g.1.1.1.1.1.1.1.0.1.0.1;
       low = array_low c.args.r.scales s.0 s.1.1;
     } in
     omega (arith, (whole).scales)
@@ -34,9 +33,9 @@ put-requires-4 c =
     let whole : Whole c.args.r = let g = c.well_formed.0.1.1 in
     let s = g.1.1.1.1.1.1.0 in
     record {
-      refused = array_length c.args.r.refused 14 g.1.0.1.0.1;
-      scales = array_length c.args.r.scales 32 s.1.0.1;
-      units = array_length c.args.r.units 32 g.1.1.1.1.1.1.1.0.1.0.1;
+      refused = g.1.0.1.0.1;
+      scales = s.1.0.1;
+      units = g.1.1.1.1.1.1.1.0.1.0.1;
       low = array_low c.args.r.scales s.0 s.1.1;
     } in
     omega (arith, (whole).units)
@@ -46,9 +45,9 @@ returns c =
     let whole : Whole c.args.r = let g = c.well_formed.0.1.1 in
     let s = g.1.1.1.1.1.1.0 in
     record {
-      refused = array_length c.args.r.refused 14 g.1.0.1.0.1;
-      scales = array_length c.args.r.scales 32 s.1.0.1;
-      units = array_length c.args.r.units 32 g.1.1.1.1.1.1.1.0.1.0.1;
+      refused = g.1.0.1.0.1;
+      scales = s.1.0.1;
+      units = g.1.1.1.1.1.1.1.0.1.0.1;
       low = array_low c.args.r.scales s.0 s.1.1;
     } in
     let w = whole in

@@ -2,14 +2,14 @@
 -- Assumes nothing.
 use lib.ListN.{length}
 use mathlib.Core.Path.{◌≡◌}
-use Rattle.return_totals.proofs.Overs.{array_length, array_within}
+use Rattle.return_totals.proofs.Overs.{array_within}
 use Rattle.return_totals.proofs.Following.{Held, settle_refused, settle_kept}
 use Rattle.return_totals.proofs.settle.Goals as goal
 
 pub returns-then-refusal-ne0 : goal.returns-then-refusal-ne0
 returns-then-refusal-ne0 c s w =
-    let units_long : length c.args.r.units ≡ 32 = array_length c.args.r.units 32 c.well_formed.0.1.1.1.1.1.1.1.1.1.0.1.0.1 in
-    let scales_long : length c.args.r.scales ≡ 32 = array_length c.args.r.scales 32 c.well_formed.0.1.1.1.1.1.1.1.1.0.1.0.1 in
+    let units_long : length c.args.r.units ≡ 32 = c.well_formed.0.1.1.1.1.1.1.1.1.1.0.1.0.1 in
+    let scales_long : length c.args.r.scales ≡ 32 = c.well_formed.0.1.1.1.1.1.1.1.1.0.1.0.1 in
     settle_refused _ _ s w (scales_long) (units_long) c.if-refusal-ne0.true
 
 pub returns : goal.returns

@@ -27,26 +27,26 @@ pub returns-then-samples-passed-2 : goal.returns-then-samples-passed-2
 returns-then-samples-passed-2 c =
     let i = c.last_upto-i.result in
     let f = found_in i _ c.requires.0 c.last_upto-i.ensures.1 in
-    refused_from _ _ _ _ _ (λ cs ts. from_past _ i _ _ _ (c.number_at-passed.ensures ∙ cs i f) (c.number_at-start.ensures ∙ ts i f) (not_above _ c.args.points.now _ i _ _ ts f c.last_upto-i.ensures.2 c.number_at-start.ensures) _ c.if-stts-gt4294967295.false _ (rw c.after.ensures at c.look_up.ensures) _ c.in-Hit.is c.if-samples-passed-2.true)
+    refused_from _ _ _ _ _ (λ cs ts. from_past _ i _ _ _ (c.number_at-passed.ensures ∙ cs i f) (c.number_at-start.ensures ∙ ts i f) (not_above _ c.args.points.now _ i _ _ ts f c.last_upto-i.ensures.2 c.number_at-start.ensures) _ c.if-stts-gt4294967295.false _ (rw c.after.ensures at c.look_up.ensures) _ c.in-Some.is c.if-samples-passed-2.true)
 
-pub overflow_cast-result-in-Hit : goal.overflow_cast-result-in-Hit
-overflow_cast-result-in-Hit c = record { fits = omega (arith, found_in _ _ c.requires.0 c.last_upto-i.ensures.1, c.requires) }
+pub overflow_cast-result-in-Some : goal.overflow_cast-result-in-Some
+overflow_cast-result-in-Some c = record { fits = omega (arith, found_in _ _ c.requires.0 c.last_upto-i.ensures.1, c.requires) }
 
-pub overflow_add-result-in-Hit-2 : goal.overflow_add-result-in-Hit-2
-overflow_add-result-in-Hit-2 c =
-    let e = hit_few (drop (512 * c.last_upto-i.result) c.args.stts.now) _ _ (sym c.in-Hit.is ∙ rw c.after.ensures at c.look_up.ensures) in
+pub overflow_add-result-in-Some-2 : goal.overflow_add-result-in-Some-2
+overflow_add-result-in-Some-2 c =
+    let e = hit_few (drop (512 * c.last_upto-i.result) c.args.stts.now) _ _ (sym c.in-Some.is ∙ rw c.after.ensures at c.look_up.ensures) in
     record { fits = omega (arith, e.0, e.1, length-drop (512 * c.last_upto-i.result) c.args.stts.now, c.if-stts-gt4294967295.false) }
 
 pub returns-else-samples-passed-2 : goal.returns-else-samples-passed-2
 returns-else-samples-passed-2 c =
     let i = c.last_upto-i.result in
     let f = found_in i _ c.requires.0 c.last_upto-i.ensures.1 in
-    let e = hit_in c.args.stts.now i _ _ (sym c.in-Hit.is ∙ rw c.after.ensures at c.look_up.ensures) in
+    let e = hit_in c.args.stts.now i _ _ (sym c.in-Some.is ∙ rw c.after.ensures at c.look_up.ensures) in
     number_by _ _ _ _ _ _ _ (omega arith) (omega (arith, c.if-samples-passed-2.false, c.if-samples-passed.false)) (omega (arith, e.0)) (omega (arith, e.1))
-    (λ cs ts. from_found _ i _ _ _ (c.number_at-passed.ensures ∙ cs i f) (c.number_at-start.ensures ∙ ts i f) (not_above _ c.args.points.now _ i _ _ ts f c.last_upto-i.ensures.2 c.number_at-start.ensures) _ c.if-stts-gt4294967295.false _ (rw c.after.ensures at c.look_up.ensures) _ c.in-Hit.is c.if-samples-passed-2.false _ _ refl refl)
+    (λ cs ts. from_found _ i _ _ _ (c.number_at-passed.ensures ∙ cs i f) (c.number_at-start.ensures ∙ ts i f) (not_above _ c.args.points.now _ i _ _ ts f c.last_upto-i.ensures.2 c.number_at-start.ensures) _ c.if-stts-gt4294967295.false _ (rw c.after.ensures at c.look_up.ensures) _ c.in-Some.is c.if-samples-passed-2.false _ _ refl refl)
 
-pub returns-in-Outside : goal.returns-in-Outside
-returns-in-Outside c =
+pub returns-in-None : goal.returns-in-None
+returns-in-None c =
     let i = c.last_upto-i.result in
     let f = found_in i _ c.requires.0 c.last_upto-i.ensures.1 in
-    refused_from _ _ _ _ _ (λ cs ts. from_outside _ i _ _ _ (c.number_at-passed.ensures ∙ cs i f) (c.number_at-start.ensures ∙ ts i f) (not_above _ c.args.points.now _ i _ _ ts f c.last_upto-i.ensures.2 c.number_at-start.ensures) _ c.if-stts-gt4294967295.false _ (rw c.after.ensures at c.look_up.ensures) c.in-Outside.is)
+    refused_from _ _ _ _ _ (λ cs ts. from_outside _ i _ _ _ (c.number_at-passed.ensures ∙ cs i f) (c.number_at-start.ensures ∙ ts i f) (not_above _ c.args.points.now _ i _ _ ts f c.last_upto-i.ensures.2 c.number_at-start.ensures) _ c.if-stts-gt4294967295.false _ (rw c.after.ensures at c.look_up.ensures) c.in-None.is)

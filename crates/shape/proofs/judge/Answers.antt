@@ -1,7 +1,6 @@
 -- `shape::judge` meets its contract: the tests that led to a return say which rows do not hold, and the movie is judged where the file's rows give no number.
 -- Assumes nothing.
 use mathlib.Core.Path.{sym, ap, ◌∙◌}
-use native.Mathlib.Omega.{arith}
 use Rattle.std.proofs.lemmas.Bool.{not-true, not-false}
 use Rattle.structure.specs.Rows.{first, or_else}
 use Rattle.shape.specs.Refusals.{wrong_counts, file_rows}
@@ -13,12 +12,9 @@ use Rattle.shape.proofs.judge.Goals as goal
 pub is_too_long-requires : goal.is_too_long-requires
 is_too_long-requires c = tt
 
-pub refused-requires : goal.refused-requires
-refused-requires c = tt
-
 pub returns-then-is_too_long : goal.returns-then-is_too_long
 unfolding refusal_of or_else file_rows first
-returns-then-is_too_long c = judged_refused _ _ 1 _ c.refused.ensures (simp (← c.is_too_long.ensures, c.if-is_too_long.true)) (λ z. omega arith)
+returns-then-is_too_long c = judged_refused _ _ _ (simp (← c.is_too_long.ensures, c.if-is_too_long.true))
 
 pub check_tree-tree-requires : goal.check_tree-tree-requires
 check_tree-tree-requires c = tt
@@ -26,22 +22,15 @@ check_tree-tree-requires c = tt
 pub has_wrong_atoms-requires : goal.has_wrong_atoms-requires
 has_wrong_atoms-requires c = ap (λ x. x.filled) c.check_tree-tree.ensures
 
-pub refused-requires-then-has_wrong_atoms : goal.refused-requires-then-has_wrong_atoms
-refused-requires-then-has_wrong_atoms c = tt
-
 pub returns-then-has_wrong_atoms : goal.returns-then-has_wrong_atoms
 unfolding refusal_of or_else file_rows first
-returns-then-has_wrong_atoms c = judged_refused _ _ 2 _ c.refused-then-has_wrong_atoms.ensures (simp (← c.is_too_long.ensures, c.if-is_too_long.false, ← c.has_wrong_atoms.ensures, c.if-has_wrong_atoms.true)) (λ z. omega arith)
-
-pub refused-requires-then-not-tree : goal.refused-requires-then-not-tree
-refused-requires-then-not-tree c = tt
+returns-then-has_wrong_atoms c = judged_refused _ _ _ (simp (← c.is_too_long.ensures, c.if-is_too_long.false, ← c.has_wrong_atoms.ensures, c.if-has_wrong_atoms.true))
 
 pub returns-then-not-tree : goal.returns-then-not-tree
 unfolding refusal_of or_else file_rows first wrong_counts
 returns-then-not-tree c =
-    judged_refused _ _ 3 _ c.refused-then-not-tree.ensures
+    judged_refused _ _ _
     (simp (← c.is_too_long.ensures, c.if-is_too_long.false, ← c.has_wrong_atoms.ensures, c.if-has_wrong_atoms.false, sym (ap (λ x. x.present) c.check_tree-tree.ensures) ∙ not-true _ c.if-not-tree.true))
-    (λ z. omega arith)
 
 pub moov_part-requires : goal.moov_part-requires
 moov_part-requires c = tt
@@ -58,6 +47,5 @@ returns c =
     let j = c.judge_movie.ensures in
     record {
       refusal = simp (← c.is_too_long.ensures, c.if-is_too_long.false, ← c.has_wrong_atoms.ensures, c.if-has_wrong_atoms.false, sym (ap (λ x. x.present) c.check_tree-tree.ensures) ∙ not-false _ c.if-not-tree.false, ← m) j.refusal;
-      movie = λ z. rw m at (j.movie z);
-      none = j.none;
+      movie = λ x q. rw m at (j.movie x q);
     }

@@ -1,6 +1,8 @@
 -- `shape::judge_movie` meets its contract: the earlier of the movie's own refusal and of its tracks'.
 -- Assumes nothing.
-use mathlib.Core.Path.{refl, sym, ◌∙◌}
+use mathlib.Core.Path.{sym, ap, ◌∙◌}
+use Rattle.refusals.specs.Refusals.{code}
+use Rattle.refusals.proofs.Numbers.{passed, ok_one}
 use Rattle.shape.proofs.Walking.{over_16, judged_by}
 use Rattle.shape.proofs.judge_movie.Goals as goal
 
@@ -19,22 +21,18 @@ part_of-requires-2 c = tt
 pub own_refusal-own-requires : goal.own_refusal-own-requires
 own_refusal-own-requires c = rw c.part_of.ensures (c.requires.0, c.requires.1, c.part_of-2.ensures ∙ c.movie_heads-heads.ensures.profile, over_16 _ _ _ c.walk_traks-walked.ensures.traks)
 
-pub earlier_of-refusal-requires : goal.earlier_of-refusal-requires
-earlier_of-refusal-requires c = tt
+pub earlier_of-requires : goal.earlier_of-requires
+earlier_of-requires c = tt
 
-pub refused-requires : goal.refused-requires
-refused-requires c = tt
-
-pub returns-then-refusal-ne0 : goal.returns-then-refusal-ne0
-returns-then-refusal-ne0 c =
-    let r = judged_by _ _ _ _ _ _ c.part_of.ensures c.own_refusal-own.ensures c.walk_traks-walked.ensures.refusal c.earlier_of-refusal.ensures in
-    rw c.refused.ensures (record { refusal = r; movie = λ z. absurd (c.if-refusal-ne0.true z); none = λ z. refl })
+pub returns-in_err-earlier_of : goal.returns-in_err-earlier_of
+returns-in_err-earlier_of c =
+    let r = judged_by _ _ _ _ _ _ c.part_of.ensures c.own_refusal-own.ensures c.walk_traks-walked.ensures.refusal c.earlier_of.ensures in
+    rw (passed _ _ c.from_residual.ensures.1) (record { refusal = sym (ap code (c.in_err-earlier_of.was)) ∙ r; movie = λ x q. absurd (cc) })
 
 pub returns : goal.returns
 returns c =
-    let r = judged_by _ _ _ _ _ _ c.part_of.ensures c.own_refusal-own.ensures c.walk_traks-walked.ensures.refusal c.earlier_of-refusal.ensures in
+    let r = judged_by _ _ _ _ _ _ c.part_of.ensures c.own_refusal-own.ensures c.walk_traks-walked.ensures.refusal c.earlier_of.ensures in
     record {
-      refusal = sym c.if-refusal-ne0.false ∙ r;
-      movie = λ z. record { heads = c.movie_heads-heads.ensures; traks = c.walk_traks-walked.ensures.traks };
-      none = λ z. absurd (z refl);
+      refusal = sym (ap code (c.in_ok-earlier_of.was)) ∙ r;
+      movie = λ x q. rw (← ok_one q) (record { heads = c.movie_heads-heads.ensures; traks = c.walk_traks-walked.ensures.traks });
     }

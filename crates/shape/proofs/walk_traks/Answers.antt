@@ -1,10 +1,11 @@
 -- `shape::walk_traks` meets its contract: the rest of the body stands at the place, and its tracks are still to be judged.
 -- Assumes nothing.
-use mathlib.Core.Path.{sym, ap, ◌∙◌}
+use mathlib.Core.Path.{refl, sym, ap, ◌∙◌}
 use native.Mathlib.Omega.{arith}
 use lib.ListN.{length-drop}
 use Rattle.bigendian.proofs.Parts.{rest}
 use Rattle.atoms.specs.Atoms.{body_of}
+use Rattle.refusals.specs.Refusals.{code}
 use Rattle.places.specs.Places.{part_in}
 use Rattle.places.proofs.Parts.{part_at, at_front, at_next}
 use Rattle.shape.proofs.Walking.{walk_start, walk_end, walk_next, walk_here}
@@ -24,7 +25,7 @@ pub size_in-n-requires : goal.size_in-n-requires
 size_in-n-requires c = tt
 
 pub returns-then-n-lt8 : goal.returns-then-n-lt8
-returns-then-n-lt8 c = rw (← c.part_of-body.ensures) (walk_end _ _ _ _ _ c.size_in-n.ensures.value _ _ c.loop-t.invariant.1 c.if-n-lt8.true)
+returns-then-n-lt8 c = rw (← c.part_of-body.ensures) (walk_end _ _ _ _ _ c.size_in-n.ensures.value _ _ c.loop-t.invariant.1 _ refl refl c.if-n-lt8.true)
 
 pub u32_at-requires : goal.u32_at-requires
 u32_at-requires c = tt
@@ -72,8 +73,8 @@ loop-t-preserved c =
       elim c.if-u32_at-eq-TRAK.branch [
         | then-u32_at-eq-TRAK w ↦
             let k = w.part_of.ensures ∙ w.trak_of-trak.ensures.body in
-            walk_here _ _ _ t n e l.refusal l.traks l.invariant.1 h _ _ _ _ _ (sym u ∙ w.if-u32_at-eq-TRAK.true) (k ∙ w.body_part.ensures ∙ ap body_of f) (rw k w.trak_of-trak.ensures) w.track_refusal.ensures
-            (w.refusal-is ∙ w.earlier_of-refusal.ensures) (w.traks-is ∙ w.with_trak-traks.ensures)
-        | else-u32_at-eq-TRAK w ↦ walk_next _ _ _ t n e l.refusal l.traks l.invariant.1 h _ _ (λ q. w.if-u32_at-eq-TRAK.false (u ∙ q)) w.refusal-is w.traks-is
+            walk_here _ _ _ t n e (code l.refusal) l.traks l.invariant.1 h _ _ _ _ _ (sym u ∙ w.if-u32_at-eq-TRAK.true) (k ∙ w.body_part.ensures ∙ ap body_of f) (rw k w.trak_of-trak.ensures) w.track_refusal.ensures
+            (ap code w.refusal-is ∙ w.earlier_of-refusal.ensures) (w.traks-is ∙ w.with_trak-traks.ensures)
+        | else-u32_at-eq-TRAK w ↦ walk_next _ _ _ t n e (code l.refusal) l.traks l.invariant.1 h _ _ (λ q. w.if-u32_at-eq-TRAK.false (u ∙ q)) (ap code w.refusal-is) w.traks-is
       ],
     )

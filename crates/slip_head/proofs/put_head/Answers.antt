@@ -1,48 +1,54 @@
 -- `slip_head::put_head` meets its contract: six numbers put one after the other, each where the last one ended, are put at once.
 -- Assumes nothing.
-use mathlib.Core.Path.{◌≡◌, ap, sym, ◌∙◌}
-use mathlib.Core.Bool.{Bool}
-use mathlib.Core.List.{List, [], ◌∷◌}
-use Prim.Native.Nat.{ℕ, ◌≤◌}
-use native.Mathlib.Omega.{arith}
-use lib.ListN.{length}
+use Rattle.std.proofs.Common.{◌≡◌, ℕ, suc, ◌+◌, ◌≤◌, ◌<◌, List, [], ◌∷◌, ◌++◌, length, get_or, take, drop, ap, sym, ◌∙◌, add-one, arith, drop-cons}
+use Rattle.std.proofs.Math.Seq.{take-suc}
+use Rattle.std.proofs.lemmas.List.{take-append-drop}
+use Rattle.std.specs.Prelude.{Bool, Some}
 use Rattle.leb128.specs.Numbers.{groups, writes}
-use Rattle.leb128.specs.Writing.{put_at, past_put}
+use lib.Seq.{sets}
+use Rattle.leb128.proofs.Puts.{Put, put_start, put_length, store_fits, store_next, put_all, put_not}
 use Rattle.slip_head.specs.Bytes.{form_for, head_numbers}
 use Rattle.slip_head.specs.declared.Head.{Head}
-use Rattle.leb128.proofs.Puts.{Put, put_start, put_next, put_length, put_all, put_not}
 use Rattle.slip_head.proofs.put_head.Goals as goal
 
--- the six numbers put, each in the bytes that the one before it left
-module _ (out : List ℕ) (h : Head) (wide : Bool) (form : ℕ) (is : form ≡ form_for wide) (room : length (writes (head_numbers (form_for wide) h [])) ≤ length out) where
-  six_put : (r₁ r₂ r₃ r₄ r₅ r₆ : ℕ) (o₁ o₂ o₃ o₄ o₅ o₆ : List ℕ)
-      → (r₁ ≡ past_put out 0 (groups form)) × (o₁ ≡ put_at out 0 (groups form))
-      → (r₂ ≡ past_put o₁ r₁ (groups h.id)) × (o₂ ≡ put_at o₁ r₁ (groups h.id))
-      → (r₃ ≡ past_put o₂ r₂ (groups h.scale)) × (o₃ ≡ put_at o₂ r₂ (groups h.scale))
-      → (r₄ ≡ past_put o₃ r₃ (groups h.a)) × (o₄ ≡ put_at o₃ r₃ (groups h.a))
-      → (r₅ ≡ past_put o₄ r₄ (groups h.b)) × (o₅ ≡ put_at o₄ r₄ (groups h.b))
-      → (r₆ ≡ past_put o₅ r₅ (groups h.pairs)) × (o₆ ≡ put_at o₅ r₅ (groups h.pairs))
-      → Put out (head_numbers (form_for wide) h []) r₆ o₆
-  six_put r₁ r₂ r₃ r₄ r₅ r₆ o₁ o₂ o₃ o₄ o₅ o₆ e₁ e₂ e₃ e₄ e₅ e₆ =
-      let f = form_for wide in
-      let p₁ = put_next out [] f (h.id ∷ h.scale ∷ h.a ∷ h.b ∷ h.pairs ∷ []) room _ _ (put_start out) _ _ (e₁.0 ∙ ap (λ (n : ℕ). past_put out 0 (groups n)) is) (e₁.1 ∙ ap (λ (n : ℕ). put_at out 0 (groups n)) is) in
-      let p₂ = put_next out (f ∷ []) h.id (h.scale ∷ h.a ∷ h.b ∷ h.pairs ∷ []) room _ _ p₁ _ _ e₂.0 e₂.1 in
-      let p₃ = put_next out (f ∷ h.id ∷ []) h.scale (h.a ∷ h.b ∷ h.pairs ∷ []) room _ _ p₂ _ _ e₃.0 e₃.1 in
-      let p₄ = put_next out (f ∷ h.id ∷ h.scale ∷ []) h.a (h.b ∷ h.pairs ∷ []) room _ _ p₃ _ _ e₄.0 e₄.1 in
-      let p₅ = put_next out (f ∷ h.id ∷ h.scale ∷ h.a ∷ []) h.b (h.pairs ∷ []) room _ _ p₄ _ _ e₅.0 e₅.1 in
-      put_next out (f ∷ h.id ∷ h.scale ∷ h.a ∷ h.b ∷ []) h.pairs [] room _ _ p₅ _ _ e₆.0 e₆.1
+abbrev numbers : ℕ → Head → List ℕ
+numbers form h = head_numbers form h []
+
+-- one number of the six more
+module _ (out : List ℕ) (ns : List ℕ) (i : ℕ) (h : i < length ns) (at : ℕ) (now : List ℕ) (put : Put out (take i ns) at now) where
+  whole : take i ns ++ (get_or ns i 0 ∷ drop (suc i) ns) ≡ ns
+  whole = ap (λ (l : List ℕ). take i ns ++ l) (sym (drop-cons ns i 0 h)) ∙ take-append-drop i ns
+
+  fits : length (writes ns) ≤ length out → at + length (groups (get_or ns i 0)) ≤ length now
+  fits room = store_fits out (take i ns) (get_or ns i 0) (drop (suc i) ns) (rw whole room) at now put
+
+  next : (r : ℕ) (last : List ℕ) → (r ≡ at + length (groups (get_or ns i 0))) × (last ≡ sets now at (groups (get_or ns i 0))) → Put out (take (i + 1) ns) r last
+  next r last e = rw (add-one, take-suc ns i 0 h) (store_next out (take i ns) (get_or ns i 0) at now put r last e.0 e.1)
+
+-- the numbers fit, by their length
+roomy : (out : List ℕ) (h : Head) (wide : Bool) (form : ℕ) → form ≡ form_for wide → length (writes (numbers (form_for wide) h)) ≤ length out → length (writes (numbers form h)) ≤ length out
+roomy out h wide form e room = rw e room
 
 pub returns-then-out-head_len : goal.returns-then-out-head_len
-returns-then-out-head_len c = let a = c.args in let p = put_not a.out.now 0 (writes (head_numbers (form_for a.wide) a.head [])) (omega (arith, c.head_len.ensures a.wide)) in (sym p.0, sym p.1)
+returns-then-out-head_len c = let a = c.args in let p = put_not a.out.now 0 (writes (numbers (form_for a.wide) a.head)) (omega (arith, c.head_len.ensures a.wide)) in (sym p.0, sym p.1)
 
-pub shape_of-out : goal.shape_of-out
-shape_of-out c =
-    let room : length (writes (head_numbers (form_for c.args.wide) c.args.head [])) ≤ length c.args.out.now = omega (arith, c.head_len.ensures c.args.wide) in
-    put_length _ _ _ _
-    (six_put _ _ _ _ c.form.ensures room _ _ _ _ _ _ _ _ _ _ _ _ c.put_number-past_form.ensures c.put_number-id.ensures c.put_number-scale.ensures c.put_number-a.ensures c.put_number-b.ensures c.put_number.ensures)
+pub loop-n-init : goal.loop-n-init
+loop-n-init c = put_start c.args.out.now
+
+pub store_number-at-requires : goal.store_number-at-requires
+store_number-at-requires c =
+    let a = c.args in
+    fits a.out.now (numbers c.form.result a.head) c.loop-n.n-index (omega arith) c.loop-n.at c.loop-n.out c.loop-n.invariant
+    (roomy a.out.now a.head a.wide c.form.result c.form.ensures (omega (arith, c.head_len.ensures a.wide)))
+
+pub loop-n-preserved : goal.loop-n-preserved
+loop-n-preserved c =
+    let a = c.args in
+    next a.out.now (numbers c.form.result a.head) c.loop-n.n-index (omega arith) c.loop-n.at c.loop-n.out c.loop-n.invariant _ _ c.store_number-at.ensures
 
 pub returns : goal.returns
 returns c =
-    let room : length (writes (head_numbers (form_for c.args.wide) c.args.head [])) ≤ length c.args.out.now = omega (arith, c.head_len.ensures c.args.wide) in
-    put_all _ _ _ _ room
-    (six_put _ _ _ _ c.form.ensures room _ _ _ _ _ _ _ _ _ _ _ _ c.put_number-past_form.ensures c.put_number-id.ensures c.put_number-scale.ensures c.put_number-a.ensures c.put_number-b.ensures c.put_number.ensures)
+    let a = c.args in
+    let e : c.loop-n.n-index ≡ 6 = omega arith in
+    let put = rw (e, c.form.ensures) at c.loop-n.invariant in
+    put_all _ _ _ _ (omega (arith, c.head_len.ensures a.wide)) put

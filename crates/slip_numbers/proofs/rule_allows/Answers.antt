@@ -1,35 +1,37 @@
--- `slip_numbers::rule_allows` meets its contract: at each `return` the tests that led there say which case of `allowed` holds.
+-- `slip_numbers::rule_allows` meets its contract: the arm says which case of `allowed` holds.
 -- Assumes nothing.
+use mathlib.Core.Path.{◌≡◌}
 use Prim.Native.Nat.{◌≤◌, ◌<◌}
 use native.Mathlib.Omega.{arith}
-use borrow.Author.Tests.{eq-eqb, ne_eqb, lt-ltb, le-ltb, le-leb, lt-leb}
+use native.Mathlib.Decide.{dec_lt}
+use borrow.Author.Tests.{ne_eqb, lt-ltb, le-ltb, le-leb, lt-leb}
 use Rattle.slip_numbers.specs.Rules.{allowed}
 use Rattle.slip_numbers.proofs.rule_allows.Goals as goal
 
-pub returns-then-i-ge6 : goal.returns-then-i-ge6
+pub returns-in-0-to-2 : goal.returns-in-0-to-2
 unfolding allowed
-returns-then-i-ge6 c = simp (le-leb _ _ c.if-i-ge6.true)
+returns-in-0-to-2 c =
+    let few : c.args.i < 3 = omega arith in
+    let l : c.args.i < 6 = omega arith in
+    simp (lt-leb _ _ l, lt-ltb _ _ few)
 
-pub returns-then-i-lt3 : goal.returns-then-i-lt3
+pub returns-in-4 : goal.returns-in-4
 unfolding allowed
-returns-then-i-lt3 c = simp (lt-leb _ _ c.if-i-ge6.false, lt-ltb _ _ c.if-i-lt3.true)
+returns-in-4 c = rw c.in-4.is
 
-pub returns-then-i-eq4 : goal.returns-then-i-eq4
+pub returns-then-n-gt0 : goal.returns-then-n-gt0
 unfolding allowed
-returns-then-i-eq4 c = simp (lt-leb _ _ c.if-i-ge6.false, le-ltb _ _ c.if-i-lt3.false, eq-eqb _ _ c.if-i-eq4.true)
+returns-then-n-gt0 c = rw (c.in-5.is, lt-ltb _ _ c.if-n-gt0.true)
 
-pub returns-then-n-eq0 : goal.returns-then-n-eq0
+pub returns-else-n-gt0 : goal.returns-else-n-gt0
 unfolding allowed
-returns-then-n-eq0 c =
-    let z : c.args.n ≤ 0 = omega arith in
-    simp (lt-leb _ _ c.if-i-ge6.false, le-ltb _ _ c.if-i-lt3.false, ne_eqb _ _ c.if-i-eq4.false, eq-eqb _ _ c.if-i-eq5.true, le-ltb _ _ z)
+returns-else-n-gt0 c = rw (c.in-5.is, le-ltb _ _ c.if-n-gt0.false)
 
-pub returns-then-i-eq5 : goal.returns-then-i-eq5
+pub returns-in_default : goal.returns-in_default
 unfolding allowed
-returns-then-i-eq5 c =
-    let z : 0 < c.args.n = omega arith in
-    simp (lt-leb _ _ c.if-i-ge6.false, le-ltb _ _ c.if-i-lt3.false, ne_eqb _ _ c.if-i-eq4.false, eq-eqb _ _ c.if-i-eq5.true, lt-ltb _ _ z)
-
-pub returns : goal.returns
-unfolding allowed
-returns c = simp (lt-leb _ _ c.if-i-ge6.false, le-ltb _ _ c.if-i-lt3.false, ne_eqb _ _ c.if-i-eq4.false, ne_eqb _ _ c.if-i-eq5.false)
+returns-in_default c = elim (dec_lt c.args.i 6) [
+  | yes l ↦
+      let m : 3 ≤ c.args.i = omega arith in
+      simp (lt-leb _ _ l, le-ltb _ _ m, ne_eqb c.args.i 4 (λ e. omega arith), ne_eqb c.args.i 5 (λ e. omega arith))
+  | no l ↦ let m : 6 ≤ c.args.i = omega arith in simp (le-leb _ _ m)
+]

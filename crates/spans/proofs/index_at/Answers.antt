@@ -5,10 +5,10 @@ use Rattle.spans.proofs.Spanning.{index_is, not_outside}
 use Rattle.spans.proofs.index_at.Goals as goal
 
 pub overflow_cast-result : goal.overflow_cast-result
-overflow_cast-result c = let h = (index_is _ _ _ c.sample_at.ensures _ c.in-At.is).0 in omega arith
+overflow_cast-result c = let h = (index_is _ _ _ c.sample_at.ensures _ c.in-Some.is).0 in omega arith
 
-pub returns-in-At : goal.returns-in-At
-returns-in-At c = (index_is _ _ _ c.sample_at.ensures _ c.in-At.is).0
+pub returns-in-Some : goal.returns-in-Some
+returns-in-Some c = (index_is _ _ _ c.sample_at.ensures _ c.in-Some.is).0
 
-pub returns-in-Outside : goal.returns-in-Outside
-returns-in-Outside c = absurd (not_outside _ _ _ c.sample_at.ensures c.requires.1 c.in-Outside.is)
+pub returns-in-None : goal.returns-in-None
+returns-in-None c = absurd (not_outside _ _ _ c.sample_at.ensures c.requires.1 c.in-None.is)

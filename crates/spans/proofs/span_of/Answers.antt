@@ -12,15 +12,15 @@ pub returns-then-stts-gt4294967295 : goal.returns-then-stts-gt4294967295
 returns-then-stts-gt4294967295 c = span_long _ _ _ _ c.if-end-first.false c.if-stts-gt4294967295.true
 
 pub returns-then-samples-last : goal.returns-then-samples-last
-returns-then-samples-last c = span_past _ _ _ _ c.if-end-first.false c.if-stts-gt4294967295.false _ c.sample_at.ensures _ c.in-At.is c.if-samples-last.true
+returns-then-samples-last c = span_past _ _ _ _ c.if-end-first.false c.if-stts-gt4294967295.false _ c.sample_at.ensures _ c.in-Some.is c.if-samples-last.true
 
 pub index_at-from-requires : goal.index_at-from-requires
 index_at-from-requires c =
-    let h = first_low _ _ _ _ c.sample_at.ensures _ c.in-At.is c.if-end-first.false (omega arith) in
+    let h = first_low _ _ _ _ c.sample_at.ensures _ c.in-Some.is c.if-end-first.false (omega arith) in
     (omega (arith, c.if-stts-gt4294967295.false), h.0, h.1)
 
 pub returns-else-samples-last : goal.returns-else-samples-last
-returns-else-samples-last c = span_found _ _ _ _ c.if-end-first.false c.if-stts-gt4294967295.false _ c.sample_at.ensures _ c.in-At.is c.if-samples-last.false _ _ c.index_at-from.ensures refl
+returns-else-samples-last c = span_found _ _ _ _ c.if-end-first.false c.if-stts-gt4294967295.false _ c.sample_at.ensures _ c.in-Some.is c.if-samples-last.false _ _ c.index_at-from.ensures refl
 
-pub returns-in-Outside : goal.returns-in-Outside
-returns-in-Outside c = span_outside _ _ _ _ c.if-end-first.false c.if-stts-gt4294967295.false _ c.sample_at.ensures c.in-Outside.is
+pub returns-in-None : goal.returns-in-None
+returns-in-None c = span_outside _ _ _ _ c.if-end-first.false c.if-stts-gt4294967295.false _ c.sample_at.ensures c.in-None.is

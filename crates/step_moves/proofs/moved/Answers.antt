@@ -7,7 +7,7 @@ use Rattle.bigendian.proofs.Halves.{kept}
 use Rattle.positions.proofs.Standing.{may_known}
 use Rattle.questions.proofs.Shift.{narrowed, passed_narrow}
 use Rattle.step_moves.proofs.Answers.{moved_to, sync_none, sync_some}
-use Rattle.step_moves.proofs.moved.Goals.{then-stss-eq0, else-stss-eq0}
+use Rattle.step_moves.proofs.moved.Goals.{then-is_empty, else-is_empty}
 use Rattle.step_moves.proofs.moved.Goals as goal
 
 pub overflow_cast-m : goal.overflow_cast-m
@@ -27,9 +27,9 @@ returns c =
     let m = c.args.m in
     let x = c.args.stss.now in
     let comp = kept c.shifted.result c.shifted.type_inv ∙ c.shifted.ensures ∙ ap (λ z. pos m.decode +ℤ z) (passed_narrow c.shift_of.result c.shift_of.ensures.1 ∙ c.shift_of.ensures.0) in
-    moved_to _ _ m c.requires.1 _ _ _ _ _ c.size_by-size.ensures c.sync_step-place.ensures comp
-    (elim c.if-stss-eq0.branch [
-      | then-stss-eq0 w ↦ w.sample-is ∙ sync_none x c.sync_step-place.result.listed w.if-stss-eq0.true
-      | else-stss-eq0 w ↦ w.sample-is ∙ sync_some x c.sync_step-place.result.listed w.if-stss-eq0.false
+    moved_to _ _ m _ _ _ _ _ c.size_by-size.ensures c.sync_step-place.ensures comp
+    (elim c.if-is_empty.branch [
+      | then-is_empty w ↦ w.sample-is ∙ sync_none x c.sync_step-place.result.listed _ c.is_empty.ensures w.if-is_empty.true
+      | else-is_empty w ↦ w.sample-is ∙ sync_some x c.sync_step-place.result.listed _ c.is_empty.ensures w.if-is_empty.false
     ])
-    c.pass_sample.ensures
+    c.pass_sample-past.ensures

@@ -1,6 +1,5 @@
 -- `steps_into::steps_into` meets its contract; the loop's invariant: the samples put so far are those of a chain of steps to the position.
 -- Assumes nothing.
-use Prim.Native.Nat.{◌-◌}
 use mathlib.Core.Path.{◌≡◌, refl, ◌∙◌}
 use mathlib.Core.Logic.{inl, inr}
 use native.Mathlib.Omega.{arith}
@@ -43,7 +42,7 @@ put_sample-requires c =
       offsets = c.part_of-offsets.ensures i;
       stss = c.part_of-stss.ensures i;
     }) c.args.from.samples c.loop-room.m) in
-    let low = (steps_next _ (at c.args.from c.loop-room.m) _ (stepped) _ _ c.in-To.is (omega arith)).elsewhere.low _ _ refl in
+    let low = (steps_next _ (at c.args.from c.loop-room.m) _ (stepped) _ c.in-Some.is (omega arith)).elsewhere.low _ _ refl in
     (low.0, low.1, low.2, omega (arith, c.loop-room-test.true, c.loop-room.invariant.within, c.loop-room.invariant.same))
 
 pub overflow_add-at : goal.overflow_add-at
@@ -64,7 +63,7 @@ loop-room-preserved c =
       stss = c.part_of-stss.ensures i;
     }) c.args.from.samples c.loop-room.m) in
     turn _ _ _ _ _ _ c.loop-room.invariant _ _ _
-    (steps_next _ (at c.args.from c.loop-room.m) _ (stepped) _ _ c.in-To.is (omega arith))
+    (steps_next _ (at c.args.from c.loop-room.m) _ (stepped) _ c.in-Some.is (omega arith))
     (omega (arith, c.loop-room-test.true, c.loop-room.invariant.within, c.loop-room.invariant.same))
     c.put_sample.ensures
 

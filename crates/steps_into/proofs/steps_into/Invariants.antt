@@ -2,7 +2,7 @@
 -- Assumes nothing.
 use Prim.Native.Nat.{◌-◌}
 use lib.ListN.{length}
-use Rattle.steps_into.proofs.Chained.{Putting, at}
+use Rattle.steps_into.proofs.Chained.{Putting}
 use Rattle.steps_into.proofs.steps_into.Given as goal
 
 abbrev pub invariant-loop-room : goal.invariant-loop-room

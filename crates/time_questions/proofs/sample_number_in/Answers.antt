@@ -12,7 +12,7 @@ pub look_up-requires : goal.look_up-requires
 look_up-requires c = omega (arith, c.if-stts-gt4294967295.false)
 
 pub returns-then-samples-hit : goal.returns-then-samples-hit
-returns-then-samples-hit c = number_past _ _ _ c.if-stts-gt4294967295.false _ c.look_up.ensures _ c.in-Hit.is c.if-samples-hit.true
+returns-then-samples-hit c = number_past _ _ _ c.if-stts-gt4294967295.false _ c.look_up.ensures _ c.in-Some.is c.if-samples-hit.true
 
 pub overflow_add-result : goal.overflow_add-result
 overflow_add-result c = record { fits = omega (arith, c.if-samples-hit.false, c.well_formed) }
@@ -21,7 +21,7 @@ pub overflow_cast-result : goal.overflow_cast-result
 overflow_cast-result c = omega (arith, c.if-samples-hit.false, c.well_formed)
 
 pub returns-else-samples-hit : goal.returns-else-samples-hit
-returns-else-samples-hit c = number_found _ _ _ c.if-stts-gt4294967295.false _ c.look_up.ensures _ c.in-Hit.is c.if-samples-hit.false _ refl
+returns-else-samples-hit c = number_found _ _ _ c.if-stts-gt4294967295.false _ c.look_up.ensures _ c.in-Some.is c.if-samples-hit.false _ refl
 
-pub returns-in-Outside : goal.returns-in-Outside
-returns-in-Outside c = number_outside _ _ _ c.if-stts-gt4294967295.false _ c.look_up.ensures c.in-Outside.is
+pub returns-in-None : goal.returns-in-None
+returns-in-None c = number_outside _ _ _ c.if-stts-gt4294967295.false _ c.look_up.ensures c.in-None.is

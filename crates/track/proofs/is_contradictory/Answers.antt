@@ -35,12 +35,6 @@ part_of-stsc-requires c = tt
 pub part_of-requires-4 : goal.part_of-requires-4
 part_of-requires-4 c = tt
 
-pub may_count-requires : goal.may_count-requires
-may_count-requires c = tt
-
-pub both-b-requires : goal.both-b-requires
-both-b-requires c = tt
-
 pub deals_samples-requires : goal.deals_samples-requires
 deals_samples-requires c = tt
 
@@ -62,5 +56,5 @@ returns c =
     let n = c.u32_at-samples.ensures ∙ ap (λ (l : List ℕ). u32_at l 16) (c.part_of.ensures ∙ h.stsz) in
     contradicts_by _ _ _ _ _ _ _ _ _ _ _ _ _ _ _ _ _ _
     (c.part_of.ensures ∙ h.stsz) c.u32_at-samples.ensures (c.part_of-2.ensures ∙ h.offsets) c.u32_at-chunks.ensures (c.part_of-3.ensures ∙ h.stsd) c.u32_at-descriptions.ensures
-    (c.part_of-stsc.ensures ∙ h.stsc) refl (c.requires.1 ∙ ap (λ k. counting k (runs_of (table_of stts c.args.trak.now))) (sym n)) (c.part_of-4.ensures ∙ h.ctts) c.may_count.ensures c.both-b.ensures
+    (c.part_of-stsc.ensures ∙ h.stsc) refl (sym (ap (λ k. counting k (runs_of (table_of stts c.args.trak.now))) n ∙ c.requires.1)) (c.part_of-4.ensures ∙ h.ctts) c.may_count-b.ensures refl
     c.deals_samples.ensures c.both-d.ensures (c.part_of-5.ensures ∙ h.stss) c.syncs_agree.ensures c.both.ensures

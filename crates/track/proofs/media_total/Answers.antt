@@ -7,8 +7,8 @@ use Rattle.track.proofs.media_total.Goals as goal
 pub part_of-requires : goal.part_of-requires
 part_of-requires c = tt
 
-pub returns-in-Sum : goal.returns-in-Sum
-returns-in-Sum c = sym (sum_is _ _ c.total_duration.ensures _ c.in-Sum.is) ∙ total_by _ _ (c.part_of.ensures ∙ c.requires.0.stts)
+pub returns-in-Some : goal.returns-in-Some
+returns-in-Some c = sym (sum_is _ _ c.total_duration.ensures _ c.in-Some.is) ∙ total_by _ _ (c.part_of.ensures ∙ c.requires.0.stts)
 
-pub returns-in-Over : goal.returns-in-Over
-returns-in-Over c = absurd (not_over _ _ c.total_duration.ensures c.in-Over.is (rw (total_by _ _ (c.part_of.ensures ∙ c.requires.0.stts)) c.requires.1))
+pub returns-in-None : goal.returns-in-None
+returns-in-None c = absurd (not_over _ _ c.total_duration.ensures c.in-None.is (rw (total_by _ _ (c.part_of.ensures ∙ c.requires.0.stts)) c.requires.1))

@@ -1,7 +1,7 @@
 -- `track_list::put_lines` meets its contract. The loop's invariant: the lines of the tracks from i on, put after those before them, are all that is put.
 -- Assumes nothing.
 use native.Mathlib.Omega.{arith}
-use Prim.Native.Nat.{◌+◌, ◌*◌, ◌-◌}
+use Prim.Native.Nat.{◌+◌, ◌*◌}
 use mathlib.Core.Path.{◌≡◌, refl, ap, ◌∙◌}
 use lib.ListN.{length, drop_of_length-le}
 use lib.Seq.{length-sets}

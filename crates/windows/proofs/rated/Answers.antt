@@ -3,8 +3,8 @@
 use Rattle.windows.proofs.Rating.{rated_some, rated_none}
 use Rattle.windows.proofs.rated.Goals as goal
 
-pub returns-in-Value : goal.returns-in-Value
-returns-in-Value c = rated_some _ _ _ _ _ _ c.rate.ensures _ c.requires.2 c.in-Value.is
+pub returns-in_err-rate : goal.returns-in_err-rate
+returns-in_err-rate c = rw c.from_residual.ensures (rated_none _ _ _ _ _ _ c.rate.ensures c.in_err-rate.was)
 
-pub returns-in-NotComputed : goal.returns-in-NotComputed
-returns-in-NotComputed c = rated_none _ _ _ _ _ _ c.rate.ensures c.in-NotComputed.is
+pub returns : goal.returns
+returns c = rated_some _ _ _ _ _ _ c.rate.ensures _ c.requires.2 c.in_ok-rate.was

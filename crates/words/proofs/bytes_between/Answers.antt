@@ -19,13 +19,13 @@ returns-then-each-eq0 c =
     )
 
 pub overflow_mul-result : goal.overflow_mul-result
-overflow_mul-result c = record { fits = wide_mul (omega (arith, c.span.type_inv)) c.u32_at-each.type_inv }
+overflow_mul-result c = record { fits = wide_mul (omega (arith, c.saturating_sub.type_inv)) c.u32_at-each.type_inv }
 
 pub returns : goal.returns
 returns c =
     let z = c.if-each-eq0.false in
     let n = c.u32_at.ensures in
     let a = c.args in (
-      common_sum _ c.u32_at-each.ensures z n a.from a.to c.smaller-end.ensures c.span.ensures,
-      common_few a.stsz.now c.u32_at-each.ensures z n a.from a.to c.smaller-end.ensures c.span.ensures c.u32_at-each.type_inv,
+      common_sum _ c.u32_at-each.ensures z n a.from a.to c.min-end.ensures c.saturating_sub.ensures,
+      common_few a.stsz.now c.u32_at-each.ensures z n a.from a.to c.min-end.ensures c.saturating_sub.ensures c.u32_at-each.type_inv,
     )

@@ -8,4 +8,4 @@ use Rattle.words.proofs.listed_between.Goals as goal
 pub returns : goal.returns
 returns c =
     let a = c.args in
-    (c.first_sum.ensures.0 ∙ listed_sum _ a.from a.to c.after.ensures c.span.ensures, omega (arith, c.first_sum.ensures.1, c.span.ensures))
+    (c.first_sum.ensures.0 ∙ listed_sum _ a.from a.to c.after.ensures c.saturating_sub.ensures, omega (arith, c.first_sum.ensures.1, c.saturating_sub.ensures))

@@ -1,6 +1,6 @@
 -- `movie::tracks::ids_repeat` meets its contract. The loop's invariant: what the rest says, with the IDs kept, is what the whole says.
 -- Assumes nothing.
-use Prim.Native.Nat.{◌-◌, ◌<◌}
+use Prim.Native.Nat.{◌<◌}
 use mathlib.Core.Path.{refl, sym, ◌∙◌}
 use native.Mathlib.Omega.{arith}
 use lib.ListN.{length, length-set}

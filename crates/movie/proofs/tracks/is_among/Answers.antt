@@ -1,7 +1,6 @@
 -- `movie::tracks::is_among` meets its contract. The loop's invariant: what those from i on say is what all say.
 -- Assumes nothing.
 use native.Mathlib.Omega.{arith}
-use Prim.Native.Nat.{◌-◌}
 use mathlib.Core.Path.{refl, sym, ◌∙◌}
 use Rattle.movie.proofs.Repeats.{listed_here, listed_on, listed_past}
 use Rattle.movie.proofs.tracks.is_among.Goals as goal

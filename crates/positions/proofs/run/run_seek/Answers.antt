@@ -1,6 +1,5 @@
 -- `positions::run::run_seek` meets its contract: the cursor sought is the same from the cursor and the samples still to pass.
 -- Assumes nothing.
-use Prim.Native.Nat.{◌-◌}
 use mathlib.Core.Path.{sym, ap, ◌∙◌}
 use native.Mathlib.Omega.{arith}
 use lib.ListN.{length, length-drop}

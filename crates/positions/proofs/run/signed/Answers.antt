@@ -1,21 +1,10 @@
--- `positions::run::signed` meets its contract, by the half in which the bits lie.
+-- `positions::run::signed` meets its contract: 32 bits as a signed number, kept in 64.
 -- Assumes nothing.
-use Prim.Native.Nat.{◌-◌}
-use mathlib.Core.Path.{sym}
-use native.Mathlib.Omega.{arith}
-use lib.IntN.{negsuc}
-use mir.Syntax.{w64}
-use mir.ValLaws.{to_z_pos}
-use Rattle.bigendian.proofs.Halves.{signed_low, signed_high, lowered, kept}
+use mathlib.Core.Path.{◌≡◌, ◌∙◌}
+use Rattle.bigendian.proofs.Halves.{as_signed, kept, kept32}
 use Rattle.positions.proofs.run.signed.Goals as goal
 
-pub overflow_sub-result : goal.overflow_sub-result
-overflow_sub-result c = rw (lowered c.args.n c.ranges.n.fits) (record { sfits = omega arith })
-
-pub returns-then-n-lt2147483648 : goal.returns-then-n-lt2147483648
-returns-then-n-lt2147483648 c = rw (to_z_pos w64 c.args.n (omega arith)) (sym (signed_low _ c.if-n-lt2147483648.true), omega arith)
-
-pub returns-else-n-lt2147483648 : goal.returns-else-n-lt2147483648
-returns-else-n-lt2147483648 c =
-    let n = c.args.n in
-    rw (lowered n c.ranges.n.fits, kept (negsuc (4294967295 - n)) (omega arith)) (sym (signed_high n c.if-n-lt2147483648.false), omega arith)
+pub returns : goal.returns
+returns c =
+    let e : c.from.result ≡ c.cast_signed.result = c.from.ensures ∙ kept32 c.cast_signed.result c.cast_signed.type_inv in
+    rw (kept c.from.result c.from.type_inv, e) (c.cast_signed.ensures ∙ as_signed c.args.n c.ranges.n.fits, c.cast_signed.type_inv)

@@ -1,6 +1,5 @@
 -- `positions::sync::sync_seek` meets its contract: the numbers not above the index are those passed and those still to pass.
 -- Assumes nothing.
-use Prim.Native.Nat.{◌-◌}
 use mathlib.Core.Path.{ap}
 use native.Mathlib.Omega.{arith}
 use lib.ListN.{length, length-drop}

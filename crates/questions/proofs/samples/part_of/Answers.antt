@@ -1,7 +1,7 @@
 -- `questions::samples::part_of` meets its contract.
 -- Assumes nothing.
 use Prim.Native.Nat.{◌+◌, ◌-◌}
-use mathlib.Core.Path.{◌≡◌, refl, ◌∙◌}
+use mathlib.Core.Path.{◌≡◌, refl}
 use native.Mathlib.Omega.{arith}
 use Rattle.std.proofs.lemmas.List.{length-drop, length-take-le}
 use Rattle.questions.proofs.samples.part_of.Goals as goal

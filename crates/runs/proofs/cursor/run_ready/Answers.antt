@@ -1,6 +1,5 @@
 -- `runs::cursor::run_ready` meets its contract: a cursor past an entry of no samples is readied to the same one.
 -- Assumes nothing.
-use Prim.Native.Nat.{◌-◌}
 use mathlib.Core.Path.{refl, sym, ap, ◌∙◌}
 use native.Mathlib.Omega.{arith}
 use lib.ListN.{length, length-drop}

@@ -13,16 +13,13 @@ loop-at-init c =
     let z : a.from - a.from ≡ 0 = omega arith in
     (omega arith, omega (arith, c.requires), rw z (sym (ends_none _ _)), omega arith, λ x h l. absurd (omega arith))
 
-pub few_ends-few-requires : goal.few_ends-few-requires
-few_ends-few-requires c = (omega (arith, c.requires), omega arith, omega arith)
-
-pub returns-then-few : goal.returns-then-few
-returns-then-few c = λ h. absurd (omega arith)
+pub few_ends-requires : goal.few_ends-requires
+few_ends-requires c = (omega (arith, c.requires), omega arith, omega arith)
 
 pub overflow_add-ends : goal.overflow_add-ends
 overflow_add-ends c =
     let a = c.args in
-    omega (arith, ends_most a.bytes.now c.loop-at.at 192, (c.few_ends-few.ensures (omega arith)).0)
+    omega (arith, ends_most a.bytes.now c.loop-at.at 192, c.in_ok-few.ensures.0)
 
 pub overflow_add-at : goal.overflow_add-at
 overflow_add-at c = omega arith
@@ -30,7 +27,7 @@ overflow_add-at c = omega arith
 pub loop-at-preserved : goal.loop-at-preserved
 loop-at-preserved c =
     let a = c.args in
-    let e = c.few_ends-few.ensures (omega arith) in
+    let e = c.in_ok-few.ensures in
     let j = ends_join a.bytes.now a.from c.loop-at.at 192 c.loop-at.invariant.0 in (
       omega arith,
       omega arith,
@@ -39,22 +36,19 @@ loop-at-preserved c =
       fine_join a.bytes.now a.from c.loop-at.at (c.loop-at.at + 192) c.loop-at.invariant.4 e.1,
     )
 
-pub few_ends-few-requires-2 : goal.few_ends-few-requires-2
-few_ends-few-requires-2 c = (omega (arith, c.requires), omega arith, omega arith)
-
-pub returns-then-few-2 : goal.returns-then-few-2
-returns-then-few-2 c = λ h. absurd (omega arith)
+pub few_ends-requires-2 : goal.few_ends-requires-2
+few_ends-requires-2 c = (omega (arith, c.requires), omega arith, omega arith)
 
 pub overflow_add-result : goal.overflow_add-result
 overflow_add-result c =
     let a = c.args in
-    omega (arith, ends_most a.bytes.now c.loop-at.at (length a.bytes.now - c.loop-at.at), (c.few_ends-few-2.ensures (omega arith)).0)
+    omega (arith, ends_most a.bytes.now c.loop-at.at (length a.bytes.now - c.loop-at.at), c.in_ok-few-2.ensures.0)
 
 pub returns : goal.returns
 returns c =
     let a = c.args in
-    let e = c.few_ends-few-2.ensures (omega arith) in
+    let e = c.in_ok-few-2.ensures in
     let n = length a.bytes.now - c.loop-at.at in
     let p : c.loop-at.at + n ≡ length a.bytes.now = omega arith in
     let j = rw p at (ends_join a.bytes.now a.from c.loop-at.at n c.loop-at.invariant.0) in
-    λ h. (omega (arith, j, e.0, c.loop-at.invariant.2), fine_join a.bytes.now a.from c.loop-at.at (length a.bytes.now) c.loop-at.invariant.4 (rw p at e.1))
+    (omega (arith, j, e.0, c.loop-at.invariant.2), fine_join a.bytes.now a.from c.loop-at.at (length a.bytes.now) c.loop-at.invariant.4 (rw p at e.1))

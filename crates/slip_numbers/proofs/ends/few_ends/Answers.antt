@@ -7,42 +7,35 @@ use lib.ListN.{get_or}
 use Rattle.slip_numbers.proofs.Ended.{end_one, ends_none, ends_more, fine_more}
 use Rattle.slip_numbers.proofs.ends.few_ends.Goals as goal
 
-pub loop-i-init : goal.loop-i-init
-loop-i-init c = (omega arith, sym (ends_none _ _), omega arith, omega arith, λ z x h l. absurd (omega arith))
+pub loop-at-init : goal.loop-at-init
+loop-at-init c =
+    let z : c.args.from - c.args.from ≡ 0 = omega arith in
+    (rw z (sym (ends_none _ _)), omega arith, omega arith, λ e x h l. absurd (omega arith))
 
 pub overflow_add-ends : goal.overflow_add-ends
 overflow_add-ends c =
-    let a = c.args in
-    omega (arith, end_one (get_or a.bytes.now (a.from + c.loop-i.i) 0), c.end_of-ends.ensures, c.requires)
+    omega (arith, end_one (get_or c.args.bytes.now c.loop-at.at 0), c.end_of-ends.ensures, c.requires)
 
 pub overflow_add-faults : goal.overflow_add-faults
 overflow_add-faults c = omega (arith, c.fault-faults.ensures.0, c.requires)
 
-pub overflow_add-i : goal.overflow_add-i
-overflow_add-i c = omega arith
-
-pub loop-i-smaller : goal.loop-i-smaller
-loop-i-smaller c = omega arith
-
-pub loop-i-preserved : goal.loop-i-preserved
-loop-i-preserved c =
-    let l = c.loop-i in
+pub loop-at-preserved : goal.loop-at-preserved
+loop-at-preserved c =
+    let l = c.loop-at in
     let a = c.args in
-    let e = ends_more a.bytes.now a.from l.i in
-    let p : a.from + (l.i + 1) ≡ a.from + l.i + 1 = omega arith in (
-      omega arith,
-      omega (arith, e, c.end_of-ends.ensures, l.invariant.1),
-      omega (arith, end_one (get_or a.bytes.now (a.from + l.i) 0), c.end_of-ends.ensures),
+    let p : a.from + (l.at - a.from) ≡ l.at = omega arith in
+    let s : l.at + 1 - a.from ≡ l.at - a.from + 1 = omega arith in
+    let e = rw p at (ends_more a.bytes.now a.from (l.at - a.from)) in (
+      rw s (omega (arith, e, c.end_of-ends.ensures, l.invariant.0)),
+      omega (arith, end_one (get_or a.bytes.now l.at 0), c.end_of-ends.ensures),
       omega (arith, c.fault-faults.ensures.0),
-      λ z. rw p (fine_more a.bytes.now a.from (a.from + l.i) (l.invariant.4 (omega arith)) (c.fault-faults.ensures.1 (omega arith))),
+      λ z. fine_more a.bytes.now a.from l.at (l.invariant.3 (omega arith)) (c.fault-faults.ensures.1 (omega arith)),
     )
 
 pub returns-then-faults-eq0 : goal.returns-then-faults-eq0
 returns-then-faults-eq0 c =
-    let l = c.loop-i in
+    let l = c.loop-at in
     let a = c.args in
-    let e : l.i ≡ a.n = omega arith in
-    λ h. (rw e at l.invariant.1, rw e at (l.invariant.4 c.if-faults-eq0.true))
-
-pub returns-else-faults-eq0 : goal.returns-else-faults-eq0
-returns-else-faults-eq0 c = λ h. absurd (omega arith)
+    let e : l.at ≡ a.from + a.n = omega arith in
+    let z : l.at - a.from ≡ a.n = omega arith in
+    (rw z at l.invariant.0, rw e at (l.invariant.3 c.if-faults-eq0.true))

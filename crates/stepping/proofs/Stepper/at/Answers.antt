@@ -1,25 +1,18 @@
 -- `stepping::Stepper::at` meets its contract: refused as any question of the track is, or the start by the track's tables.
 -- Assumes nothing.
+use Rattle.refusals.proofs.Numbers.{passed}
+use Rattle.movie.proofs.Refused.{code_err, code_ok}
 use Rattle.stepping.proofs.Started.{start_asked, start-said}
 use Rattle.stepping.proofs.Stepper.at.Goals as goal
 
-pub of-ask-requires : goal.of-ask-requires
-of-ask-requires c = tt
-
-pub returns-then-ask-ne0 : goal.returns-then-ask-ne0
-returns-then-ask-ne0 c = start_asked _ _ _ _ _ c.of-ask.ensures.refusal c.if-ask-ne0.true
+pub returns-in_err-asked : goal.returns-in_err-asked
+returns-in_err-asked c = rw (passed c.from_residual.result _ c.from_residual.ensures.1) (start_asked _ _ _ _ _ (code_err _ _ _ c.of.ensures.refusal c.in_err-asked.was))
 
 pub tables_in-tables-requires : goal.tables_in-tables-requires
-tables_in-tables-requires c = let k = c.of-ask.ensures.trak c.if-ask-ne0.false in rw k.body k.parts
-
-pub part_of-requires : goal.part_of-requires
-part_of-requires c = tt
-
-pub u32_at-requires : goal.u32_at-requires
-u32_at-requires c = tt
-
-pub start_in-requires : goal.start_in-requires
-start_in-requires c = tt
+tables_in-tables-requires c = let k = c.of.ensures.trak _ c.in_ok-asked.was in rw k.body k.parts
 
 pub returns : goal.returns
-returns c = start-said _ _ _ _ _ _ _ _ _ _ c.of-ask.ensures.refusal c.if-ask-ne0.false (c.of-ask.ensures.trak c.if-ask-ne0.false).body c.tables_in-tables.ensures c.part_of.ensures c.u32_at.ensures c.start_in.ensures
+returns c =
+    let o = c.of.ensures in
+    let q = c.in_ok-asked.was in
+    start-said _ _ _ _ _ _ _ _ _ (code_ok _ _ _ o.refusal q) (o.trak _ q).body c.tables_in-tables.ensures c.part_of.ensures c.u32_at.ensures c.start_in.ensures

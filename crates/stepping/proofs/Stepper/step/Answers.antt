@@ -28,14 +28,14 @@ part_of-requires-3 c = tt
 pub part_of-requires-4 : goal.part_of-requires-4
 part_of-requires-4 c = tt
 
-pub returns-in-To : goal.returns-in-To
-returns-in-To c =
+pub returns-in-Some : goal.returns-in-Some
+returns-in-Some c =
     let stepped : let a = c.args in c.step_in-r.result ≡ stepped_on (bytes_in a.lent.now a.self.tables) a.self.samples a.self.moving = let a = c.args in
     stepped_parts _ a.self _ _ _ _ _ _ _ c.part_of.ensures c.part_of-2.ensures c.part_of-3.ensures c.part_of-z.ensures c.part_of-o.ensures c.part_of-4.ensures c.step_in-r.ensures in
-    steps_next _ c.args.self _ (stepped) _ _ c.in-To.is (omega arith)
+    steps_next _ c.args.self _ (stepped) _ c.in-Some.is (omega arith)
 
-pub returns-in-End : goal.returns-in-End
-returns-in-End c =
+pub returns-in-None : goal.returns-in-None
+returns-in-None c =
     let stepped : let a = c.args in c.step_in-r.result ≡ stepped_on (bytes_in a.lent.now a.self.tables) a.self.samples a.self.moving = let a = c.args in
     stepped_parts _ a.self _ _ _ _ _ _ _ c.part_of.ensures c.part_of-2.ensures c.part_of-3.ensures c.part_of-z.ensures c.part_of-o.ensures c.part_of-4.ensures c.step_in-r.ensures in
-    steps_end _ c.args.self _ (stepped) c.in-End.is
+    steps_end _ c.args.self _ (stepped) c.in-None.is

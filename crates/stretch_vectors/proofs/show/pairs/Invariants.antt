@@ -3,8 +3,8 @@
 use Rattle.std.proofs.Common.{length}
 use Rattle.stretch_vectors.proofs.show.pairs.Given as goal
 
-abbrev pub invariant-loop-t : goal.invariant-loop-t
-invariant-loop-t g l = Unit {0}
+abbrev pub invariant-loop-rest : goal.invariant-loop-rest
+invariant-loop-rest g l = Unit {0}
 
-abbrev pub decreases-loop-t : goal.decreases-loop-t
-decreases-loop-t g l = length l.t
+abbrev pub decreases-loop-rest : goal.decreases-loop-rest
+decreases-loop-rest g l = length l.rest

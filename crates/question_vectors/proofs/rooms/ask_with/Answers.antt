@@ -1,7 +1,0 @@
--- `question_vectors::rooms::ask_with` is safe and ends: the part lent is as long as asked.
--- Assumes nothing.
-use Rattle.std.proofs.Common.{sym, arith, length-take-le}
-use Rattle.question_vectors.proofs.rooms.ask_with.Goals as goal
-
-pub slice_bounds-ask-end : goal.slice_bounds-ask-end
-slice_bounds-ask-end g c = sym (length-take-le _ _ (omega arith))

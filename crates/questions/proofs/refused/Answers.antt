@@ -1,6 +1,0 @@
--- `questions::refused` meets its contract: all parts are empty.
--- Assumes nothing.
-use Rattle.questions.proofs.refused.Goals as goal
-
-pub returns : goal.returns
-returns c = rw c.no_trak-trak.ensures

@@ -1,8 +1,0 @@
--- `table_numbers::number_at` meets its contract: past its end the list gives 0.
--- Assumes nothing.
-use mathlib.Core.Path.{sym}
-use lib.ListN.{get_or-eq_default}
-use Rattle.table_numbers.proofs.number_at.Goals as goal
-
-pub returns-else-i-numbers : goal.returns-else-i-numbers
-returns-else-i-numbers c = sym (get_or-eq_default c.args.numbers.now 0 c.if-i-numbers.false)
