@@ -28,9 +28,10 @@ pub fn put_bytes(from: &[u8], out: &mut [u8], at: usize) -> usize
     requires { Fits from.now out.old at }
     ensures { Wrote from.now out.old at result out.new }
 {
-    let end = at + from.len();
-    out[at..end].copy_from_slice(from);
-    end
+    for (i, byte) in from.iter().enumerate() {
+        out[at + i] = *byte;
+    }
+    at + from.len()
 }
 
 // Writes n zeros and returns the offset past them.

@@ -51,7 +51,8 @@ fn total_of(list: &[u32], id: u32) -> u32 {
     0
 }
 
-// The bytes that show the whole of a track.
+// The bytes that show the whole of a track. Not inlined, so that its room is off the stack before the filing begins, which has room of its own.
+#[inline(never)]
 fn print_bytes(rt: &impl Print, film: &[u8], id: u32, total: u32) -> io::Result<()> {
     let mut room = [0u32; PLACES];
     match stretch_of(film, id, MediaTime(0), MediaTime(total), &mut room) {

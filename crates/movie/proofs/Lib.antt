@@ -4,5 +4,6 @@ pub mod Tables
 pub mod Accepted
 pub mod Strict
 pub mod Answers
+pub mod AnyAnswers
 pub mod Refused
 pub mod Numbered

@@ -16,7 +16,7 @@ use bigendian::u32_at;
 use places::moov::{Movie, Traks, trak_at};
 use places::part_of;
 use refusals::Refusal;
-use structure::earlier_of;
+use structure::earlier_refusal;
 use structure::source::Source;
 use tracks::ids_repeat;
 
@@ -58,7 +58,7 @@ fn tables_refusal(
         let trak = trak_at(traks, i);
         let body = trak.body;
         let next = track::refusal(part_of(lent, body), trak.parts, scale, len, source);
-        found = earlier_of(found, next);
+        found = earlier_refusal(found, next);
         i += 1;
     }
     found

@@ -28,6 +28,13 @@ impl fmt::Display for TooLong {
 // An argument: the bytes of the name that it gives.
 pub type Argument<'a> = Result<&'a [u8], TooLong>;
 
+// The name that an argument gives; no bytes where it is too long.
+pub fn name_bytes<'a>(argument: Argument<'a>) -> &'a [u8]
+    ensures { result.now ≡ name_of argument.entry }
+{
+    argument.unwrap_or(&[])
+}
+
 // The argument of a number, in the room lent; none past the last. The program's own name has the number 0.
 pub fn argument_at<'a>(
     rt: &impl Env,

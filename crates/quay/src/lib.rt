@@ -2,8 +2,6 @@
 #![tactic(auto)]
 
 ghost use Rattle.std.specs.Prelude.{◌≡◌, cond, eqb};
-ghost use Rattle.structure.specs.Rows.{rank};
-ghost use Rattle.structure.specs.ByTracks.{earlier_of};
 ghost use Rattle.structure.specs.Track.{subtype_of};
 ghost use Rattle.structure.specs.Movie.{moov_of, tracks_of};
 ghost use Rattle.places.specs.Places.{part_in, AreParts};
@@ -19,6 +17,7 @@ use places::part_of;
 use places::trak::Trak;
 use quay_tracks::track_rule;
 use refusals::Refusal;
+use structure::earlier_of;
 use structure::source::Source;
 use track::id_in;
 
@@ -59,26 +58,6 @@ fn has_other_tracks(lent: &[u8], traks: Traks) -> bool
 struct Broken {
     rule: u32,
     id: u32,
-}
-
-// The place of a number in the order of judging, which is the order of the rules.
-fn rank_of(n: u32) -> u64
-    ensures { result ≡ rank n }
-{
-    if n == 19 { 23 } else { n as u64 + n as u64 }
-}
-
-// The one of two rules that is judged earlier, 0 being none.
-fn earlier_of(a: u32, b: u32) -> u32
-    ensures { result ≡ earlier_of a b }
-{
-    if a == 0 {
-        return b;
-    }
-    if b == 0 {
-        return a;
-    }
-    if rank_of(a) <= rank_of(b) { a } else { b }
 }
 
 // The ID found before where the rule stays, and else the track's own.

@@ -16,6 +16,7 @@ fn byte_at(bytes: &[u8], at: usize) -> u64
 
 // The number of at most four groups at a place, where four bytes are there. The place past it is told by tests alone, so that a loop goes on without
 // waiting for the number.
+#[inline(always)]
 fn quick_at(bytes: &[u8], at: usize) -> Option<Number>
     ensures { result ≡ quick_of bytes.now at }
 {
@@ -60,6 +61,7 @@ fn quick_at(bytes: &[u8], at: usize) -> Option<Number>
 }
 
 // The number at a place, as `number_at` reads it, by the quick way where that has it.
+#[inline(always)]
 pub fn read_number(bytes: &[u8], at: usize, wide: bool) -> Result<Number, NumberFault>
     ensures { result ≡ read_at (more_of wide) (top_of wide) bytes.now at }
 {

@@ -19,10 +19,11 @@ met_in l = map (λ x. x.scale) l
 abbrev pub units_in : List Scale → List ℕ
 units_in l = map (λ x. x.total) l
 
--- a sum that is kept in 64 bits, and whether it is cut to them
+-- a sum that is kept in 64 bits, and whether it would reach 2 ^ 64; where it would, the first number stays
 pub record Sums (a b : ℕ) (r : ℕ × Bool) : Type 0 where
   pub over : r.1 ≡ leb 18446744073709551616 (a + b)
   pub sum : r.1 ≡ false → r.0 ≡ a + b
+  pub same : r.1 ≡ true → r.0 ≡ a
 
 -- the state t goes on from the state r
 pub record Keeps (r t : FilmReturn) : Type 0 where

@@ -66,11 +66,14 @@ pub struct Filed {
     pub totals: FilmReturn,
 }
 
-// A sum cut to 64 bits, and whether it was cut.
+// A sum, and whether it would reach 2^64; where it would, the first number stays.
 fn sum_of(a: u64, b: u64) -> (u64, bool)
     ensures { Sums a b result }
 {
-    a.overflowing_add(b)
+    match a.checked_add(b) {
+        Some(sum) => (sum, false),
+        None => (a, true),
+    }
 }
 
 fn over_refusal(over: bool) -> u32

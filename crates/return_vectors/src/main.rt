@@ -5,7 +5,7 @@
 mod show;
 
 use film_return::add_film;
-use program_input::{MOST_FILM, MOST_NAME, argument_at, open_named, read_full};
+use program_input::{MOST_FILM, MOST_NAME, argument_at, name_bytes, open_named, read_full};
 use return_numbers::{NUMBERS, return_in};
 use return_totals::{FilmReturn, MOST_SCALES, join_returns};
 use std::io;
@@ -134,7 +134,7 @@ fn main(rt: HostRuntime) -> io::Result<()> {
     for i in 1..usize::MAX {
         let mut room = [0u8; MOST_NAME];
         match argument_at(&rt, i, &mut room) {
-            Some(next) => file_named(&rt, next.unwrap_or(&[]))?,
+            Some(next) => file_named(&rt, name_bytes(next))?,
             None => break,
         }
     }

@@ -21,7 +21,7 @@ use places::{Part, body_part, moov_part, part_of};
 use presence::both;
 use refusals::Refusal;
 use structure::source::Source;
-use structure::{earlier_of, either};
+use structure::{earlier_refusal, either};
 use tree::check_tree;
 
 // The most bytes that are lent, and the longest file of a moov alone.
@@ -134,7 +134,7 @@ fn walk_traks(lent: &[u8], moov: Part, wide: bool) -> Walked
             let trak = trak_of(lent, body_part(lent, Part { at, len: n }));
             let place = trak.body;
             let parts = trak.parts;
-            refusal = earlier_of(refusal, track_refusal(part_of(lent, place), parts, wide));
+            refusal = earlier_refusal(refusal, track_refusal(part_of(lent, place), parts, wide));
             traks = with_trak(traks, trak);
         }
         at += n;
@@ -165,7 +165,7 @@ fn judge_movie(
         part_of(lent, profile),
         traks.count,
     );
-    earlier_of(own, walked.refusal)?;
+    earlier_refusal(own, walked.refusal)?;
     Ok(Movie { heads, traks })
 }
 

@@ -19,7 +19,7 @@ use Rattle.slip_head.specs.Bytes.{after_form, any_wide, form_for, Rules}
 use Rattle.slip_head.specs.declared.Head.{Head}
 use Rattle.slip_head.proofs.Writes.{slip_form}
 use Rattle.slip_head.proofs.Forms.{below_narrow, narrow_below, widen, rules_at, all_below, but_count}
-use Rattle.slip.specs.Slip.{Fault, none, at, fault_from, Outcome, accepted, malformed, outcome_of, slip_in, bound_of, IsSlip, SlipRead, slip_read_numbers, numbers_for, room_for, stored_for}
+use Rattle.slip.specs.Slip.{Fault, none, at, fault_from, Outcome, accepted, malformed, outcome_of, slip_in, bound_of, IsSlip, SlipRead, slip_read_numbers, numbers_for, room_for, stored_for, Reads}
 use Rattle.number_values.specs.Values.{values_from}
 use Rattle.slip_scan.specs.Steps.{SlipScan, slip_at, malformed_at, rest_in, widened, wide_in, by_form, scan_in}
 use Rattle.slip_scan.specs.declared.Scanned.{Scanned}
@@ -152,3 +152,17 @@ pub stored_plain : (room : List ℕ) (o : Outcome) → stored_for (λ (x : ℕ).
 unfolding stored_for room_for
 stored_plain room (accepted h pairs) = rw map-id
 stored_plain room (malformed place) = refl
+
+-- what the question promises of such room
+reads_plain : (any : Bool) (bs room : List ℕ) (r : SlipRead) (after : List ℕ) → Into (λ (x : ℕ). x) any bs room r after → Reads any bs room r after
+reads_plain any bs room r after i = record { numbers = i.numbers; places = i.places ∙ stored_plain room (slip_in any bs) }
+
+pub reads_malformed : (any : Bool) (bs room : List ℕ) (p : ℕ) → slip_in any bs ≡ malformed p → Reads any bs room (Err (SlipError.Malformed p)) room
+reads_malformed any bs room p e = reads_plain any bs room _ _ (into_malformed (λ (x : ℕ). x) any bs room p e)
+
+module _ (any : Bool) (bs room : List ℕ) (h : Head) (ps : List ℕ) (e : slip_in any bs ≡ accepted h ps) (n : length ps ≡ 2 * h.pairs) where
+  pub reads_no_room : length room < 2 * h.pairs → Reads any bs room (Err SlipError.NoRoom) room
+  reads_no_room s = reads_plain any bs room _ _ (into_no_room (λ (x : ℕ). x) any bs room h ps e n s)
+
+  pub reads_accepted : 2 * h.pairs ≤ length room → (after : List ℕ) → after ≡ ps ++ drop (2 * h.pairs) room → Reads any bs room (Ok h) after
+  reads_accepted s after f = reads_plain any bs room _ _ (into_accepted (λ (x : ℕ). x) any bs room h ps e n s after (rw map-id f))

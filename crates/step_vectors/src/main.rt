@@ -8,7 +8,7 @@ mod handles;
 
 use handles::by_handle;
 use program_input::{
-    Argument, MOST_FILM, MOST_NAME, argument_at, name_given, open_named, read_full,
+    Argument, MOST_FILM, MOST_NAME, argument_at, name_bytes, name_given, open_named, read_full,
 };
 use questions::samples::Sample;
 use std::io;
@@ -142,7 +142,7 @@ fn read_film(
 
 // A line with an argument.
 fn heading(rt: &impl Print, argument: Argument) -> io::Result<()> {
-    rt.write_all(argument.unwrap_or(&[]))?;
+    rt.write_all(name_bytes(argument))?;
     println!(rt)
 }
 

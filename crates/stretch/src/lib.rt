@@ -7,7 +7,7 @@ ghost use Rattle.std.specs.Prelude.{◌≡◌, ◌<◌, map};
 ghost use Rattle.refusals.specs.Refusals.{code};
 ghost use Rattle.structure.specs.Source.{whole_file, length_of};
 ghost use Rattle.questions.specs.Asked.{ask_refusal};
-ghost use Rattle.stretch.specs.Spans.{SpanAsked};
+ghost use Rattle.stretch.specs.Spans.{SpanAsked, span_of_ask};
 ghost use Rattle.stretch.specs.Stretches.{span_refusal, Stretches};
 
 use bigendian::u32_at;
@@ -27,6 +27,16 @@ pub struct Stretched {
     pub span: Span,
 }
 
+// The samples of the stretch from a to b of the track that is asked.
+pub fn span_of_ask(lent: &[u8], asked: Asked, a: MediaTime, b: MediaTime) -> Result<Span, Refusal>
+    ensures { result ≡ span_of_ask lent.now asked a.0 b.0 }
+{
+    let body = part_of(lent, asked.trak.body);
+    let p = asked.trak.parts;
+    let samples = u32_at(part_of(body, p.stsz), 16);
+    span_of(part_of(body, p.stts), samples, a, b)
+}
+
 // What the stretch from a to b of a track asks for.
 pub fn span_asked(
     lent: &[u8],
@@ -38,12 +48,11 @@ pub fn span_asked(
     ensures { SpanAsked lent.now source id a.0 b.0 result }
 {
     let asked = Asked::of(lent, source, id)?;
-    let trak = asked.trak;
-    let body = part_of(lent, trak.body);
-    let p = trak.parts;
-    let samples = u32_at(part_of(body, p.stsz), 16);
-    let span = span_of(part_of(body, p.stts), samples, a, b)?;
-    Ok(Stretched { trak, span })
+    let span = span_of_ask(lent, asked, a, b)?;
+    Ok(Stretched {
+        trak: asked.trak,
+        span,
+    })
 }
 
 // The refusal before the room is looked at: the film's, 14, or 15.

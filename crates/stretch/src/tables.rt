@@ -1,4 +1,4 @@
-// A stretch by the bytes of its track's tables, whatever these are: the question in numbers of 64 bits and the handle both go by it.
+// A stretch by the bytes of its track's tables, whatever these are: the question by a handle goes by it.
 ghost use Rattle.std.specs.Prelude.{◌≡◌, true};
 ghost use Rattle.pairs.specs.Walks.{pairs_between};
 ghost use Rattle.pair_checks.specs.Fits.{pairs_fit};

@@ -49,7 +49,7 @@ fn may_count(ctts: &[u8], samples: u32) -> bool
     counts(ctts, samples)
 }
 
-// Whether the sample tables contradict each other, where it is known whether stts counts the samples.
+// Whether the sample tables contradict each other, where stts counts the samples.
 fn is_contradictory(trak: &[u8], p: Parts) -> bool
     requires { (AreParts trak.now p) × (counting (samples_of trak.now) (runs_of (table_of stts trak.now)) ≡ true) }
     ensures { result ≡ contradicts trak.now }

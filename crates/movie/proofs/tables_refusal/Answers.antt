@@ -31,8 +31,8 @@ part_of-requires c = tt
 pub refusal-next-requires : goal.refusal-next-requires
 refusal-next-requires c = (body_parts _ _ _ c.requires.0 c.loop-i.i c.loop-i-test.true _ c.trak_at-trak.ensures _ c.part_of.ensures, body_fits _ _ _ c.requires.0 c.loop-i.i c.loop-i-test.true _ c.trak_at-trak.ensures _ c.part_of.ensures c.requires.2)
 
-pub earlier_of-found-requires : goal.earlier_of-found-requires
-earlier_of-found-requires c = tt
+pub earlier_refusal-found-requires : goal.earlier_refusal-found-requires
+earlier_refusal-found-requires c = tt
 
 pub overflow_add-i : goal.overflow_add-i
 overflow_add-i c = record { fits = omega (arith, in_room _ _ _ c.requires.0 c.loop-i.i c.loop-i-test.true) }
@@ -46,7 +46,7 @@ loop-i-preserved c =
     let rs = table_rows a.source a.scale a.len in
     let b = body_is _ _ _ c.requires.0 c.loop-i.i c.loop-i-test.true _ c.trak_at-trak.ensures _ c.part_of.ensures in (
       omega (arith, c.loop-i-test.true),
-      found_more _ c.loop-i.i (in_tracks _ _ _ c.requires.0 c.loop-i.i c.loop-i-test.true) rs (code c.loop-i.found) _ _ (c.refusal-next.ensures ∙ track-rows _ _ _ _ ∙ ap (of_track rs) b) c.earlier_of-found.ensures ∙ c.loop-i.invariant.1,
+      found_more _ c.loop-i.i (in_tracks _ _ _ c.requires.0 c.loop-i.i c.loop-i-test.true) rs (code c.loop-i.found) _ _ (c.refusal-next.ensures ∙ track-rows _ _ _ _ ∙ ap (of_track rs) b) c.earlier_refusal-found.ensures ∙ c.loop-i.invariant.1,
     )
 
 pub returns : goal.returns

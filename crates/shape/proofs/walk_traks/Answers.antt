@@ -42,8 +42,8 @@ part_of-requires c = tt
 pub track_refusal-requires : goal.track_refusal-requires
 track_refusal-requires c = rw (c.part_of.ensures ∙ c.trak_of-trak.ensures.body) c.trak_of-trak.ensures.parts
 
-pub earlier_of-refusal-requires : goal.earlier_of-refusal-requires
-earlier_of-refusal-requires c = tt
+pub earlier_refusal-refusal-requires : goal.earlier_refusal-refusal-requires
+earlier_refusal-refusal-requires c = tt
 
 pub with_trak-traks-requires : goal.with_trak-traks-requires
 with_trak-traks-requires c = tt
@@ -74,7 +74,7 @@ loop-t-preserved c =
         | then-u32_at-eq-TRAK w ↦
             let k = w.part_of.ensures ∙ w.trak_of-trak.ensures.body in
             walk_here _ _ _ t n e (code l.refusal) l.traks l.invariant.1 h _ _ _ _ _ (sym u ∙ w.if-u32_at-eq-TRAK.true) (k ∙ w.body_part.ensures ∙ ap body_of f) (rw k w.trak_of-trak.ensures) w.track_refusal.ensures
-            (ap code w.refusal-is ∙ w.earlier_of-refusal.ensures) (w.traks-is ∙ w.with_trak-traks.ensures)
+            (ap code w.refusal-is ∙ w.earlier_refusal-refusal.ensures) (w.traks-is ∙ w.with_trak-traks.ensures)
         | else-u32_at-eq-TRAK w ↦ walk_next _ _ _ t n e (code l.refusal) l.traks l.invariant.1 h _ _ (λ q. w.if-u32_at-eq-TRAK.false (u ∙ q)) (ap code w.refusal-is) w.traks-is
       ],
     )

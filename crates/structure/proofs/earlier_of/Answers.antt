@@ -1,18 +1,27 @@
--- `structure::earlier_of` meets its contract, case by case.
+-- `structure::earlier_of` meets its contract: the tests that led to a return say which case holds.
 -- Assumes nothing.
-use mathlib.Core.Path.{sym, ap, ◌∙◌}
-use Rattle.refusals.specs.Refusals.{number, code}
+use borrow.Author.Tests.{eq-eqb, ne_eqb, le-leb, lt-leb}
 use Rattle.structure.specs.ByTracks.{earlier_of}
-use Rattle.structure.proofs.Earlier.{lesser_number}
-use Rattle.structure.proofs.Rows.{earlier_none}
 use Rattle.structure.proofs.earlier_of.Goals as goal
 
-pub returns-in-Err-Err : goal.returns-in-Err-Err
-returns-in-Err-Err c = let w = c.in-Err-Err in rw (w.is-0, w.is-1) (ap number c.min.ensures ∙ lesser_number w.x w.y)
-
-pub returns-in-Ok-default : goal.returns-in-Ok-default
+pub returns-then-a-eq0 : goal.returns-then-a-eq0
 unfolding earlier_of
-returns-in-Ok-default c = rw c.in-Ok-default.is-0
+returns-then-a-eq0 c = simp (eq-eqb _ _ c.if-a-eq0.true)
 
-pub returns-in_default-Ok : goal.returns-in_default-Ok
-returns-in_default-Ok c = sym (ap (λ x. earlier_of (code c.args.a) x) (ap code c.in_default-Ok.is-1) ∙ earlier_none (code c.args.a))
+pub returns-then-b-eq0 : goal.returns-then-b-eq0
+unfolding earlier_of
+returns-then-b-eq0 c = simp (ne_eqb _ _ c.if-a-eq0.false, eq-eqb _ _ c.if-b-eq0.true)
+
+pub rank_of-requires : goal.rank_of-requires
+rank_of-requires c = tt
+
+pub rank_of-requires-2 : goal.rank_of-requires-2
+rank_of-requires-2 c = tt
+
+pub returns-then-rank_of : goal.returns-then-rank_of
+unfolding earlier_of
+returns-then-rank_of c = simp (ne_eqb _ _ c.if-a-eq0.false, ne_eqb _ _ c.if-b-eq0.false, ← c.rank_of.ensures, ← c.rank_of-2.ensures, le-leb _ _ c.if-rank_of.true)
+
+pub returns-else-rank_of : goal.returns-else-rank_of
+unfolding earlier_of
+returns-else-rank_of c = simp (ne_eqb _ _ c.if-a-eq0.false, ne_eqb _ _ c.if-b-eq0.false, ← c.rank_of.ensures, ← c.rank_of-2.ensures, lt-leb _ _ c.if-rank_of.false)

@@ -1,8 +1,8 @@
--- `quay::rank_of` meets its contract: the test says which case holds.
+-- `structure::rank_of` meets its contract: the test says which case holds.
 -- Assumes nothing.
 use borrow.Author.Tests.{eq-eqb, ne_eqb}
 use Rattle.structure.specs.Rows.{rank}
-use Rattle.quay.proofs.rank_of.Goals as goal
+use Rattle.structure.proofs.rank_of.Goals as goal
 
 pub returns-then-n-eq19 : goal.returns-then-n-eq19
 unfolding rank
